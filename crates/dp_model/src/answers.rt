@@ -1,0 +1,81 @@
+use crate::seq::Seq;
+
+/// Why an expression has no value: a result out of range, a divisor of 0, a number below 0 where a member of an
+/// object type is wanted, or one that is not below the type's count.
+#[derive(Clone, Copy, Debug, PartialEq, Eq)]
+pub enum FaultKind {
+    Range,
+    ZeroDivisor,
+    Negative,
+    Index,
+}
+
+/// Where in a model a fault was met. The first number of `Precondition`, `Weight`, `Cost` and `Effect` is a
+/// ground transition; places count from 0.
+#[derive(Clone, Copy, Debug, PartialEq, Eq)]
+pub enum Spot {
+    Constraint(u32),
+    BaseCondition(u32, u32),
+    BaseCost(u32),
+    Total,
+    Bound(u32),
+    Precondition(u32, u32),
+    Weight(u32),
+    Cost(u32),
+    Effect(u32, u32),
+}
+
+/// A fault, and the ground transitions that lead from the target to the state where it was met.
+#[derive(Debug, Drop)]
+pub struct FaultAt {
+    pub steps: Seq<u32>,
+    pub spot: Spot,
+    pub kind: FaultKind,
+}
+
+/// A solution that was found: its cost, and its list of ground transitions.
+#[derive(Debug, Drop)]
+pub struct Found {
+    pub cost: i64,
+    pub steps: Seq<u32>,
+}
+
+/// Why a list of steps is not legal.
+#[derive(Clone, Copy, Debug, PartialEq, Eq)]
+pub enum Reason {
+    NotAllowed,
+    AfterBase,
+    NotBase,
+    Forced,
+    NotEnabled,
+}
+
+/// How a search or a replay ended.
+#[derive(Debug, Drop)]
+pub enum Verdict {
+    Optimal(i64),
+    Infeasible,
+    /// The visits of the whole run, which reached the budget.
+    Stopped(u64),
+    Fault(FaultAt),
+    Legal(i64),
+    /// How many steps were done before, and why the next is not legal.
+    Illegal(u32, Reason),
+}
+
+/// Why a pass was halted.
+#[derive(Debug, Drop)]
+pub enum Cause {
+    Budget,
+    Fault(FaultAt),
+    Memory,
+}
+
+/// How a model is to be solved: by how many workers, with at most how many visits, and whether dual bounds and
+/// dominance are used.
+#[derive(Clone, Copy, Debug, PartialEq, Eq)]
+pub struct Options {
+    pub workers: u32,
+    pub budget: u64,
+    pub prune: bool,
+}
