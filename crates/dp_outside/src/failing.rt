@@ -1,0 +1,3 @@
+/// A read or a write that failed. The count of faults of the shelf or sink rose then.
+#[derive(Clone, Copy, Debug, PartialEq, Eq)]
+pub struct Failed;
