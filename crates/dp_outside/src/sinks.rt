@@ -1,4 +1,4 @@
-ghost use Rattle.std.specs.Prelude.{◌≡◌, ℕ, ◌≤◌, ◌<◌, [], List, Option, length, take, IfOk, OnErr};
+ghost use Rattle.std.specs.Prelude.{ℕ, ◌≤◌, ◌<◌, [], List, Option, length, take, IfOk, OnErr};
 ghost use Rattle.dp_outside.specs.Outside.{Rose, Takes};
 
 use crate::failing::Failed;
