@@ -9,6 +9,7 @@ pub trait Gate: Sync {
 pub struct OpenGate;
 
 impl OpenGate {
+    /// A gate that is always open. It takes no memory.
     pub fn new() -> OpenGate {
         OpenGate
     }

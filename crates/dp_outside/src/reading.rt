@@ -4,7 +4,7 @@ ghost use Rattle.dp_outside.specs.declared.reading.ReadEnd.TheVariants.{Fault, M
 
 use crate::failing::Failed;
 use crate::shelves::Shelf;
-use std::alloc::{AllocError, AllocFailed, Global};
+use std::alloc::{AllocError, Global};
 use thiserror::Error;
 
 /// How many bytes one read of `read_all` has room for.
@@ -19,6 +19,7 @@ pub enum ReadEnd {
     /// More bytes came than the limit allows.
     #[error("the file is longer than the limit")]
     TooLong,
+    /// Memory for the bytes, or for the room of a read, was refused.
     #[error("out of memory")]
     Memory,
 }
@@ -47,13 +48,15 @@ pub fn read_all<F: Shelf>(
     name: &str,
     limit: u64,
 ) -> Result<Vec<u8>, ReadEnd>
-    ensures bytes { IfOk result (λ v. IfSome (F.bytes_under shelf.old name.now) (λ bytes. v.items ≡ bytes)) }
+    ensures bytes { IfOk result
+        (λ v. IfSome (F.bytes_under shelf.old name.now) (λ bytes. v.items ≡ bytes)) }
     ensures short { IfOk result (λ v. vec_len v ≤ limit) }
     ensures fault { IsErrOf result ReadEnd.Fault → Rose (F.faults shelf.old) (F.faults shelf.new) }
     ensures too_long { IsErrOf result ReadEnd.TooLong
         → IfSome (F.bytes_under shelf.old name.now) (λ bytes. limit < length bytes) }
     ensures count { F.faults shelf.old ≤ F.faults shelf.new }
-    ensures telling { (file : List ℕ) → F.bytes_under shelf.new file ≡ F.bytes_under shelf.old file }
+    ensures telling { (file : List ℕ)
+        → F.bytes_under shelf.new file ≡ F.bytes_under shelf.old file }
 {
     let mut room = vec![in alloc; 0u8; PIECE]?;
     let read = Vec::new(alloc);
@@ -69,13 +72,15 @@ fn read_pieces<F: Shelf>(
 ) -> Result<Vec<u8>, ReadEnd>
     requires room { 0 < length room.old }
     requires empty { read.items ≡ [] }
-    ensures bytes { IfOk result (λ v. IfSome (F.bytes_under shelf.old name.now) (λ bytes. v.items ≡ bytes)) }
+    ensures bytes { IfOk result
+        (λ v. IfSome (F.bytes_under shelf.old name.now) (λ bytes. v.items ≡ bytes)) }
     ensures short { IfOk result (λ v. vec_len v ≤ limit) }
     ensures fault { IsErrOf result ReadEnd.Fault → Rose (F.faults shelf.old) (F.faults shelf.new) }
     ensures too_long { IsErrOf result ReadEnd.TooLong
         → IfSome (F.bytes_under shelf.old name.now) (λ bytes. limit < length bytes) }
     ensures count { F.faults shelf.old ≤ F.faults shelf.new }
-    ensures telling { (file : List ℕ) → F.bytes_under shelf.new file ≡ F.bytes_under shelf.old file }
+    ensures telling { (file : List ℕ)
+        → F.bytes_under shelf.new file ≡ F.bytes_under shelf.old file }
 {
     loop {
         let have = read.len() as u64;

@@ -16,7 +16,8 @@ pub trait Shelf {
     fn read(&mut self, name: &str, place: u64, room: &mut [u8]) -> Result<usize, Failed>
         requires { 0 < length room.old }
         ensures within { IfOk result (λ count. count ≤ length room.old) }
-        ensures bytes { IfOk result (λ count. IfSome (bytes_under self.old name.now) (λ bytes. ReadsAt bytes place count room.new)) }
+        ensures bytes { IfOk result (λ count.
+            IfSome (bytes_under self.old name.now) (λ bytes. ReadsAt bytes place count room.new)) }
         ensures failed { OnErr result (Rose (faults self.old) (faults self.new)) }
         ensures count { faults self.old ≤ faults self.new }
         ensures telling { (file : List ℕ) → bytes_under self.new file ≡ bytes_under self.old file };

@@ -1,4 +1,4 @@
-ghost use Rattle.std.specs.Prelude.{◌≡◌, ℕ, ◌≤◌, ◌<◌, [], List, Option, length, take, IfOk, OnErr};
+ghost use Rattle.std.specs.Prelude.{ℕ, ◌≤◌, ◌<◌, [], List, Option, length, take, IfOk, OnErr};
 ghost use Rattle.dp_outside.specs.Outside.{Rose, Takes};
 
 use crate::failing::Failed;
@@ -15,7 +15,8 @@ pub trait Sink {
     fn write(&mut self, piece: &[u8]) -> Result<usize, Failed>
         requires { 0 < length piece.now }
         ensures some { IfOk result (λ count. (0 < count) × (count ≤ length piece.now)) }
-        ensures ok { IfOk result (λ count. Takes (taken self.old) (taken self.new) (take count piece.now)) }
+        ensures ok { IfOk result
+            (λ count. Takes (taken self.old) (taken self.new) (take count piece.now)) }
         ensures err { OnErr result (Takes (taken self.old) (taken self.new) []) }
         ensures failed { OnErr result (Rose (faults self.old) (faults self.new)) }
         ensures count { faults self.old ≤ faults self.new };

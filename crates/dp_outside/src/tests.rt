@@ -147,6 +147,37 @@ fn puts_pieces_whole(rt: HostRuntime) -> Result<(), Fail> {
 }
 
 #[test]
+fn fails_where_told(rt: HostRuntime) -> Result<(), Fail> {
+    for (name, call, want_ok) in [
+        ("file", 0, true),
+        ("file", 1, false),
+        ("file", 2, false),
+        ("file", 3, true),
+        ("missing", 0, false),
+    ] {
+        let mut shelf = MemShelf::new(rt.alloc());
+        shelf.put("file", b"abc")?;
+        shelf.fail_at(call)?;
+        match read_all(rt.alloc(), &mut shelf, name, 9) {
+            Ok(read) => assert_eq!(rt;
+                (read.as_slice(), true),
+                (b"abc".as_slice(), want_ok),
+                "{name} {call}"
+            ),
+            Err(ReadEnd::Fault) => assert!(rt; !want_ok, "{name} {call}"),
+            Err(end) => return Err(end.into()),
+        }
+    }
+    let mut sink = MemSink::new(rt.alloc());
+    sink.fail_at(2)?;
+    for (piece, want) in [(b"ab", Ok(())), (b"cd", Err(Failed)), (b"ef", Ok(()))] {
+        assert_eq!(rt; put_all(&mut sink, piece), want, "{piece:?}");
+    }
+    assert_eq!(rt; sink.bytes(), Some(b"abef".as_slice()));
+    Ok(())
+}
+
+#[test]
 fn reaches_the_system(rt: HostRuntime) -> Result<(), Fail> {
     let folder = env::temp_dir(&rt)?;
     let moment = rt.since_1970()?.as_nanos();
