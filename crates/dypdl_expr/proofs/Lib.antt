@@ -1,0 +1,4 @@
+pub mod TokenSteps
+pub mod ReadSteps
+pub mod Unique
+pub mod Whole
