@@ -10,3 +10,6 @@ mod tokens;
 pub use expr::{Expr, ExprEnd};
 pub use laws::one_reading;
 pub use reading::read_expr;
+
+#[cfg(test)]
+mod tests;
