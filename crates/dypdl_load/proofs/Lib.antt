@@ -1,0 +1,10 @@
+pub mod Ascii
+pub mod Differ
+pub mod Digits
+pub mod Texts
+pub mod Front
+pub mod Loops
+pub mod Readers
+pub mod Words
+pub mod Settings
+pub mod ConditionLaws
