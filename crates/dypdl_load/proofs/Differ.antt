@@ -11,11 +11,11 @@ differ_more same xs x others r split alone so_far =
     let e : differ same xs ≡ differ same others = ap (differ same) split ∙ ap (λ (b : Bool). not b && differ same others) alone in
     sym e ∙ so_far
 
-differ_from : (ws : List (List ℕ)) → AreDistinct ws → differ bytes_eq ws ≡ true
+pub differ_from : (ws : List (List ℕ)) → AreDistinct ws → differ bytes_eq ws ≡ true
 differ_from [] d = refl
 differ_from (w ∷ ws) d = and_from (not (is_among ws w)) (differ bytes_eq ws) d.0 (differ_from ws d.1)
 
-differ_to : (ws : List (List ℕ)) → differ bytes_eq ws ≡ true → AreDistinct ws
+pub differ_to : (ws : List (List ℕ)) → differ bytes_eq ws ≡ true → AreDistinct ws
 differ_to [] e = tt
 differ_to (w ∷ ws) e = let p = and_parts (not (is_among ws w)) (differ bytes_eq ws) e in (p.0, differ_to ws p.1)
 

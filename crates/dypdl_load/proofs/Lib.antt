@@ -8,3 +8,6 @@ pub mod Readers
 pub mod Words
 pub mod Settings
 pub mod ConditionLaws
+pub mod TransitionLaws
+pub mod DomainLaws
+pub mod ProblemLaws
