@@ -11,3 +11,4 @@ pub mod ConditionLaws
 pub mod TransitionLaws
 pub mod DomainLaws
 pub mod ProblemLaws
+pub mod Meanings

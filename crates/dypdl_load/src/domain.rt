@@ -1,6 +1,7 @@
 //! The text of a domain.
 
-ghost use Rattle.std.specs.Prelude.{◌≡◌, ◌<◌, ◌^◌, IfOk, length, codes};
+ghost use Rattle.std.specs.Prelude.{◌≡◌, ◌<◌, ◌≤◌, ◌^◌, All, IfOk, length, codes};
+ghost use Rattle.std.specs.Str.{IsAscii};
 ghost use Rattle.dypdl_load.specs.Reading.{Gives, names, many_all};
 ghost use Rattle.dypdl_load.specs.ReadFirst.{variable_line_at, variables_at, base_at, heads_at, bodies_at, domain_of};
 ghost use Rattle.dypdl_load.specs.Parts.{domain_parts};
@@ -106,9 +107,8 @@ fn bodies<'a>(alloc: Global, variables: &[&[u8]], bytes: &'a [u8]) -> Result<Bod
     Ok((transitions, conditions, rest))
 }
 
-/// What stands in the text of a domain.
 #[tactic(auto, unfolding(crate::specs::ReadFirst::domain_of))]
-pub fn read_domain(alloc: Global, bytes: &[u8]) -> Result<DomainParts<'_>, Stop>
+fn all_parts(alloc: Global, bytes: &[u8]) -> Result<DomainParts<'_>, Stop>
     ensures { Gives domain_parts result (domain_of bytes.now) }
 {
     let (name, variables, rest) = heads(alloc, bytes)?;
@@ -122,4 +122,13 @@ pub fn read_domain(alloc: Global, bytes: &[u8]) -> Result<DomainParts<'_>, Stop>
         transitions,
         conditions,
     })
+}
+
+/// What stands in the text of a domain.
+pub fn read_domain(alloc: Global, bytes: &[u8]) -> Result<DomainParts<'_>, Stop>
+    ensures read { Gives domain_parts result (domain_of bytes.now) }
+    ensures words { IfOk result (λ d. All (λ w. IsAscii w.now) d.variables.items) }
+    ensures few { IfOk result (λ d. length d.transitions.items ≤ 65536) }
+{
+    all_parts(alloc, bytes)
 }

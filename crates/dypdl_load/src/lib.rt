@@ -2,6 +2,7 @@
 //! lines are fixed, byte for byte.
 #![tactic(auto)]
 
+mod assembly;
 mod conditions;
 mod domain;
 mod first_form;
