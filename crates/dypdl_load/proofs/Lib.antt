@@ -12,3 +12,4 @@ pub mod TransitionLaws
 pub mod DomainLaws
 pub mod ProblemLaws
 pub mod Meanings
+pub mod Seen

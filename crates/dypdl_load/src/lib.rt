@@ -12,3 +12,6 @@ mod stop;
 mod transitions;
 
 pub use first_form::{FirstEnd, load_first};
+
+#[cfg(test)]
+mod tests;

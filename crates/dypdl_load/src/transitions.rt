@@ -1,7 +1,6 @@
 //! The transitions of a domain.
 
-ghost use Rattle.std.specs.Prelude.{◌≡◌, ◌<◌, ◌^◌, length, codes};
-ghost use Rattle.std.specs.List.{list_any};
+ghost use Rattle.std.specs.Prelude.{◌≡◌, ◌<◌, ◌^◌, IfOk, length, codes};
 ghost use Rattle.dypdl_load.specs.Reading.{Gives, names, many, differ};
 ghost use Rattle.dypdl_load.specs.ReadFirst.{cost_at, rules_at, transition_at, transitions_at, named_alike};
 
@@ -9,7 +8,8 @@ use crate::conditions::{effects, preconditions};
 use crate::scan::{literal, number, text_of, word_line};
 use crate::stop::Stop;
 use dp_model::{Cond, Effect, Num, Seq, Transition};
-use std::alloc::Global;
+use std::alloc::{AllocError, Global};
+use std::collections::BTreeSet;
 
 /// The number that a transition adds to the cost.
 #[tactic(auto, unfolding(crate::specs::ReadFirst::cost_at))]
@@ -83,27 +83,17 @@ fn all_transitions<'a>(
     Ok((transitions, rest))
 }
 
-/// Whether one of the transitions has the name of the first.
-fn has_name_of(first: &Transition, others: &[Transition]) -> bool
-    ensures { result ≡ list_any (named_alike first.now) others.now }
-{
-    others
-        .iter()
-        .any(|t| first.name.as_text() == t.name.as_text())
-}
-
 /// Whether no two transitions have one name.
-fn named_once(transitions: &[Transition]) -> bool
-    ensures { result ≡ differ named_alike transitions.now }
+fn named_once(alloc: Global, transitions: &[Transition]) -> Result<bool, AllocError>
+    ensures { IfOk result (λ once. once ≡ differ named_alike transitions.now) }
 {
-    let mut rest = transitions;
-    while let Some((first, others)) = rest.split_first() {
-        if has_name_of(first, others) {
-            return false;
+    let mut seen = BTreeSet::new(alloc);
+    for transition in transitions {
+        if !seen.insert(transition.name.as_text())? {
+            return Ok(false);
         }
-        rest = others;
     }
-    true
+    Ok(true)
 }
 
 /// One or more transitions, of different names.
@@ -117,7 +107,8 @@ pub fn transitions<'a>(
     ensures { Gives (λ x. (x.0.items, x.1.now)) result (transitions_at (names variables.now) bytes.now) }
 {
     let (transitions, rest) = all_transitions(alloc, variables, bytes)?;
-    if transitions.is_empty() || !named_once(&transitions) {
+    let once = named_once(alloc, &transitions)?;
+    if transitions.is_empty() || !once {
         return Err(Stop::NotOfForm);
     }
     Ok((transitions, rest))
