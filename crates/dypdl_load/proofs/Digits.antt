@@ -1,11 +1,10 @@
 -- Six digits stand for a number below a million.
-use Rattle.std.proofs.Common.{◌≡◌, ℕ, zero, suc, ◌+◌, ◌*◌, ◌-◌, ◌^◌, ◌<◌, ◌≤◌, Bool, true, false, leb, List, [], ◌∷◌, length, get_or, take, refl, sym, ap, ◌∙◌, add-one, arith}
+use Rattle.std.proofs.Common.{◌≡◌, ℕ, ◌+◌, ◌*◌, ◌-◌, ◌^◌, ◌<◌, ◌≤◌, true, leb, List, [], ◌∷◌, length, get_or, take, sym, ap, ◌∙◌, add-one, arith}
 use Rattle.std.specs.List.{fold, list_all}
 use Rattle.std.proofs.lemmas.Bool.{and_parts, leb-true, both_ways, true_from_ne_false}
-use Rattle.std.proofs.lemmas.List.{length-take-le}
 use Rattle.std.proofs.lemmas.List.Folds.{list_all_at}
 use Rattle.std.proofs.lemmas.List.Sums.{fold_more}
-use Rattle.std.proofs.Math.Nat.{pow-le-pow_right, mul-le-mul_left, mul-le-mul_right}
+use Rattle.std.proofs.Math.Nat.{pow-le-pow_right, mul-le-mul_right}
 use Rattle.dypdl_load.specs.FirstForm.{is_digit}
 use Rattle.dypdl_load.specs.Meaning.{digits_value}
 
@@ -51,7 +50,7 @@ so_far_end digits i value s le =
     omega (arith, s.small, p)
 
 pub so_far_more : (digits : List ℕ) (i value : ℕ) → list_all is_digit digits ≡ true → i < length digits → SoFar digits i value → SoFar digits (i + 1) (value * 10 + (get_or digits i 0 - 48))
-so_far_more digits i value h lt s = 
+so_far_more digits i value h lt s =
     let d = digit_in digits i h lt in
     let e : 10 ^ (i + 1) ≡ 10 * 10 ^ i = rw add-one (grind arith) in
     record {

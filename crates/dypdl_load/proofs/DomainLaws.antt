@@ -1,15 +1,15 @@
 -- The text of a domain is read as it is spelled.
-use Rattle.std.proofs.Common.{◌≡◌, ℕ, ◌+◌, ◌<◌, ◌≤◌, Bool, true, false, eqb, List, [], ◌∷◌, ◌++◌, length, map, Option, Some, None, refl, sym, ap, ◌∙◌, append_assoc, arith}
+use Rattle.std.proofs.Common.{◌≡◌, ℕ, ◌<◌, ◌≤◌, true, false, eqb, List, [], ◌∷◌, ◌++◌, length, map, Option, Some, None, refl, sym, ap, ◌∙◌, append_assoc, arith}
 use Rattle.std.specs.Prelude.{codes}
 use Rattle.std.specs.List.{flat_map, AllByRecursion}
 use Rattle.std.specs.Str.{bytes_eq}
 use Rattle.std.proofs.lemmas.Bool.{eq-eqb, eqb-true}
 use Rattle.dp_model.specs.declared.trees.Cond.{Cond}
 use Rattle.dp_model.specs.declared.parts.Transition.{Transition}
-use Rattle.dypdl_load.specs.FirstForm.{Number, Condition, Move, DomainForm, line, condition_text, variable_text, move_text, base_text, domain_text, IsWord, IsCondition, IsMove, IsDomain, AreDistinct}
+use Rattle.dypdl_load.specs.FirstForm.{Condition, Move, DomainForm, line, condition_text, variable_text, move_text, base_text, domain_text, IsWord, IsCondition, IsMove, IsDomain, AreDistinct}
 use Rattle.dypdl_load.specs.Meaning.{condition_of, transition_of}
-use Rattle.dypdl_load.specs.Reading.{◌>>=◌, Reader, behind, before, line_at, and_then, with_value, mapped, such_that, many, many_all, differ, with_front, whole, begins, word_at}
-use Rattle.dypdl_load.specs.ReadFirst.{condition_line_at, transitions_at, variable_line_at, variables_at, base_at, heads_at, bodies_at, domain_of}
+use Rattle.dypdl_load.specs.Reading.{◌>>=◌, with_value, many, differ, with_front, begins}
+use Rattle.dypdl_load.specs.ReadFirst.{condition_line_at, variable_line_at, variables_at, base_at, heads_at, bodies_at, domain_of}
 use Rattle.dypdl_load.proofs.Differ.{differ_from, differ_to}
 use Rattle.dypdl_load.proofs.Readers.{IsReader, Any, behind_reader, before_reader, and_then_reader, with_value_reader, mapped_reader, such_that_reader, recast, many_reader, many_all_reader, whole_takes, whole_again}
 use Rattle.dypdl_load.proofs.Words.{word_reader}
@@ -34,7 +34,7 @@ unfolding variables_at
 variables_reader =
     let all = recast (many_all_reader variable_line_reader (codes "  - name: ") (λ w rest f. refl) (λ w. omega arith)) (flat_map variable_text) (λ vs. vs) (AllByRecursion IsWord) (λ vs. vs) (λ vs. vs) (λ vs. refl) (λ vs f. refl) (λ vs f. map_same vs) (λ vs f. f) (λ vs f. f) in
     such_that_reader (such_that_reader all (differ bytes_eq) AreDistinct (λ vs f d. differ_from vs d) (λ vs f e. differ_to vs e)) (λ vs. eqb (length vs) 1) (λ vs. length vs ≡ 1)
-      (λ vs f e. eq-eqb (length vs) 1 e) (λ vs f e. eqb-true (length vs) 1 e)
+    (λ vs f e. eq-eqb (length vs) 1 e) (λ vs f e. eqb-true (length vs) 1 e)
 
 -- ---- the base case
 
@@ -95,7 +95,7 @@ base_reader vs words =
     let others = many_reader (condition_line_reader vs words (codes "    - ")) (codes "    - ") (λ c rest f. refl) 255 in
     let both = mapped_reader (and_then_reader (condition_line_reader vs words (codes "  - - ")) others (λ q rest f e. tt)) (λ x. x.0 ∷ x.1) in
     same_reader (base_at vs) (λ bytes. in_front (condition_line_at vs (codes "  - - ") bytes) (many (codes "    - ") (condition_line_at vs (codes "    - ")) 255))
-      (recast both base_text (map (condition_of vs)) (BaseFits vs) base_parts (λ x. x.0 ∷ x.1) (λ x. refl) (base_spelled vs) (base_valued vs) (base_to vs) (base_from vs))
+    (recast both base_text (map (condition_of vs)) (BaseFits vs) base_parts (λ x. x.0 ∷ x.1) (λ x. refl) (base_spelled vs) (base_valued vs) (base_to vs) (base_from vs))
 
 -- ---- the whole
 
@@ -126,16 +126,26 @@ parts_of d = ((d.name, d.variables), (map (transition_of d.variables) d.moves, m
 parts_reader : IsReader (with_value heads_at (λ x. bodies_at x.1)) domain_text parts_of IsDomain (λ rest. begins (codes "    - ") rest ≡ false)
 parts_reader =
     recast (with_value_reader heads_reader (λ x. bodies_at x.1) (λ p f. bodies_reader p.1 f.1.0.0) (λ p q rest f g e. refl))
-      domain_text parts_of IsDomain (λ d. ((d.name, d.variables), (d.moves, d.conditions))) (λ x. record { name = x.0.0; variables = x.0.1; moves = x.1.0; conditions = x.1.1 }) (λ x. refl)
-      (λ d f. regroup_domain (line (codes "domain: " ++ d.name)) (line (codes "state_variables:")) (flat_map variable_text d.variables) (line (codes "transitions:")) (flat_map move_text d.moves) (line (codes "base_cases:")) (base_text d.conditions))
-      (λ d f. refl)
-      (λ d f. record {
-        name = f.0.0; one_variable = f.0.1.1; variables = f.0.1.0.0; different_variables = f.0.1.0.1;
-        some_moves = f.1.0.0.1; few_moves = f.1.0.0.0.0; moves = f.1.0.0.0.1; different_moves = f.1.0.1;
-        some_conditions = f.1.1.1.0; few_conditions = f.1.1.1.1; conditions = f.1.1.0;
-      })
-      (λ d f. ((f.name, ((f.variables, f.different_variables), f.one_variable)),
-        ((((f.few_moves, f.moves), f.some_moves), f.different_moves), (f.conditions, (f.some_conditions, f.few_conditions)))))
+    domain_text parts_of IsDomain (λ d. ((d.name, d.variables), (d.moves, d.conditions))) (λ x. record { name = x.0.0; variables = x.0.1; moves = x.1.0; conditions = x.1.1 }) (λ x. refl)
+    (λ d f. regroup_domain (line (codes "domain: " ++ d.name)) (line (codes "state_variables:")) (flat_map variable_text d.variables) (line (codes "transitions:")) (flat_map move_text d.moves) (line (codes "base_cases:")) (base_text d.conditions))
+    (λ d f. refl)
+    (λ d f. record {
+      name = f.0.0;
+      one_variable = f.0.1.1;
+      variables = f.0.1.0.0;
+      different_variables = f.0.1.0.1;
+      some_moves = f.1.0.0.1;
+      few_moves = f.1.0.0.0.0;
+      moves = f.1.0.0.0.1;
+      different_moves = f.1.0.1;
+      some_conditions = f.1.1.1.0;
+      few_conditions = f.1.1.1.1;
+      conditions = f.1.1.0;
+    })
+    (λ d f. (
+      (f.name, ((f.variables, f.different_variables), f.one_variable)),
+      ((((f.few_moves, f.moves), f.some_moves), f.different_moves), (f.conditions, (f.some_conditions, f.few_conditions))),
+    ))
 
 pub domain_takes : (bytes : List ℕ) (x : (List ℕ × List (List ℕ)) × (List Transition × List Cond)) → domain_of bytes ≡ Some x → (d : DomainForm) × IsDomain d × (x ≡ parts_of d) × (bytes ≡ domain_text d)
 unfolding domain_of

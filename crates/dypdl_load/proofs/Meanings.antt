@@ -1,5 +1,5 @@
 -- What reading the two texts gives is the model that they mean.
-use Rattle.std.proofs.Common.{◌≡◌, ℕ, ◌≤◌, List, [], ◌∷◌, length, map, All, Bor, Option, Some, None, Result, Ok, Err, refl, sym, ap, subst, ◌∙◌, arith, inl, inr, ◌⊎◌}
+use Rattle.std.proofs.Common.{◌≡◌, ℕ, ◌≤◌, List, [], ◌∷◌, length, map, All, Bor, Some, None, Result, Ok, Err, refl, sym, ap, subst, ◌∙◌, arith, inl, inr, ◌⊎◌}
 use Rattle.std.specs.Prelude.{IfOk}
 use Rattle.std.specs.List.{AllByRecursion, range_with_len}
 use Rattle.std.specs.Str.{IsAscii}
@@ -7,18 +7,17 @@ use Rattle.std.proofs.lemmas.List.{length-map}
 use Rattle.std.proofs.lemmas.List.Elements.{All-from_recursion}
 use Rattle.dp_model.specs.declared.trees.Cond.{Cond}
 use Rattle.dp_model.specs.declared.parts.Transition.{Transition}
-use Rattle.dp_model.specs.declared.parts.PlainValue.{PlainValue}
 use Rattle.dp_model.specs.declared.places.Place.{Place}
 use Rattle.dp_model.specs.declared.whole.Model.{Model}
 use Rattle.dypdl_load.specs.declared.domain.DomainParts.{DomainParts}
 use Rattle.dypdl_load.specs.declared.first_form.FirstEnd.{FirstEnd}
 use Rattle.dypdl_load.specs.declared.first_form.FirstEnd.TheVariants as ends
 use Rattle.dypdl_load.specs.declared.stop.Stop.{Stop}
-use Rattle.dypdl_load.specs.FirstForm.{DomainForm, ProblemForm, domain_text, problem_text, IsWord, IsDomain, IsProblem}
-use Rattle.dypdl_load.specs.Meaning.{transition_of, variable_of, model_of, SpellsDomain, SpellsProblem, Means, IsRefusedAt}
+use Rattle.dypdl_load.specs.FirstForm.{DomainForm, ProblemForm, IsWord}
+use Rattle.dypdl_load.specs.Meaning.{transition_of, model_of, SpellsDomain, Means, IsRefusedAt}
 use Rattle.dypdl_load.specs.Reading.{◌>>=◌, Gives, names}
 use Rattle.dypdl_load.specs.ReadFirst.{domain_of, problem_of}
-use Rattle.dypdl_load.specs.Parts.{domain_parts, ground_transition, model_made, model_read, start_of, StopsAt, Loads}
+use Rattle.dypdl_load.specs.Parts.{domain_parts, ground_transition, model_made, model_read, StopsAt, Loads}
 use Rattle.dypdl_load.proofs.Ascii.{name_ascii}
 use Rattle.dypdl_load.proofs.Readers.{bind_some, then_some, some_is}
 use Rattle.dypdl_load.proofs.DomainLaws.{parts_of, domain_takes, domain_again}
@@ -36,9 +35,13 @@ read_means domain problem m e =
     let b = bind_some (problem_of a.0.0.1 problem) (λ y. Some (model_made a.0 y)) m a.2 in
     let t = domain_takes domain a.0 a.1 in
     let u = problem_takes t.0.variables problem b.0 (ap (λ (x : (List ℕ × List (List ℕ)) × (List Transition × List Cond)). problem_of x.0.1 problem) (sym t.2) ∙ b.1) in
-    let i = some_is (model_made a.0 b.0) m b.2 in
-    (t.0, u.0, (t.3, t.1), (u.3, u.1),
-      sym i ∙ ap (λ (x : (List ℕ × List (List ℕ)) × (List Transition × List Cond)). model_made x b.0) t.2 ∙ ap (model_made (parts_of t.0)) u.2 ∙ made_is t.0 u.0)
+    let i = some_is (model_made a.0 b.0) m b.2 in (
+      t.0,
+      u.0,
+      (t.3, t.1),
+      (u.3, u.1),
+      sym i ∙ ap (λ (x : (List ℕ × List (List ℕ)) × (List Transition × List Cond)). model_made x b.0) t.2 ∙ ap (model_made (parts_of t.0)) u.2 ∙ made_is t.0 u.0,
+    )
 
 pub domain_reads : (domain : List ℕ) (d : DomainForm) → SpellsDomain domain d → domain_of domain ≡ Some (parts_of d)
 domain_reads domain d s = ap domain_of s.0 ∙ domain_again d s.1
@@ -51,7 +54,7 @@ means_read domain problem m h =
     let f : problem_of d.variables problem ≡ Some (values_of p) = ap (problem_of d.variables) h.3.0 ∙ problem_again d.variables p h.3.1 in
     let g : model_made (parts_of d) (values_of p) ≡ m = made_is d p ∙ sym h.4 in
     then_some (domain_of domain) (λ x. problem_of x.0.1 problem >>= λ y. Some (model_made x y)) (parts_of d) (Some m) e
-      (then_some (problem_of d.variables problem) (λ y. Some (model_made (parts_of d) y)) (values_of p) (Some m) f (ap (λ (n : Model). Some n) g))
+    (then_some (problem_of d.variables problem) (λ y. Some (model_made (parts_of d) y)) (values_of p) (Some m) f (ap (λ (n : Model). Some n) g))
 
 pub one_model : (domain problem : List ℕ) (m n : Model) → Means domain problem m → Means domain problem n → m ≡ n
 one_model domain problem m n h k = some_is m n (sym (means_read domain problem m h) ∙ means_read domain problem n k)

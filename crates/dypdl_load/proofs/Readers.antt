@@ -1,11 +1,10 @@
 -- What it is to read a spelling, and that the parts of readers keep it.
-use Rattle.std.proofs.Common.{◌≡◌, ℕ, zero, suc, ◌+◌, ◌<◌, ◌≤◌, Bool, true, false, ◌&&◌, cond, eqb, ltb, leb, List, [], ◌∷◌, ◌++◌, length, map, take, drop, Option, Some, None, refl, sym, ap, subst, ◌∙◌, append_assoc, arith, inl, inr, ◌⊎◌}
+use Rattle.std.proofs.Common.{◌≡◌, ℕ, zero, suc, ◌<◌, ◌≤◌, Bool, true, false, cond, eqb, List, [], ◌∷◌, ◌++◌, length, map, take, drop, Option, Some, None, refl, sym, ap, subst, ◌∙◌, append_assoc, arith, inl, inr, ◌⊎◌}
 use Rattle.std.specs.List.{list_all, prefix_len, flat_map, AllByRecursion}
 use Rattle.std.specs.Str.{bytes_eq}
-use Rattle.std.proofs.lemmas.Bool.{eqb-true, le-leb, leb-true}
+use Rattle.std.proofs.lemmas.Bool.{eqb-true}
 use Rattle.std.proofs.lemmas.Option.{cond_some}
 use Rattle.std.proofs.lemmas.List.{take_at, drop_at, take-append-drop, append-nil, nil_from_length, length-append}
-use Rattle.std.proofs.lemmas.List.Concat.{flat_map-cons}
 use Rattle.std.proofs.lemmas.Slice.Eq.{bytes_eq-Decides}
 use Rattle.dypdl_load.specs.Reading.{◌>>=◌, literal_at, behind, before, and_then, with_value, mapped, such_that, either, many, many_all, whole, front_at, begins}
 use Rattle.dypdl_load.proofs.Front.{front_passes, begins_with, front_is}
@@ -56,36 +55,39 @@ module _ {P X : Type 0} {read : List ℕ → Option (X × List ℕ)} {text : P �
   pub behind_reader : (front : List ℕ) → IsReader (behind front read) (λ p. front ++ text p) of Fits Ends
   behind_reader front = record {
     takes = λ bytes y e.
-      let a = bind_some (literal_at front bytes) read y e in
-      let t = law.takes a.0 y a.2 in
-      (t.0, t.1, t.2, literal_takes front bytes a.0 a.1 ∙ ap (λ (b : List ℕ). front ++ b) t.3 ∙ sym (append_assoc front (text t.0) y.1));
+        let a = bind_some (literal_at front bytes) read y e in
+        let t = law.takes a.0 y a.2 in
+        (t.0, t.1, t.2, literal_takes front bytes a.0 a.1 ∙ ap (λ (b : List ℕ). front ++ b) t.3 ∙ sym (append_assoc front (text t.0) y.1));
     again = λ p rest fits ends.
-      ap (behind front read) (append_assoc front (text p) rest)
-      ∙ then_some (literal_at front (front ++ (text p ++ rest))) read (text p ++ rest) (Some (of p, rest)) (literal_again front (text p ++ rest)) (law.again p rest fits ends);
+        ap (behind front read) (append_assoc front (text p) rest)
+        ∙ then_some (literal_at front (front ++ (text p ++ rest))) read (text p ++ rest) (Some (of p, rest)) (literal_again front (text p ++ rest)) (law.again p rest fits ends);
   }
 
   pub before_reader : (back : List ℕ) → ((rest : List ℕ) → Ends (back ++ rest)) → IsReader (before read back) (λ p. text p ++ back) of Fits Any
   before_reader back ends = record {
     takes = λ bytes y e.
-      let a = bind_some (read bytes) (λ x. literal_at back x.1 >>= λ rest. Some (x.0, rest)) y e in
-      let b = bind_some (literal_at back a.0.1) (λ rest. Some (a.0.0, rest)) y a.2 in
-      let t = law.takes bytes a.0 a.1 in
-      let i = some_is (a.0.0, b.0) y b.2 in
-      (t.0, t.1, sym (ap (λ (z : X × List ℕ). z.0) i) ∙ t.2,
-        t.3 ∙ ap (λ (r : List ℕ). text t.0 ++ r) (literal_takes back a.0.1 b.0 b.1 ∙ ap (λ (z : X × List ℕ). back ++ z.1) i) ∙ sym (append_assoc (text t.0) back y.1));
+        let a = bind_some (read bytes) (λ x. literal_at back x.1 >>= λ rest. Some (x.0, rest)) y e in
+        let b = bind_some (literal_at back a.0.1) (λ rest. Some (a.0.0, rest)) y a.2 in
+        let t = law.takes bytes a.0 a.1 in
+        let i = some_is (a.0.0, b.0) y b.2 in (
+          t.0,
+          t.1,
+          sym (ap (λ (z : X × List ℕ). z.0) i) ∙ t.2,
+          t.3 ∙ ap (λ (r : List ℕ). text t.0 ++ r) (literal_takes back a.0.1 b.0 b.1 ∙ ap (λ (z : X × List ℕ). back ++ z.1) i) ∙ sym (append_assoc (text t.0) back y.1),
+        );
     again = λ p rest fits _.
-      ap (before read back) (append_assoc (text p) back rest)
-      ∙ then_some (read (text p ++ (back ++ rest))) (λ x. literal_at back x.1 >>= λ r. Some (x.0, r)) (of p, back ++ rest) (Some (of p, rest)) (law.again p (back ++ rest) fits (ends rest))
-          (then_some (literal_at back (back ++ rest)) (λ r. Some (of p, r)) rest (Some (of p, rest)) (literal_again back rest) refl);
+        ap (before read back) (append_assoc (text p) back rest)
+        ∙ then_some (read (text p ++ (back ++ rest))) (λ x. literal_at back x.1 >>= λ r. Some (x.0, r)) (of p, back ++ rest) (Some (of p, rest)) (law.again p (back ++ rest) fits (ends rest))
+        (then_some (literal_at back (back ++ rest)) (λ r. Some (of p, r)) rest (Some (of p, rest)) (literal_again back rest) refl);
   }
 
   pub mapped_reader : {Y : Type 0} (f : X → Y) → IsReader (mapped f read) text (λ p. f (of p)) Fits Ends
   mapped_reader {Y} f = record {
     takes = λ bytes y e.
-      let a = bind_some (read bytes) (λ x. Some (f x.0, x.1)) y e in
-      let t = law.takes bytes a.0 a.1 in
-      let i = some_is (f a.0.0, a.0.1) y a.2 in
-      (t.0, t.1, sym (ap (λ (z : Y × List ℕ). z.0) i) ∙ ap f t.2, t.3 ∙ ap (λ (z : Y × List ℕ). text t.0 ++ z.1) i);
+        let a = bind_some (read bytes) (λ x. Some (f x.0, x.1)) y e in
+        let t = law.takes bytes a.0 a.1 in
+        let i = some_is (f a.0.0, a.0.1) y a.2 in
+        (t.0, t.1, sym (ap (λ (z : Y × List ℕ). z.0) i) ∙ ap f t.2, t.3 ∙ ap (λ (z : Y × List ℕ). text t.0 ++ z.1) i);
     again = λ p rest fits ends. then_some (read (text p ++ rest)) (λ x. Some (f x.0, x.1)) (of p, rest) (Some (f (of p), rest)) (law.again p rest fits ends) refl;
   }
 
@@ -93,13 +95,13 @@ module _ {P X : Type 0} {read : List ℕ → Option (X × List ℕ)} {text : P �
       → IsReader (such_that test read) text of (λ p. Fits p × More p) Ends
   such_that_reader test More to from = record {
     takes = λ bytes y e.
-      let a = bind_some (read bytes) (λ x. cond (test x.0) (Some x) None) y e in
-      let t = law.takes bytes a.0 a.1 in
-      let g = cond_some (test a.0.0) a.0 y a.2 in
-      let same : test (of t.0) ≡ true = ap test (sym t.2) ∙ g.0 in
-      (t.0, (t.1, from t.0 t.1 same), ap (λ (z : X × List ℕ). z.0) (sym g.1) ∙ t.2, t.3 ∙ ap (λ (z : X × List ℕ). text t.0 ++ z.1) g.1);
+        let a = bind_some (read bytes) (λ x. cond (test x.0) (Some x) None) y e in
+        let t = law.takes bytes a.0 a.1 in
+        let g = cond_some (test a.0.0) a.0 y a.2 in
+        let same : test (of t.0) ≡ true = ap test (sym t.2) ∙ g.0 in
+        (t.0, (t.1, from t.0 t.1 same), ap (λ (z : X × List ℕ). z.0) (sym g.1) ∙ t.2, t.3 ∙ ap (λ (z : X × List ℕ). text t.0 ++ z.1) g.1);
     again = λ p rest fits ends.
-      then_some (read (text p ++ rest)) (λ x. cond (test x.0) (Some x) None) (of p, rest) (Some (of p, rest)) (law.again p rest fits.0 ends) (rw (to p fits.0 fits.1) refl);
+        then_some (read (text p ++ rest)) (λ x. cond (test x.0) (Some x) None) (of p, rest) (Some (of p, rest)) (law.again p rest fits.0 ends) (rw (to p fits.0 fits.1) refl);
   }
 
   -- the same reader, of parts that are put together in another way
@@ -108,12 +110,12 @@ module _ {P X : Type 0} {read : List ℕ → Option (X × List ℕ)} {text : P �
       → IsReader read text' of' Fits' Ends
   recast text' of' Fits' parts made back same_text same_value to from = record {
     takes = λ bytes y e.
-      let t = law.takes bytes y e in
-      let b = sym (back t.0) in
-      let f = to (made t.0) (subst Fits b t.1) in
-      (made t.0, f, t.2 ∙ ap of b ∙ same_value (made t.0) f, t.3 ∙ ap (λ (p : P). text p ++ y.1) b ∙ ap (λ (w : List ℕ). w ++ y.1) (same_text (made t.0) f));
+        let t = law.takes bytes y e in
+        let b = sym (back t.0) in
+        let f = to (made t.0) (subst Fits b t.1) in
+        (made t.0, f, t.2 ∙ ap of b ∙ same_value (made t.0) f, t.3 ∙ ap (λ (p : P). text p ++ y.1) b ∙ ap (λ (w : List ℕ). w ++ y.1) (same_text (made t.0) f));
     again = λ q rest fits ends.
-      ap (λ (w : List ℕ). read (w ++ rest)) (sym (same_text q fits)) ∙ law.again (parts q) rest (from q fits) ends ∙ ap (λ (v : X). some (v, rest)) (same_value q fits);
+        ap (λ (w : List ℕ). read (w ++ rest)) (sym (same_text q fits)) ∙ law.again (parts q) rest (from q fits) ends ∙ ap (λ (v : X). some (v, rest)) (same_value q fits);
   }
 
   pub narrowed : (Ends' : List ℕ → Type 0) → ((rest : List ℕ) → Ends' rest → Ends rest) → IsReader read text of Fits Ends'
@@ -126,18 +128,21 @@ module _ {P X : Type 0} {read : List ℕ → Option (X × List ℕ)} {text : P �
       → IsReader (and_then read second) (λ (pq : P × Q). text pq.0 ++ text2 pq.1) (λ (pq : P × Q). (of pq.0, of2 pq.1)) (λ (pq : P × Q). Fits pq.0 × Fits2 pq.1) Ends2
   and_then_reader {Q} {Y} {second} {text2} {of2} law2 ends = record {
     takes = λ bytes y e.
-      let a = bind_some (read bytes) (λ x. second x.1 >>= λ z. Some ((x.0, z.0), z.1)) y e in
-      let b = bind_some (second a.0.1) (λ z. Some ((a.0.0, z.0), z.1)) y a.2 in
-      let t = law.takes bytes a.0 a.1 in
-      let u = law2.takes a.0.1 b.0 b.1 in
-      let i = some_is ((a.0.0, b.0.0), b.0.1) y b.2 in
-      let v : (a.0.0, b.0.0) ≡ (of t.0, of2 u.0) = ap (λ (x : X). (x, b.0.0)) t.2 ∙ ap (λ (z : Y). (of t.0, z)) u.2 in
-      ((t.0, u.0), (t.1, u.1), ap (λ (z : (X × Y) × List ℕ). z.0) (sym i) ∙ v,
-        t.3 ∙ ap (λ (r : List ℕ). text t.0 ++ r) (u.3 ∙ ap (λ (z : (X × Y) × List ℕ). text2 u.0 ++ z.1) i) ∙ sym (append_assoc (text t.0) (text2 u.0) y.1));
+        let a = bind_some (read bytes) (λ x. second x.1 >>= λ z. Some ((x.0, z.0), z.1)) y e in
+        let b = bind_some (second a.0.1) (λ z. Some ((a.0.0, z.0), z.1)) y a.2 in
+        let t = law.takes bytes a.0 a.1 in
+        let u = law2.takes a.0.1 b.0 b.1 in
+        let i = some_is ((a.0.0, b.0.0), b.0.1) y b.2 in
+        let v : (a.0.0, b.0.0) ≡ (of t.0, of2 u.0) = ap (λ (x : X). (x, b.0.0)) t.2 ∙ ap (λ (z : Y). (of t.0, z)) u.2 in (
+          (t.0, u.0),
+          (t.1, u.1),
+          ap (λ (z : (X × Y) × List ℕ). z.0) (sym i) ∙ v,
+          t.3 ∙ ap (λ (r : List ℕ). text t.0 ++ r) (u.3 ∙ ap (λ (z : (X × Y) × List ℕ). text2 u.0 ++ z.1) i) ∙ sym (append_assoc (text t.0) (text2 u.0) y.1),
+        );
     again = λ pq rest fits ends2.
-      ap (and_then read second) (append_assoc (text pq.0) (text2 pq.1) rest)
-      ∙ then_some (read (text pq.0 ++ (text2 pq.1 ++ rest))) (λ x. second x.1 >>= λ z. Some ((x.0, z.0), z.1)) (of pq.0, text2 pq.1 ++ rest) (Some ((of pq.0, of2 pq.1), rest)) (law.again pq.0 (text2 pq.1 ++ rest) fits.0 (ends pq.1 rest fits.1 ends2))
-          (then_some (second (text2 pq.1 ++ rest)) (λ z. Some ((of pq.0, z.0), z.1)) (of2 pq.1, rest) (Some ((of pq.0, of2 pq.1), rest)) (law2.again pq.1 rest fits.1 ends2) refl);
+        ap (and_then read second) (append_assoc (text pq.0) (text2 pq.1) rest)
+        ∙ then_some (read (text pq.0 ++ (text2 pq.1 ++ rest))) (λ x. second x.1 >>= λ z. Some ((x.0, z.0), z.1)) (of pq.0, text2 pq.1 ++ rest) (Some ((of pq.0, of2 pq.1), rest)) (law.again pq.0 (text2 pq.1 ++ rest) fits.0 (ends pq.1 rest fits.1 ends2))
+        (then_some (second (text2 pq.1 ++ rest)) (λ z. Some ((of pq.0, z.0), z.1)) (of2 pq.1, rest) (Some ((of pq.0, of2 pq.1), rest)) (law2.again pq.1 rest fits.1 ends2) refl);
   }
 
   -- the second depends on what the first read
@@ -147,18 +152,21 @@ module _ {P X : Type 0} {read : List ℕ → Option (X × List ℕ)} {text : P �
       → IsReader (with_value read second) (λ (pq : P × Q). text pq.0 ++ text2 pq.0 pq.1) (λ (pq : P × Q). (of pq.0, of2 pq.0 pq.1)) (λ (pq : P × Q). Fits pq.0 × Fits2 pq.0 pq.1) Ends2
   with_value_reader {Q} {Y} second {text2} {of2} law2 ends = record {
     takes = λ bytes y e.
-      let a = bind_some (read bytes) (λ x. second x.0 x.1 >>= λ z. Some ((x.0, z.0), z.1)) y e in
-      let b = bind_some (second a.0.0 a.0.1) (λ z. Some ((a.0.0, z.0), z.1)) y a.2 in
-      let t = law.takes bytes a.0 a.1 in
-      let u = (law2 t.0 t.1).takes a.0.1 b.0 (ap (λ (x : X). second x a.0.1) (sym t.2) ∙ b.1) in
-      let i = some_is ((a.0.0, b.0.0), b.0.1) y b.2 in
-      let v : (a.0.0, b.0.0) ≡ (of t.0, of2 t.0 u.0) = ap (λ (x : X). (x, b.0.0)) t.2 ∙ ap (λ (z : Y). (of t.0, z)) u.2 in
-      ((t.0, u.0), (t.1, u.1), ap (λ (z : (X × Y) × List ℕ). z.0) (sym i) ∙ v,
-        t.3 ∙ ap (λ (r : List ℕ). text t.0 ++ r) (u.3 ∙ ap (λ (z : (X × Y) × List ℕ). text2 t.0 u.0 ++ z.1) i) ∙ sym (append_assoc (text t.0) (text2 t.0 u.0) y.1));
+        let a = bind_some (read bytes) (λ x. second x.0 x.1 >>= λ z. Some ((x.0, z.0), z.1)) y e in
+        let b = bind_some (second a.0.0 a.0.1) (λ z. Some ((a.0.0, z.0), z.1)) y a.2 in
+        let t = law.takes bytes a.0 a.1 in
+        let u = (law2 t.0 t.1).takes a.0.1 b.0 (ap (λ (x : X). second x a.0.1) (sym t.2) ∙ b.1) in
+        let i = some_is ((a.0.0, b.0.0), b.0.1) y b.2 in
+        let v : (a.0.0, b.0.0) ≡ (of t.0, of2 t.0 u.0) = ap (λ (x : X). (x, b.0.0)) t.2 ∙ ap (λ (z : Y). (of t.0, z)) u.2 in (
+          (t.0, u.0),
+          (t.1, u.1),
+          ap (λ (z : (X × Y) × List ℕ). z.0) (sym i) ∙ v,
+          t.3 ∙ ap (λ (r : List ℕ). text t.0 ++ r) (u.3 ∙ ap (λ (z : (X × Y) × List ℕ). text2 t.0 u.0 ++ z.1) i) ∙ sym (append_assoc (text t.0) (text2 t.0 u.0) y.1),
+        );
     again = λ pq rest fits ends2.
-      ap (with_value read second) (append_assoc (text pq.0) (text2 pq.0 pq.1) rest)
-      ∙ then_some (read (text pq.0 ++ (text2 pq.0 pq.1 ++ rest))) (λ x. second x.0 x.1 >>= λ z. Some ((x.0, z.0), z.1)) (of pq.0, text2 pq.0 pq.1 ++ rest) (Some ((of pq.0, of2 pq.0 pq.1), rest)) (law.again pq.0 (text2 pq.0 pq.1 ++ rest) fits.0 (ends pq.0 pq.1 rest fits.0 fits.1 ends2))
-          (then_some (second (of pq.0) (text2 pq.0 pq.1 ++ rest)) (λ z. Some ((of pq.0, z.0), z.1)) (of2 pq.0 pq.1, rest) (Some ((of pq.0, of2 pq.0 pq.1), rest)) ((law2 pq.0 fits.0).again pq.1 rest fits.1 ends2) refl);
+        ap (with_value read second) (append_assoc (text pq.0) (text2 pq.0 pq.1) rest)
+        ∙ then_some (read (text pq.0 ++ (text2 pq.0 pq.1 ++ rest))) (λ x. second x.0 x.1 >>= λ z. Some ((x.0, z.0), z.1)) (of pq.0, text2 pq.0 pq.1 ++ rest) (Some ((of pq.0, of2 pq.0 pq.1), rest)) (law.again pq.0 (text2 pq.0 pq.1 ++ rest) fits.0 (ends pq.0 pq.1 rest fits.0 fits.1 ends2))
+        (then_some (second (of pq.0) (text2 pq.0 pq.1 ++ rest)) (λ z. Some ((of pq.0, z.0), z.1)) (of2 pq.0 pq.1, rest) (Some ((of pq.0, of2 pq.0 pq.1), rest)) ((law2 pq.0 fits.0).again pq.1 rest fits.1 ends2) refl);
   }
 
   -- all of the bytes
@@ -230,9 +238,12 @@ module _ {P X : Type 0} {item : List ℕ → Option (X × List ℕ)} {text : P �
       let u = others a.0.1 b.0 b.1 in
       let i = some_is (a.0.0 ∷ b.0.0, b.0.1) y b.2 in
       let v : a.0.0 ∷ b.0.0 ≡ of t.0 ∷ map of u.0 = ap (λ (x : X). x ∷ b.0.0) t.2 ∙ ap (λ (xs : List X). of t.0 ∷ xs) u.2 in
-      let few : length (t.0 ∷ u.0) ≤ suc n = omega (arith, u.1.0) in
-      (t.0 ∷ u.0, (few, (t.1, u.1.1)), ap (λ (z : List X × List ℕ). z.0) (sym i) ∙ v,
-        t.3 ∙ ap (λ (r : List ℕ). text t.0 ++ r) (u.3 ∙ ap (λ (z : List X × List ℕ). flat_map text u.0 ++ z.1) i) ∙ sym (append_assoc (text t.0) (flat_map text u.0) y.1))
+      let few : length (t.0 ∷ u.0) ≤ suc n = omega (arith, u.1.0) in (
+        t.0 ∷ u.0,
+        (few, (t.1, u.1.1)),
+        ap (λ (z : List X × List ℕ). z.0) (sym i) ∙ v,
+        t.3 ∙ ap (λ (r : List ℕ). text t.0 ++ r) (u.3 ∙ ap (λ (z : List X × List ℕ). flat_map text u.0 ++ z.1) i) ∙ sym (append_assoc (text t.0) (flat_map text u.0) y.1),
+      )
 
   many_takes : (n : ℕ) (bytes : List ℕ) (y : List X × List ℕ) → many mark item n bytes ≡ Some y → Taken (flat_map text) (map of) (AreFew n) bytes y
   unfolding many
@@ -249,8 +260,8 @@ module _ {P X : Type 0} {item : List ℕ → Option (X × List ℕ)} {text : P �
       let bytes : List ℕ = text p ++ (flat_map text ps ++ rest) in
       ap (many mark item (suc n)) (append_assoc (text p) (flat_map text ps) rest)
       ∙ chosen (begins mark bytes) (item bytes >>= λ x. many mark item n x.1 >>= λ xs. Some (x.0 ∷ xs.0, xs.1)) (Some ([], bytes)) (Some (of p ∷ map of ps, rest)) (marked p (flat_map text ps ++ rest) fits.1.0)
-          (then_some (item bytes) (λ x. many mark item n x.1 >>= λ xs. Some (x.0 ∷ xs.0, xs.1)) (of p, flat_map text ps ++ rest) (Some (of p ∷ map of ps, rest)) (law.again p (flat_map text ps ++ rest) fits.1.0 tt)
-              (then_some (many mark item n (flat_map text ps ++ rest)) (λ xs. Some (of p ∷ xs.0, xs.1)) (map of ps, rest) (Some (of p ∷ map of ps, rest)) (many_again marked n ps rest (few, fits.1.1) ends) refl))
+      (then_some (item bytes) (λ x. many mark item n x.1 >>= λ xs. Some (x.0 ∷ xs.0, xs.1)) (of p, flat_map text ps ++ rest) (Some (of p ∷ map of ps, rest)) (law.again p (flat_map text ps ++ rest) fits.1.0 tt)
+      (then_some (many mark item n (flat_map text ps ++ rest)) (λ xs. Some (of p ∷ xs.0, xs.1)) (map of ps, rest) (Some (of p ∷ map of ps, rest)) (many_again marked n ps rest (few, fits.1.1) ends) refl))
 
   pub many_reader : ((p : P) (rest : List ℕ) → Fits p → begins mark (text p ++ rest) ≡ true) → (n : ℕ) → IsReader (many mark item n) (flat_map text) (map of) (λ ps. (length ps ≤ n) × AllByRecursion Fits ps) (λ rest. begins mark rest ≡ false)
   many_reader marked n = record { takes = many_takes n; again = many_again marked n }
@@ -263,7 +274,7 @@ module _ {P X : Type 0} {item : List ℕ → Option (X × List ℕ)} {text : P �
   many_all_reader marked long = record {
     takes = λ bytes y e. let t = many_takes (length bytes) bytes y e in (t.0, t.1.1, t.2, t.3);
     again = λ ps rest fits ends.
-      many_again marked (length (flat_map text ps ++ rest)) ps rest (omega (arith, few_of_text long ps, length-append (flat_map text ps) rest), fits) ends;
+        many_again marked (length (flat_map text ps ++ rest)) ps rest (omega (arith, few_of_text long ps, length-append (flat_map text ps) rest), fits) ends;
   }
 
 -- ---- the bytes in front that pass
@@ -272,8 +283,8 @@ pub front_reader : (p : ℕ → Bool) → IsReader (front_at p) (λ w. w) (λ w.
 unfolding front_at
 front_reader p = record {
   takes = λ bytes y e.
-    let n = prefix_len p bytes in
-    let i = some_is (take n bytes, drop n bytes) y e in
-    (y.0, subst (λ (z : List ℕ × List ℕ). list_all p z.0 ≡ true) i (front_passes p bytes), refl, sym (take-append-drop n bytes) ∙ ap (λ (z : List ℕ × List ℕ). z.0 ++ z.1) i);
+      let n = prefix_len p bytes in
+      let i = some_is (take n bytes, drop n bytes) y e in
+      (y.0, subst (λ (z : List ℕ × List ℕ). list_all p z.0 ≡ true) i (front_passes p bytes), refl, sym (take-append-drop n bytes) ∙ ap (λ (z : List ℕ × List ℕ). z.0 ++ z.1) i);
   again = λ w rest fits ends. rw (front_is p w rest fits ends, take_at w rest (length w) refl, drop_at w rest (length w) refl) refl;
 }

@@ -1,5 +1,5 @@
 -- A set of the names that were met tells whether a list has one twice.
-use Rattle.std.proofs.Common.{◌≡◌, ℕ, suc, ◌+◌, ◌<◌, ◌≤◌, Bool, true, false, not, ◌&&◌, ◌||◌, cond, List, [], ◌∷◌, ◌++◌, length, get_or, take, drop, Bor, refl, sym, ap, subst, ◌∙◌, arith}
+use Rattle.std.proofs.Common.{◌≡◌, ℕ, ◌+◌, ◌<◌, ◌≤◌, Bool, true, false, not, ◌&&◌, ◌||◌, cond, List, [], ◌∷◌, ◌++◌, length, get_or, take, drop, Bor, refl, sym, ap, ◌∙◌}
 use Rattle.std.specs.List.{list_any}
 use Rattle.std.specs.Str.{bytes_eq}
 use Rattle.std.specs.Ordering.{nat_cmp, is_eq}
@@ -72,17 +72,17 @@ module _ (ts : List Transition) (i : ℕ) (d : Transition) (seen : BTreeSet (Bor
   pub seen_twice : not (contains text_cmp seen name) ≡ false → false ≡ differ named_alike ts
   seen_twice e =
       sym (false_from_ne_true (differ named_alike ts) (λ all.
-        both_ways (differ named_alike (take (i + 1) ts)) (one_more ∙ e)
-          (differ_front (take (i + 1) ts) (drop (i + 1) ts) (ap (differ named_alike) (take-append-drop (i + 1) ts) ∙ all))))
+      both_ways (differ named_alike (take (i + 1) ts)) (one_more ∙ e)
+      (differ_front (take (i + 1) ts) (drop (i + 1) ts) (ap (differ named_alike) (take-append-drop (i + 1) ts) ∙ all))))
 
   pub seen_more : (new : BTreeSet (Bor (List ℕ))) → not (contains text_cmp seen name) ≡ true → UpdatesBy text_cmp (text_cmp name) seen new true → Seen ts (i + 1) new
   seen_more new e updates = record {
     once = one_more ∙ e;
     has = λ q.
-      let t = get_or ts i d in
-      let at : is_eq (slice_cmp nat_cmp name.now q.now) ≡ bytes_eq q.now t.name = is_eq-slice_cmp name.now q.now ∙ bytes_eq-comm name.now q.now ∙ ap (bytes_eq q.now) named in
-      updates.0 q ∙ ap (λ (b : Bool). cond b true (contains text_cmp seen q)) at ∙ ap (λ (x : Bool). cond (bytes_eq q.now t.name) true x) (so_far.has q)
-      ∙ met (bytes_eq q.now t.name) (list_any (λ u. bytes_eq q.now u.name) (take i ts)) ∙ sym (list_any_more (λ u. bytes_eq q.now u.name) ts i d lt);
+        let t = get_or ts i d in
+        let at : is_eq (slice_cmp nat_cmp name.now q.now) ≡ bytes_eq q.now t.name = is_eq-slice_cmp name.now q.now ∙ bytes_eq-comm name.now q.now ∙ ap (bytes_eq q.now) named in
+        updates.0 q ∙ ap (λ (b : Bool). cond b true (contains text_cmp seen q)) at ∙ ap (λ (x : Bool). cond (bytes_eq q.now t.name) true x) (so_far.has q)
+        ∙ met (bytes_eq q.now t.name) (list_any (λ u. bytes_eq q.now u.name) (take i ts)) ∙ sym (list_any_more (λ u. bytes_eq q.now u.name) ts i d lt);
   }
 
 pub seen_all : (ts : List Transition) (i : ℕ) (seen : BTreeSet (Bor (List ℕ))) → Seen ts i seen → length ts ≤ i → true ≡ differ named_alike ts

@@ -1,10 +1,10 @@
 -- Reading a value for each variable, as a loop does.
-use Rattle.std.proofs.Common.{◌≡◌, ℕ, ◌+◌, ◌≤◌, ◌<◌, List, [], ◌∷◌, ◌++◌, length, get_or, drop, map, Bor, Option, Some, None, refl, sym, ap, ◌∙◌, add-one, drop-cons, arith}
+use Rattle.std.proofs.Common.{◌≡◌, ℕ, ◌+◌, ◌≤◌, ◌<◌, List, [], ◌∷◌, ◌++◌, length, get_or, drop, Bor, Option, Some, None, refl, sym, ap, ◌∙◌, add-one, drop-cons}
 use Rattle.std.proofs.lemmas.List.{append-nil, drop_all}
 use Rattle.dp_model.specs.declared.parts.PlainValue.{PlainValue}
 use Rattle.dypdl_load.specs.declared.stop.Stop.{Stop}
 use Rattle.dypdl_load.specs.declared.stop.Stop.TheVariants as stops
-use Rattle.dypdl_load.specs.Reading.{◌>>=◌, Stops, names, with_front}
+use Rattle.dypdl_load.specs.Reading.{Stops, names, with_front}
 use Rattle.dypdl_load.specs.ReadFirst.{setting_at, settings_at}
 use Rattle.dypdl_load.proofs.Loops.{regroup}
 
@@ -14,7 +14,7 @@ module _ (front : List PlainValue) (vs : List (Bor (List ℕ))) (i : ℕ) (d : B
   next_set x after lt h =
       let split : drop i vs ≡ get_or vs i d ∷ drop (i + 1) vs = rw (drop-cons vs i d, add-one) refl in
       let one : with_front front (settings_at (names (drop i vs)) bytes) ≡ with_front (front ++ x ∷ []) (settings_at (names (drop (i + 1) vs)) after) =
-        rw (split, h) (regroup front x (settings_at (names (drop (i + 1) vs)) after)) in
+      rw (split, h) (regroup front x (settings_at (names (drop (i + 1) vs)) after)) in
       sym one ∙ so_far
 
   not_set : i < length vs → setting_at (get_or vs i d).now bytes ≡ None → total ≡ None

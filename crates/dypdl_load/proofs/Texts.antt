@@ -1,8 +1,8 @@
 -- A text among others: what the code tests behind references is what the lists say.
-use Rattle.std.proofs.Common.{◌≡◌, ℕ, suc, ◌+◌, ◌<◌, ◌≤◌, Bool, true, false, not, ◌||◌, cond, ltb, List, [], ◌∷◌, length, get_or, drop, map, Option, Some, None, refl, sym, ap, ◌∙◌, add-one, drop-cons, arith}
-use Rattle.std.specs.List.{list_any, prefix_len, position_or_len, position, position_from}
+use Rattle.std.proofs.Common.{◌≡◌, ℕ, ◌+◌, ◌<◌, ◌≤◌, Bool, true, false, ◌||◌, cond, List, [], ◌∷◌, length, get_or, drop, map, Option, Some, None, refl, sym, ap, ◌∙◌, add-one, drop-cons}
+use Rattle.std.specs.List.{list_any, position, position_from}
 use Rattle.std.specs.Option.{is_some}
-use Rattle.std.proofs.lemmas.List.{length-map, drop_all}
+use Rattle.std.proofs.lemmas.List.{drop_all}
 use Rattle.std.proofs.lemmas.Iterator.Adapters.{position_from-zero}
 
 position_from-map : {X Y : Type 0} (p : X → Bool) (h : Y → X) (i : ℕ) (ys : List Y) → position_from p i (map h ys) ≡ position_from (λ y. p (h y)) i ys

@@ -1,23 +1,19 @@
 -- Transitions are read as they are spelled.
-use Rattle.std.proofs.Common.{◌≡◌, ℕ, ◌+◌, ◌<◌, ◌≤◌, Bool, true, false, not, cond, eqb, ltb, List, [], ◌∷◌, ◌++◌, length, get_or, map, Option, Some, None, refl, sym, ap, ◌∙◌, append_assoc, one-add, arith, inl, inr, ◌⊎◌}
+use Rattle.std.proofs.Common.{◌≡◌, ℕ, ◌<◌, ◌≤◌, Bool, true, false, eqb, ltb, List, [], ◌∷◌, ◌++◌, length, get_or, map, Option, refl, sym, ap, ◌∙◌, append_assoc, one-add, arith}
 use Rattle.std.specs.Prelude.{codes}
-use Rattle.std.specs.List.{list_any, prefix_len, flat_map, AllByRecursion}
+use Rattle.std.specs.List.{flat_map, AllByRecursion}
 use Rattle.std.specs.Str.{bytes_eq}
-use Rattle.std.proofs.lemmas.Bool.{lt-ltb, ltb-true, eq-eqb, ne_eqb, or_cases, both_ways, false≢true, true≢false}
+use Rattle.std.proofs.lemmas.Bool.{lt-ltb, ltb-true, eq-eqb, ne_eqb, both_ways, false≢true}
 use Rattle.std.proofs.lemmas.List.{length-map}
 use Rattle.std.proofs.lemmas.Slice.Eq.{bytes_eq-Decides}
-use Rattle.dp_model.specs.declared.trees.Num.{Num}
-use Rattle.dp_model.specs.declared.trees.Cond.{Cond}
 use Rattle.dp_model.specs.declared.trees.Num.TheVariants as nums
-use Rattle.dp_model.specs.declared.parts.Effect.{Effect}
-use Rattle.dp_model.specs.declared.parts.Transition.{Transition}
-use Rattle.dypdl_load.specs.FirstForm.{Number, Condition, Change, Move, line, number_text, condition_text, change_text, precondition_text, move_text, IsNumber, IsWord, IsCondition, IsChange, IsMove, AreDistinct, is_among}
+use Rattle.dypdl_load.specs.FirstForm.{Number, Condition, Change, line, number_text, change_text, precondition_text, move_text, IsNumber, IsWord, IsCondition, IsChange, IsMove, AreDistinct, is_among}
 use Rattle.dypdl_load.specs.Meaning.{number_value, variable_number, condition_of, effect_of, transition_of}
-use Rattle.dypdl_load.specs.Reading.{◌>>=◌, Reader, behind, before, line_at, and_then, mapped, such_that, many, many_all, some, differ, begins, number_at, word_at}
-use Rattle.dypdl_load.specs.ReadFirst.{condition_line_at, change_at, preconditions_at, set_alike, changes_at, transition_made, cost_at, rules_at, transition_at, named_alike, transitions_at}
+use Rattle.dypdl_load.specs.Reading.{some, differ, begins}
+use Rattle.dypdl_load.specs.ReadFirst.{preconditions_at, set_alike, changes_at, transition_made, cost_at, rules_at, transition_at, named_alike, transitions_at}
 use Rattle.dypdl_load.proofs.Differ.{differ_of, distinct_of}
 use Rattle.dypdl_load.proofs.Readers.{IsReader, Any, behind_reader, before_reader, and_then_reader, mapped_reader, such_that_reader, recast, many_reader, many_all_reader}
-use Rattle.dypdl_load.proofs.Words.{EndsNumber, number_reader, word_reader}
+use Rattle.dypdl_load.proofs.Words.{number_reader, word_reader}
 use Rattle.dypdl_load.proofs.ConditionLaws.{line_reader, condition_line_reader, change_reader}
 
 -- one or more
@@ -25,8 +21,8 @@ pub some_reader : {P X : Type 0} {read : List ℕ → Option (List X × List ℕ
     → IsReader (some read) text (map of) (λ ps. Fits ps × (0 < length ps)) Ends
 some_reader of law =
     such_that_reader law (λ xs. ltb 0 (length xs)) (λ ps. 0 < length ps)
-      (λ ps f m. let l = length-map ps of in lt-ltb 0 (length (map of ps)) (omega (arith, l, m)))
-      (λ ps f e. let l = length-map ps of in let m = ltb-true 0 (length (map of ps)) e in omega (arith, l, m))
+    (λ ps f m. let l = length-map ps of in lt-ltb 0 (length (map of ps)) (omega (arith, l, m)))
+    (λ ps f e. let l = length-map ps of in let m = ltb-true 0 (length (map of ps)) e in omega (arith, l, m))
 
 pub preconditions_reader : (vs : List (List ℕ)) → AllByRecursion IsWord vs
     → IsReader (preconditions_at vs) (flat_map precondition_text) (map (condition_of vs)) (λ cs. ((length cs ≤ 256) × AllByRecursion (IsCondition vs) cs) × (0 < length cs)) (λ rest. begins (codes "      - ") rest ≡ false)
@@ -56,8 +52,8 @@ pub changes_reader : (vs : List (List ℕ)) → AllByRecursion IsWord vs
 unfolding changes_at
 changes_reader vs words =
     such_that_reader (some_reader (effect_of vs) (many_all_reader (change_reader vs words) (codes "      ") (λ c rest f. refl) (λ c. omega arith))) (differ set_alike) (λ cs. AreDistinct (map (λ c. c.variable) cs))
-      (λ cs f d. differ_of set_alike (effect_of vs) (λ c. c.variable) (IsChange vs) (changes_agree vs) cs f.0 d)
-      (λ cs f e. distinct_of set_alike (effect_of vs) (λ c. c.variable) (IsChange vs) (changes_agree vs) cs f.0 e)
+    (λ cs f d. differ_of set_alike (effect_of vs) (λ c. c.variable) (IsChange vs) (changes_agree vs) cs f.0 d)
+    (λ cs f e. distinct_of set_alike (effect_of vs) (λ c. c.variable) (IsChange vs) (changes_agree vs) cs f.0 e)
 
 -- ---- transitions
 
@@ -86,16 +82,16 @@ pub transition_reader : (vs : List (List ℕ)) → AllByRecursion IsWord vs → 
 unfolding transition_at
 transition_reader vs words =
     recast (mapped_reader (and_then_reader (line_reader word_reader (codes "  - name: ") (λ rest. refl)) (and_then_reader (rules_reader vs words) cost_reader (λ q rest f e. refl)) (λ q rest f e. tt)) transition_made)
-      move_text (transition_of vs) (IsMove vs) (λ t. (t.name, ((t.preconditions, t.changes), t.cost))) (λ x. record { name = x.0; preconditions = x.1.0.0; changes = x.1.0.1; cost = x.1.1 }) (λ x. refl)
-      (λ t f. regroup_move (line (codes "  - name: " ++ t.name)) (line (codes "    preconditions:")) (flat_map precondition_text t.preconditions) (line (codes "    effects:")) (flat_map change_text t.changes) (codes "    cost: (+ cost ") (number_text t.cost) (codes ")") (10 ∷ []))
-      (λ t f. refl)
-      (λ t f. record { name = f.0; some_preconditions = f.1.0.0.1; few_preconditions = f.1.0.0.0.0; preconditions = f.1.0.0.0.1; some_changes = f.1.0.1.0.1; changes = f.1.0.1.0.0; once = f.1.0.1.1; cost = f.1.1 })
-      (λ t f. (f.name, ((((f.few_preconditions, f.preconditions), f.some_preconditions), ((f.changes, f.some_changes), f.once)), f.cost)))
+    move_text (transition_of vs) (IsMove vs) (λ t. (t.name, ((t.preconditions, t.changes), t.cost))) (λ x. record { name = x.0; preconditions = x.1.0.0; changes = x.1.0.1; cost = x.1.1 }) (λ x. refl)
+    (λ t f. regroup_move (line (codes "  - name: " ++ t.name)) (line (codes "    preconditions:")) (flat_map precondition_text t.preconditions) (line (codes "    effects:")) (flat_map change_text t.changes) (codes "    cost: (+ cost ") (number_text t.cost) (codes ")") (10 ∷ []))
+    (λ t f. refl)
+    (λ t f. record { name = f.0; some_preconditions = f.1.0.0.1; few_preconditions = f.1.0.0.0.0; preconditions = f.1.0.0.0.1; some_changes = f.1.0.1.0.1; changes = f.1.0.1.0.0; once = f.1.0.1.1; cost = f.1.1 })
+    (λ t f. (f.name, ((((f.few_preconditions, f.preconditions), f.some_preconditions), ((f.changes, f.some_changes), f.once)), f.cost)))
 
 pub transitions_reader : (vs : List (List ℕ)) → AllByRecursion IsWord vs
     → IsReader (transitions_at vs) (flat_map move_text) (map (transition_of vs)) (λ ts. (((length ts ≤ 65536) × AllByRecursion (IsMove vs) ts) × (0 < length ts)) × AreDistinct (map (λ t. t.name) ts)) (λ rest. begins (codes "  - name: ") rest ≡ false)
 unfolding transitions_at
 transitions_reader vs words =
     such_that_reader (some_reader (transition_of vs) (many_reader (transition_reader vs words) (codes "  - name: ") (λ t rest f. refl) 65536)) (differ named_alike) (λ ts. AreDistinct (map (λ t. t.name) ts))
-      (λ ts f d. differ_of named_alike (transition_of vs) (λ t. t.name) (IsMove vs) (λ t u f g. refl) ts f.0.1 d)
-      (λ ts f e. distinct_of named_alike (transition_of vs) (λ t. t.name) (IsMove vs) (λ t u f g. refl) ts f.0.1 e)
+    (λ ts f d. differ_of named_alike (transition_of vs) (λ t. t.name) (IsMove vs) (λ t u f g. refl) ts f.0.1 d)
+    (λ ts f e. distinct_of named_alike (transition_of vs) (λ t. t.name) (IsMove vs) (λ t u f g. refl) ts f.0.1 e)

@@ -1,5 +1,5 @@
 -- The model that the two texts of the first form mean, and where a text is refused.
-use Rattle.std.specs.Prelude.{◌≡◌, ℕ, ◌+◌, ◌*◌, ◌-◌, true, false, if◌then◌else◌, ◌⊎◌, List, [], ◌∷◌, length, map, Option, Some, None, ℤ, pos, neg_ℤ, Result, Ok, Err}
+use Rattle.std.specs.Prelude.{◌≡◌, ℕ, ◌+◌, ◌*◌, ◌-◌, true, false, if◌then◌else◌, ◌⊎◌, List, [], ◌∷◌, length, map, Some, ℤ, pos, neg_ℤ}
 use Rattle.std.specs.List.{fold, range_with_len, position_or_len}
 use Rattle.std.specs.Str.{bytes_eq}
 use Rattle.dp_model.specs.declared.trees.Num.{Num}
@@ -44,11 +44,13 @@ effect_of variables c = Effect.Number (variable_number variables c.variable) (va
 
 abbrev pub transition_of : List (List ℕ) → Move → Transition
 transition_of variables t = record {
-    name = t.name; params = []; forced = false;
-    preconditions = map (condition_of variables) t.preconditions;
-    effects = map (effect_of variables) t.changes;
-    weight = Some (nums.Fixed (number_value t.cost));
-  }
+  name = t.name;
+  params = [];
+  forced = false;
+  preconditions = map (condition_of variables) t.preconditions;
+  effects = map (effect_of variables) t.changes;
+  weight = Some (nums.Fixed (number_value t.cost));
+}
 
 abbrev pub variable_of : List ℕ → Variable
 variable_of name = record { name = name; kind = kinds.Integer; preference = preferences.Without }
@@ -60,13 +62,20 @@ base_case_of d = record { conditions = map (condition_of d.variables) d.conditio
 -- a model that minimizes, whose transitions have no parameters and add their weights
 abbrev pub model_of : DomainForm → ProblemForm → Model
 model_of d p = record {
-    domain = d.name; problem = p.name; minimize = true; join = joins.Plus;
-    objects = []; variables = map variable_of d.variables; tables = [];
-    transitions = map (transition_of d.variables) d.moves;
-    ground = map (λ (i : ℕ). let g : Ground = record { transition = i; args = [] } in g) (range_with_len 0 (length d.moves));
-    constraints = []; base_cases = base_case_of d ∷ []; bounds = [];
-    target = record { values = map (λ (s : Setting). PlainValue.Number (number_value s.number)) p.target };
-  }
+  domain = d.name;
+  problem = p.name;
+  minimize = true;
+  join = joins.Plus;
+  objects = [];
+  variables = map variable_of d.variables;
+  tables = [];
+  transitions = map (transition_of d.variables) d.moves;
+  ground = map (λ (i : ℕ). let g : Ground = record { transition = i; args = [] } in g) (range_with_len 0 (length d.moves));
+  constraints = [];
+  base_cases = base_case_of d ∷ [];
+  bounds = [];
+  target = record { values = map (λ (s : Setting). PlainValue.Number (number_value s.number)) p.target };
+}
 
 -- the bytes spell a domain that fits
 abbrev pub SpellsDomain : List ℕ → DomainForm → Type 0

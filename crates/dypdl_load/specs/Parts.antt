@@ -27,13 +27,20 @@ ground_transition i = record { transition = i; args = [] }
 -- the model of what was read in a domain and a problem
 abbrev pub model_made : (List ℕ × List (List ℕ)) × (List Transition × List Cond) → List ℕ × List PlainValue → Model
 model_made x y = record {
-    domain = x.0.0; problem = y.0; minimize = true; join = joins.Plus;
-    objects = []; variables = map variable_of x.0.1; tables = [];
-    transitions = x.1.0;
-    «ground» = map ground_transition (range_with_len 0 (length x.1.0));
-    constraints = []; base_cases = (let b : BaseCase = record { conditions = x.1.1; cost = nums.Fixed (pos 0) } in b) ∷ []; bounds = [];
-    target = record { values = y.1 };
-  }
+  domain = x.0.0;
+  problem = y.0;
+  minimize = true;
+  join = joins.Plus;
+  objects = [];
+  variables = map variable_of x.0.1;
+  tables = [];
+  transitions = x.1.0;
+  «ground» = map ground_transition (range_with_len 0 (length x.1.0));
+  constraints = [];
+  base_cases = (let b : BaseCase = record { conditions = x.1.1; cost = nums.Fixed (pos 0) } in b) ∷ [];
+  bounds = [];
+  target = record { values = y.1 };
+}
 
 -- reading a domain and a problem
 abbrev pub model_read : List ℕ → List ℕ → Option Model

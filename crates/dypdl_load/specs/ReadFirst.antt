@@ -1,5 +1,5 @@
 -- Reading the two texts of the first form.
-use Rattle.std.specs.Prelude.{◌≡◌, ℕ, Bool, true, false, ◌==◌, List, [], ◌∷◌, ◌++◌, length, codes, Option, Some, None, ℤ, pos}
+use Rattle.std.specs.Prelude.{ℕ, Bool, false, ◌==◌, List, [], ◌∷◌, length, codes, Option, Some}
 use Rattle.std.specs.Str.{bytes_eq}
 use Rattle.dp_model.specs.declared.trees.Num.{Num}
 use Rattle.dp_model.specs.declared.trees.Cond.{Cond}

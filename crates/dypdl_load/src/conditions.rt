@@ -76,11 +76,7 @@ pub fn more_conditions<'a>(
 
 /// What a variable is set to.
 #[tactic(auto, unfolding(crate::specs::ReadFirst::value_at))]
-fn value<'a>(
-    alloc: Global,
-    variables: &[&[u8]],
-    bytes: &'a [u8],
-) -> Result<(Num, &'a [u8]), Stop>
+fn value<'a>(alloc: Global, variables: &[&[u8]], bytes: &'a [u8]) -> Result<(Num, &'a [u8]), Stop>
     requires { length variables.now < 2 ^ 32 }
     ensures { Gives (λ x. (x.0, x.1.now)) result (value_at (names variables.now) bytes.now) }
 {

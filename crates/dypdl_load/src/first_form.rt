@@ -68,5 +68,4 @@ pub fn load_first(alloc: Global, domain: &[u8], problem: &[u8]) -> Result<Model,
 /// Two texts mean one model at most.
 pub fn one_meaning()
     ensures { (domain problem : List ℕ) (m n : Model) → Means domain problem m → Means domain problem n → m ≡ n }
-{
-}
+{}

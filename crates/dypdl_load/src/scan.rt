@@ -119,9 +119,31 @@ pub fn are_different(words: &[&[u8]]) -> bool
 
 /// The words that expressions keep for themselves, of those that could be names.
 static RESERVED: [&[u8]; 25] = [
-    b"max", b"min", b"if", b"sum", b"union", b"intersection", b"difference", b"add", b"remove",
-    b"and", b"or", b"not", b"is_in", b"is_subset", b"is_empty", b"cost", b"true", b"false",
-    b"ceil", b"floor", b"round", b"trunc", b"sqrt", b"log", b"pow",
+    b"max",
+    b"min",
+    b"if",
+    b"sum",
+    b"union",
+    b"intersection",
+    b"difference",
+    b"add",
+    b"remove",
+    b"and",
+    b"or",
+    b"not",
+    b"is_in",
+    b"is_subset",
+    b"is_empty",
+    b"cost",
+    b"true",
+    b"false",
+    b"ceil",
+    b"floor",
+    b"round",
+    b"trunc",
+    b"sqrt",
+    b"log",
+    b"pow",
 ];
 
 fn is_reserved(word: &[u8]) -> bool

@@ -5,7 +5,8 @@ use super::*;
 use dp_model::{Compare, Cond, Effect, Num, PlainValue};
 use std::test::Fail;
 
-const DOMAIN: &str = "domain: a\nstate_variables:\n  - name: x\n    type: integer\ntransitions:\n  - name: inc\n    preconditions:\n      - (< x 3)\n    effects:\n      x: (+ x 1)\n    cost: (+ cost 2)\n  - name: jump\n    preconditions:\n      - (= x 0)\n    effects:\n      x: 3\n    cost: (+ cost 5)\nbase_cases:\n  - - (= x 3)\n";
+const DOMAIN: &str =
+    "domain: a\nstate_variables:\n  - name: x\n    type: integer\ntransitions:\n  - name: inc\n    preconditions:\n      - (< x 3)\n    effects:\n      x: (+ x 1)\n    cost: (+ cost 2)\n  - name: jump\n    preconditions:\n      - (= x 0)\n    effects:\n      x: 3\n    cost: (+ cost 5)\nbase_cases:\n  - - (= x 3)\n";
 
 const PROBLEM: &str = "domain: a\nproblem: one\ntarget:\n  x: 0\n";
 
@@ -36,7 +37,12 @@ fn a_small_model(rt: HostRuntime) -> Result<(), Fail> {
     assert_eq!(rt; inc.name.as_text(), "inc");
     assert!(rt; matches!(&inc.weight, Some(Num::Fixed(2))));
     for condition in inc.preconditions.list() {
-        assert!(rt; matches!(condition, Cond::Numbers(Compare::Less, Num::Var(0), Num::Fixed(3))));
+        assert!(rt;
+            matches!(
+                condition,
+                Cond::Numbers(Compare::Less, Num::Var(0), Num::Fixed(3))
+            )
+        );
     }
     let jump = &model.transitions.list()[1];
     assert_eq!(rt; jump.name.as_text(), "jump");
@@ -56,7 +62,10 @@ fn refused_texts(rt: HostRuntime) -> Result<(), Fail> {
     let domains = [
         ("(= x 3)\n", "(= x 3)"),
         ("(= x 3)\n", "(= x 3)\n\n"),
-        ("    type: integer\n", "    type: integer\n  - name: y\n    type: integer\n"),
+        (
+            "    type: integer\n",
+            "    type: integer\n  - name: y\n    type: integer\n",
+        ),
         ("(< x 3)", "(< x 1234567)"),
         ("(< x 3)", "(< x +5)"),
         ("(< x 3)", "(< x -)"),

@@ -1,6 +1,6 @@
-use Rattle.std.proofs.Common.{◌≡◌, ◌++◌, ◌∷◌, [], ◌∙◌, sym, true, false, not}
+use Rattle.std.proofs.Common.{◌∙◌, sym}
 use Rattle.std.proofs.lemmas.Result.{err_from_is_err_and}
-use Rattle.dypdl_load.specs.Reading.{names, many, with_front, begins}
+use Rattle.dypdl_load.specs.Reading.{names}
 use Rattle.dypdl_load.specs.ReadFirst.{condition_line_at}
 use Rattle.dypdl_load.proofs.Loops.{goes_on, stopped, is_over, is_full}
 use Rattle.dypdl_load.proofs.conditions.more_conditions.Goals as goal

@@ -1,4 +1,4 @@
-use Rattle.std.proofs.Common.{◌≡◌, ◌-◌, length}
+use Rattle.std.proofs.Common.{◌≡◌, ◌-◌}
 use Rattle.std.specs.Prelude.{codes}
 use Rattle.dypdl_load.specs.Reading.{names, many, with_front}
 use Rattle.dypdl_load.specs.ReadFirst.{variable_line_at}

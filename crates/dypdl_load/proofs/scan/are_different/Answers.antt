@@ -1,4 +1,4 @@
-use Rattle.std.proofs.Common.{◌≡◌, ℕ, ◌+◌, ◌-◌, List, [], length, get_or, take, drop, Bor, sym, ap, ◌∙◌, arith}
+use Rattle.std.proofs.Common.{◌≡◌, ℕ, ◌+◌, ◌-◌, List, [], length, get_or, take, drop, Bor, sym, ap, ◌∙◌}
 use Rattle.std.specs.Prelude.{position, is_some}
 use Rattle.std.specs.List.{list_any}
 use Rattle.std.specs.Str.{bytes_eq}
@@ -18,11 +18,11 @@ returns-then-is_some c =
     let nothing : Bor (List ℕ) = record { ref_ptr = (0, 0); now = [] } in
     let w : List ℕ = (get_or c.args.words.now c.loop-i.i nothing).now in
     differ_here bytes_eq (λ (t : Bor (List ℕ)). t.now) c.args.words.now c.loop-i.i nothing _ c.loop-i-test.true
-      (later_alike c.args.words.now (c.loop-i.i + 1) w ∙ ap is_some (sym c.place_among.ensures.place) ∙ sym c.is_some.ensures ∙ c.if-is_some.true) c.loop-i.invariant
+    (later_alike c.args.words.now (c.loop-i.i + 1) w ∙ ap is_some (sym c.place_among.ensures.place) ∙ sym c.is_some.ensures ∙ c.if-is_some.true) c.loop-i.invariant
 
 pub loop-i-preserved : goal.loop-i-preserved
 loop-i-preserved c =
     let nothing : Bor (List ℕ) = record { ref_ptr = (0, 0); now = [] } in
     let w : List ℕ = (get_or c.args.words.now c.loop-i.i nothing).now in
     differ_next bytes_eq (λ (t : Bor (List ℕ)). t.now) c.args.words.now c.loop-i.i nothing _ c.loop-i-test.true
-      (later_alike c.args.words.now (c.loop-i.i + 1) w ∙ ap is_some (sym c.place_among.ensures.place) ∙ sym c.is_some.ensures ∙ c.if-is_some.false) c.loop-i.invariant
+    (later_alike c.args.words.now (c.loop-i.i + 1) w ∙ ap is_some (sym c.place_among.ensures.place) ∙ sym c.is_some.ensures ∙ c.if-is_some.false) c.loop-i.invariant

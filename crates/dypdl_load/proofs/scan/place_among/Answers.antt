@@ -1,4 +1,4 @@
-use Rattle.std.proofs.Common.{◌≡◌, ℕ, List, [], Bor, sym, ◌∙◌, arith}
+use Rattle.std.proofs.Common.{ℕ, List, [], Bor, sym, ◌∙◌, arith}
 use Rattle.std.specs.Str.{bytes_eq}
 use Rattle.dypdl_load.proofs.Texts.{place_whole, place_here, place_none}
 use Rattle.dypdl_load.proofs.scan.place_among.Goals as goal

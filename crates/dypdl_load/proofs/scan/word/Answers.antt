@@ -1,6 +1,3 @@
-use Rattle.std.proofs.Common.{◌≡◌, ◌∙◌, sym, subst, take, ap, ℕ, List, true}
-use Rattle.std.specs.List.{list_all, prefix_len}
-use Rattle.std.specs.Str.{IsAscii}
 use Rattle.dypdl_load.specs.FirstForm.{is_name_byte}
 use Rattle.dypdl_load.proofs.Front.{front_passes}
 use Rattle.dypdl_load.proofs.Ascii.{name_ascii}

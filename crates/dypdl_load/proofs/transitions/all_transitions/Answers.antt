@@ -1,7 +1,7 @@
-use Rattle.std.proofs.Common.{◌≡◌, ◌++◌, ◌∷◌, [], ◌∙◌, sym, true, false, length}
+use Rattle.std.proofs.Common.{◌∙◌, sym}
 use Rattle.std.proofs.lemmas.Result.{err_from_is_err_and}
 use Rattle.std.specs.Prelude.{codes}
-use Rattle.dypdl_load.specs.Reading.{names, many, with_front, begins}
+use Rattle.dypdl_load.specs.Reading.{names}
 use Rattle.dypdl_load.specs.ReadFirst.{transition_at}
 use Rattle.dypdl_load.proofs.Loops.{goes_on, stopped, is_over, is_full}
 use Rattle.dypdl_load.proofs.transitions.all_transitions.Goals as goal
