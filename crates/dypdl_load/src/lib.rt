@@ -11,7 +11,7 @@ mod scan;
 mod stop;
 mod transitions;
 
-pub use first_form::{FirstEnd, load_first};
+pub use first_form::{FirstEnd, load_first, one_meaning};
 
 #[cfg(test)]
 mod tests;
