@@ -24,7 +24,7 @@ bound_step a b p h =
     let m : (step a b + 1) * p ≤ ((a + 1) * 10) * p = mul-le-mul_right p k in
     omega (arith, m)
 
-fold_small : (a : ℕ) (xs : List ℕ) → list_all is_digit xs ≡ true → fold step a xs + 1 ≤ (a + 1) * 10 ^ length xs
+pub fold_small : (a : ℕ) (xs : List ℕ) → list_all is_digit xs ≡ true → fold step a xs + 1 ≤ (a + 1) * 10 ^ length xs
 fold_small a [] h = omega arith
 fold_small a (x ∷ xs) h =
     let p = and_parts (is_digit x) (list_all is_digit xs) h in

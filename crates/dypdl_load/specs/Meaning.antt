@@ -70,7 +70,7 @@ model_of d p = record {
   variables = map variable_of d.variables;
   tables = [];
   transitions = map (transition_of d.variables) d.moves;
-  ground = map (λ (i : ℕ). let g : Ground = record { transition = i; args = [] } in g) (range_with_len 0 (length d.moves));
+  «ground» = map (λ (i : ℕ). let g : Ground = record { transition = i; args = [] } in g) (range_with_len 0 (length d.moves));
   constraints = [];
   base_cases = base_case_of d ∷ [];
   bounds = [];
