@@ -14,10 +14,10 @@ use Rattle.dypdl_load.specs.declared.first_form.FirstEnd.{FirstEnd}
 use Rattle.dypdl_load.specs.declared.first_form.FirstEnd.TheVariants as ends
 use Rattle.dypdl_load.specs.declared.stop.Stop.{Stop}
 use Rattle.dypdl_load.specs.FirstForm.{DomainForm, ProblemForm, IsWord}
-use Rattle.dypdl_load.specs.Meaning.{transition_of, model_of, SpellsDomain, Means, IsRefusedAt}
+use Rattle.dypdl_load.specs.Meaning.{ground_transition, transition_of, model_of, SpellsDomain, Means, IsRefusedAt}
 use Rattle.dypdl_load.specs.Reading.{◌>>=◌, Gives, names}
 use Rattle.dypdl_load.specs.ReadFirst.{domain_of, problem_of}
-use Rattle.dypdl_load.specs.Parts.{domain_parts, ground_transition, model_made, model_read, StopsAt, Loads}
+use Rattle.dypdl_load.specs.Parts.{domain_parts, model_made, model_read, StopsAt, Loads}
 use Rattle.dypdl_load.proofs.Ascii.{name_ascii}
 use Rattle.dypdl_load.proofs.Readers.{bind_some, then_some, some_is}
 use Rattle.dypdl_load.proofs.DomainLaws.{parts_of, domain_takes, domain_again}

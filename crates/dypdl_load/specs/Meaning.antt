@@ -59,6 +59,14 @@ variable_of name = record { name = name; kind = kinds.Integer; preference = pref
 abbrev pub base_case_of : DomainForm → BaseCase
 base_case_of d = record { conditions = map (condition_of d.variables) d.conditions; cost = nums.Fixed (pos 0) }
 
+-- a transition without parameters, by its number
+abbrev pub ground_transition : ℕ → Ground
+ground_transition i = record { transition = i; args = [] }
+
+-- the ground transitions of so many such transitions, in their order
+abbrev pub ground : ℕ → List Ground
+ground count = map ground_transition (range_with_len 0 count)
+
 -- a model that minimizes, whose transitions have no parameters and add their weights
 abbrev pub model_of : DomainForm → ProblemForm → Model
 model_of d p = record {
@@ -70,7 +78,7 @@ model_of d p = record {
   variables = map variable_of d.variables;
   tables = [];
   transitions = map (transition_of d.variables) d.moves;
-  «ground» = map (λ (i : ℕ). let g : Ground = record { transition = i; args = [] } in g) (range_with_len 0 (length d.moves));
+  ground = ground (length d.moves);
   constraints = [];
   base_cases = base_case_of d ∷ [];
   bounds = [];

@@ -1,10 +1,8 @@
 -- What the structs of the readers hold, without where it lies in memory, and the model that is made of it.
 use Rattle.std.specs.Prelude.{◌≡◌, ℕ, true, ◌⊎◌, List, [], ◌∷◌, length, map, Option, Some, None, Result, Ok, Err, pos}
-use Rattle.std.specs.List.{range_with_len}
 use Rattle.dp_model.specs.declared.trees.Cond.{Cond}
 use Rattle.dp_model.specs.declared.trees.Num.TheVariants as nums
 use Rattle.dp_model.specs.declared.parts.Transition.{Transition}
-use Rattle.dp_model.specs.declared.parts.Ground.{Ground}
 use Rattle.dp_model.specs.declared.parts.BaseCase.{BaseCase}
 use Rattle.dp_model.specs.declared.parts.PlainValue.{PlainValue}
 use Rattle.dp_model.specs.declared.parts.JoinOp.TheVariants as joins
@@ -13,16 +11,12 @@ use Rattle.dp_model.specs.declared.whole.Model.{Model}
 use Rattle.dypdl_load.specs.declared.domain.DomainParts.{DomainParts}
 use Rattle.dypdl_load.specs.declared.first_form.FirstEnd.{FirstEnd}
 use Rattle.dypdl_load.specs.declared.first_form.FirstEnd.TheVariants as ends
-use Rattle.dypdl_load.specs.Meaning.{variable_of}
+use Rattle.dypdl_load.specs.Meaning.{variable_of, ground}
 use Rattle.dypdl_load.specs.Reading.{◌>>=◌, names}
 use Rattle.dypdl_load.specs.ReadFirst.{domain_of, problem_of}
 
 abbrev pub domain_parts : DomainParts → (List ℕ × List (List ℕ)) × (List Transition × List Cond)
 domain_parts d = ((d.name, names d.variables.items), (d.transitions.items, d.conditions.items))
-
--- a transition without parameters, by its number
-abbrev pub ground_transition : ℕ → Ground
-ground_transition i = record { transition = i; args = [] }
 
 -- the model of what was read in a domain and a problem
 abbrev pub model_made : (List ℕ × List (List ℕ)) × (List Transition × List Cond) → List ℕ × List PlainValue → Model
@@ -35,7 +29,7 @@ model_made x y = record {
   variables = map variable_of x.0.1;
   tables = [];
   transitions = x.1.0;
-  «ground» = map ground_transition (range_with_len 0 (length x.1.0));
+  ground = ground (length x.1.0);
   constraints = [];
   base_cases = (let b : BaseCase = record { conditions = x.1.1; cost = nums.Fixed (pos 0) } in b) ∷ [];
   bounds = [];

@@ -3,9 +3,9 @@
 ghost use Rattle.std.specs.Prelude.{◌≡◌, ◌≤◌, ◌∷◌, [], All, IfOk, length, map, pos};
 ghost use Rattle.std.specs.List.{range_with_len};
 ghost use Rattle.std.specs.Str.{IsAscii};
-ghost use Rattle.dypdl_load.specs.Meaning.{variable_of};
+ghost use Rattle.dypdl_load.specs.Meaning.{ground_transition, variable_of};
 ghost use Rattle.dypdl_load.specs.Reading.{names};
-ghost use Rattle.dypdl_load.specs.Parts.{domain_parts, ground_transition, model_made};
+ghost use Rattle.dypdl_load.specs.Parts.{domain_parts, model_made};
 
 use crate::domain::DomainParts;
 use crate::scan::text_of;

@@ -1,6 +1,6 @@
 use Rattle.std.proofs.Common.{arith}
 use Rattle.std.proofs.lemmas.List.FromFn.{map-range_with_len_more}
-use Rattle.dypdl_load.specs.Parts.{ground_transition}
+use Rattle.dypdl_load.specs.Meaning.{ground_transition}
 use Rattle.dypdl_load.proofs.assembly.ground_transitions.Goals as goal
 
 pub loop-transition-preserved : goal.loop-transition-preserved
