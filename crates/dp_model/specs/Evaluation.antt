@@ -1,7 +1,7 @@
 -- The value of an expression in a state, or the first fault that is met, over whole numbers without limit and
 -- ascending lists of members. It is a fold over the trees: one line for each form of expression. An expression
 -- takes the values of the parameters that are in force, in order, since a `forall` adds one.
-use Rattle.std.specs.Prelude.{◌≡◌, ℕ, zero, suc, ◌+◌, ◌*◌, ◌^◌, Bool, true, false, not, ◌&&◌, ◌||◌, nat_lt, nat_eq, ◌==◌, if◌then◌else◌, ◌⊎◌, List, [], ◌∷◌, ◌++◌, length, filter, slice_get, slice_index, Option, Some, None, option_and_then, unwrap_or, Result, Ok, Err, ℤ, pos, negsuc, ◌+ℤ◌, ◌-ℤ◌, ◌*ℤ◌, int_div, int_rem, int_lt, int_le}
+use Rattle.std.specs.Prelude.{ℕ, ◌+◌, ◌*◌, Bool, true, false, not, ◌&&◌, ◌||◌, nat_lt, nat_eq, ◌==◌, if◌then◌else◌, ◌⊎◌, List, [], ◌∷◌, ◌++◌, length, filter, slice_get, slice_index, Option, Some, None, option_and_then, unwrap_or, Result, Ok, Err, ℤ, pos, negsuc, ◌+ℤ◌, ◌-ℤ◌, ◌*ℤ◌, int_div, int_rem, int_lt, int_le}
 use Rattle.std.specs.List.{list_any, list_all, range_with_len, flat_map}
 use Rattle.std.specs.Int.{int_min, int_max}
 use Rattle.std.specs.Ordering.{int_eq}
@@ -9,7 +9,7 @@ use Rattle.std.specs.Str.{bytes_eq}
 use Rattle.std.proofs.Common.{inl, inr}
 use Rattle.dp_model.specs.Costs.{ranged}
 use Rattle.dp_model.specs.declared.answers.FaultKind.{FaultKind}
-use Rattle.dp_model.specs.declared.answers.FaultKind.TheVariants.{Range, ZeroDivisor, Negative, Index}
+use Rattle.dp_model.specs.declared.answers.FaultKind.TheVariants.{ZeroDivisor, Negative, Index}
 use Rattle.dp_model.specs.declared.trees.NumOp.{NumOp}
 use Rattle.dp_model.specs.declared.trees.NumOp.TheVariants as number_operations
 use Rattle.dp_model.specs.declared.trees.SetOp.{SetOp}

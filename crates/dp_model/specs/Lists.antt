@@ -1,5 +1,5 @@
 -- Lists of ground transitions: where they lead, and which of them are legal, at which cost.
-use Rattle.std.specs.Prelude.{◌≡◌, ℕ, List, [], ◌∷◌, Option, Some, None, IfSome, ℤ}
+use Rattle.std.specs.Prelude.{◌≡◌, ℕ, List, [], ◌∷◌, Option, None, IfSome, ℤ}
 use Rattle.dp_model.specs.Costs.{InRange, join, join_onto}
 use Rattle.dp_model.specs.States.{Base, Inner, Step}
 use Rattle.dp_model.specs.declared.parts.PlainState.{PlainState}

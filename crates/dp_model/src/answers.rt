@@ -1,3 +1,5 @@
+ghost use Rattle.std.specs.Prelude.{◌≡◌};
+
 use crate::seq::Seq;
 
 /// Why an expression has no value: a result out of range, a divisor of 0, a number below 0 where a member of an
@@ -33,11 +35,50 @@ pub struct FaultAt {
     pub kind: FaultKind,
 }
 
+impl FaultAt {
+    /// The ground transitions from the target to the state, by their numbers.
+    pub fn steps(&self) -> &Seq<u32>
+        ensures { result.now ≡ self.now.steps }
+    {
+        &self.steps
+    }
+
+    /// The expression that has no value.
+    pub fn spot(&self) -> Spot
+        ensures { result ≡ self.now.spot }
+    {
+        self.spot
+    }
+
+    /// Why it has none.
+    pub fn kind(&self) -> FaultKind
+        ensures { result ≡ self.now.kind }
+    {
+        self.kind
+    }
+}
+
 /// A solution that was found: its cost, and its list of ground transitions.
 #[derive(Debug, Drop)]
 pub struct Found {
     pub cost: i64,
     pub steps: Seq<u32>,
+}
+
+impl Found {
+    /// The cost of the list.
+    pub fn cost(&self) -> i64
+        ensures { result ≡ self.now.cost }
+    {
+        self.cost
+    }
+
+    /// The ground transitions, by their numbers.
+    pub fn steps(&self) -> &Seq<u32>
+        ensures { result.now ≡ self.now.steps }
+    {
+        &self.steps
+    }
 }
 
 /// Why a list of steps is not legal.
@@ -78,4 +119,27 @@ pub struct Options {
     pub workers: u32,
     pub budget: u64,
     pub prune: bool,
+}
+
+impl Options {
+    /// How many shards search.
+    pub fn workers(&self) -> u32
+        ensures { result ≡ self.now.workers }
+    {
+        self.workers
+    }
+
+    /// How many visits all passes may make.
+    pub fn budget(&self) -> u64
+        ensures { result ≡ self.now.budget }
+    {
+        self.budget
+    }
+
+    /// Whether dual bounds and dominance are used.
+    pub fn prune(&self) -> bool
+        ensures { result ≡ self.now.prune }
+    {
+        self.prune
+    }
 }

@@ -22,3 +22,6 @@ pub use seq::Seq;
 pub use text::Text;
 pub use trees::{Arg, Compare, Cond, Num, NumOp, Over, SetEx, SetOp};
 pub use whole::Model;
+
+#[cfg(test)]
+mod tests;

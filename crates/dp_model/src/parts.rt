@@ -1,3 +1,5 @@
+ghost use Rattle.std.specs.Prelude.{◌≡◌};
+
 use crate::seq::Seq;
 use crate::text::Text;
 use crate::trees::{Cond, Num, Over, SetEx};
@@ -7,6 +9,22 @@ use crate::trees::{Cond, Num, Over, SetEx};
 pub struct ObjectType {
     pub name: Text,
     pub count: u32,
+}
+
+impl ObjectType {
+    /// Its name.
+    pub fn name(&self) -> &Text
+        ensures { result.now ≡ self.now.name }
+    {
+        &self.name
+    }
+
+    /// How many members it has.
+    pub fn count(&self) -> u32
+        ensures { result ≡ self.now.count }
+    {
+        self.count
+    }
 }
 
 /// What a variable holds. `Element` and `Set` name an object type.
@@ -33,6 +51,29 @@ pub struct Variable {
     pub preference: Preference,
 }
 
+impl Variable {
+    /// Its name.
+    pub fn name(&self) -> &Text
+        ensures { result.now ≡ self.now.name }
+    {
+        &self.name
+    }
+
+    /// What it holds.
+    pub fn kind(&self) -> VarKind
+        ensures { result ≡ self.now.kind }
+    {
+        self.kind
+    }
+
+    /// Which of its values dominate others.
+    pub fn preference(&self) -> Preference
+        ensures { result ≡ self.now.preference }
+    {
+        self.preference
+    }
+}
+
 /// The cells of a table in row order, the first argument slowest. `Sets` has the object type of its sets, and
 /// each set's members ascending.
 #[derive(Debug, Drop)]
@@ -49,6 +90,36 @@ pub struct TableData {
     pub args: Seq<u32>,
     pub element: bool,
     pub cells: Cells,
+}
+
+impl TableData {
+    /// Its name.
+    pub fn name(&self) -> &Text
+        ensures { result.now ≡ self.now.name }
+    {
+        &self.name
+    }
+
+    /// The object type of each argument.
+    pub fn args(&self) -> &Seq<u32>
+        ensures { result.now ≡ self.now.args }
+    {
+        &self.args
+    }
+
+    /// Whether its numbers are members of an object type.
+    pub fn element(&self) -> bool
+        ensures { result ≡ self.now.element }
+    {
+        self.element
+    }
+
+    /// Its cells, in row order.
+    pub fn cells(&self) -> &Cells
+        ensures { result.now ≡ self.now.cells }
+    {
+        &self.cells
+    }
 }
 
 /// What a transition does to one variable, named by its number.
@@ -70,6 +141,50 @@ pub struct Transition {
     pub weight: Option<Num>,
 }
 
+impl Transition {
+    /// Its name.
+    pub fn name(&self) -> &Text
+        ensures { result.now ≡ self.now.name }
+    {
+        &self.name
+    }
+
+    /// What each parameter ranges over.
+    pub fn params(&self) -> &Seq<Over>
+        ensures { result.now ≡ self.now.params }
+    {
+        &self.params
+    }
+
+    /// Whether it is tested before others, and alone where it is enabled.
+    pub fn forced(&self) -> bool
+        ensures { result ≡ self.now.forced }
+    {
+        self.forced
+    }
+
+    /// What must hold, in the order of trial.
+    pub fn preconditions(&self) -> &Seq<Cond>
+        ensures { result.now ≡ self.now.preconditions }
+    {
+        &self.preconditions
+    }
+
+    /// What it does to each variable that it sets.
+    pub fn effects(&self) -> &Seq<Effect>
+        ensures { result.now ≡ self.now.effects }
+    {
+        &self.effects
+    }
+
+    /// What is joined to the cost.
+    pub fn weight(&self) -> &Option<Num>
+        ensures { result.now ≡ self.now.weight }
+    {
+        &self.weight
+    }
+}
+
 /// A ground transition: a transition, named by its number, and a value for each parameter.
 #[derive(Debug, Drop)]
 pub struct Ground {
@@ -77,11 +192,43 @@ pub struct Ground {
     pub args: Seq<u32>,
 }
 
+impl Ground {
+    /// The number of its transition.
+    pub fn transition(&self) -> u32
+        ensures { result ≡ self.now.transition }
+    {
+        self.transition
+    }
+
+    /// The values of the parameters.
+    pub fn args(&self) -> &Seq<u32>
+        ensures { result.now ≡ self.now.args }
+    {
+        &self.args
+    }
+}
+
 /// A base case: a state that meets all its conditions is base, with this cost.
 #[derive(Debug, Drop)]
 pub struct BaseCase {
     pub conditions: Seq<Cond>,
     pub cost: Num,
+}
+
+impl BaseCase {
+    /// What a base state meets.
+    pub fn conditions(&self) -> &Seq<Cond>
+        ensures { result.now ≡ self.now.conditions }
+    {
+        &self.conditions
+    }
+
+    /// What such a state costs.
+    pub fn cost(&self) -> &Num
+        ensures { result.now ≡ self.now.cost }
+    {
+        &self.cost
+    }
 }
 
 /// The value of a variable. The members of a set are ascending.
@@ -95,6 +242,15 @@ pub enum PlainValue {
 #[derive(Debug, Drop)]
 pub struct PlainState {
     pub values: Seq<PlainValue>,
+}
+
+impl PlainState {
+    /// The value of each variable.
+    pub fn values(&self) -> &Seq<PlainValue>
+        ensures { result.now ≡ self.now.values }
+    {
+        &self.values
+    }
 }
 
 /// How costs are joined.

@@ -1,3 +1,5 @@
+ghost use Rattle.std.specs.Prelude.{◌≡◌};
+
 use crate::parts::{
     BaseCase, Ground, JoinOp, ObjectType, PlainState, TableData, Transition, Variable,
 };
@@ -22,4 +24,97 @@ pub struct Model {
     pub base_cases: Seq<BaseCase>,
     pub bounds: Seq<Num>,
     pub target: PlainState,
+}
+
+impl Model {
+    /// The domain's name.
+    pub fn domain(&self) -> &Text
+        ensures { result.now ≡ self.now.domain }
+    {
+        &self.domain
+    }
+
+    /// The problem's name.
+    pub fn problem(&self) -> &Text
+        ensures { result.now ≡ self.now.problem }
+    {
+        &self.problem
+    }
+
+    /// Whether the lesser of two costs is better.
+    pub fn minimize(&self) -> bool
+        ensures { result ≡ self.now.minimize }
+    {
+        self.minimize
+    }
+
+    /// How costs are joined.
+    pub fn join(&self) -> JoinOp
+        ensures { result ≡ self.now.join }
+    {
+        self.join
+    }
+
+    /// The object types.
+    pub fn objects(&self) -> &Seq<ObjectType>
+        ensures { result.now ≡ self.now.objects }
+    {
+        &self.objects
+    }
+
+    /// The state variables.
+    pub fn variables(&self) -> &Seq<Variable>
+        ensures { result.now ≡ self.now.variables }
+    {
+        &self.variables
+    }
+
+    /// The tables.
+    pub fn tables(&self) -> &Seq<TableData>
+        ensures { result.now ≡ self.now.tables }
+    {
+        &self.tables
+    }
+
+    /// The transitions, with their parameters.
+    pub fn transitions(&self) -> &Seq<Transition>
+        ensures { result.now ≡ self.now.transitions }
+    {
+        &self.transitions
+    }
+
+    /// The ground transitions, in order of definition.
+    pub fn ground(&self) -> &Seq<Ground>
+        ensures { result.now ≡ self.now.ground }
+    {
+        &self.ground
+    }
+
+    /// What every allowed state meets.
+    pub fn constraints(&self) -> &Seq<Cond>
+        ensures { result.now ≡ self.now.constraints }
+    {
+        &self.constraints
+    }
+
+    /// The base cases.
+    pub fn base_cases(&self) -> &Seq<BaseCase>
+        ensures { result.now ≡ self.now.base_cases }
+    {
+        &self.base_cases
+    }
+
+    /// The dual bounds.
+    pub fn bounds(&self) -> &Seq<Num>
+        ensures { result.now ≡ self.now.bounds }
+    {
+        &self.bounds
+    }
+
+    /// The target state.
+    pub fn target(&self) -> &PlainState
+        ensures { result.now ≡ self.now.target }
+    {
+        &self.target
+    }
 }

@@ -1,0 +1,15 @@
+pub mod Ascii
+pub mod Differ
+pub mod Digits
+pub mod Texts
+pub mod Front
+pub mod Loops
+pub mod Readers
+pub mod Words
+pub mod Settings
+pub mod ConditionLaws
+pub mod TransitionLaws
+pub mod DomainLaws
+pub mod ProblemLaws
+pub mod Meanings
+pub mod Seen

@@ -1,0 +1,14 @@
+pub mod ReportPieces
+pub mod ReportPuts
+pub mod WordsLists
+pub mod Values
+pub mod Layers
+pub mod Steps
+pub mod Paths
+pub mod Expanding
+pub mod Exhausting
+pub mod Passing
+pub mod AtTarget
+pub mod Loaded
+pub mod Programs
+pub mod Concluding

@@ -1,0 +1,9 @@
+pub mod Words
+pub mod Outcomes
+pub mod Jobs
+pub mod Pieces
+pub mod Puts
+pub mod Plain
+pub mod Search
+pub mod Solving
+pub mod Runs

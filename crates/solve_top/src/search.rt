@@ -1,0 +1,11 @@
+//! The plain search: passes of complete anytime beam search with one list of nodes per layer.
+
+mod expressions;
+mod nodes;
+mod passes;
+mod states;
+mod successors;
+mod visits;
+
+pub use passes::{PassEnd, Tally, run_pass};
+pub use states::{is_base, target_numbers};
