@@ -5,6 +5,9 @@ use super::*;
 use dp_outside::{FineShelf, FineSink, OpenGate};
 use std::test::Fail;
 
+mod devices;
+mod first_form;
+
 const FROM_MINUS_ONE: &str = "domain: d\nproblem: p\ntarget:\n  x: -1\n";
 
 const FROM_ZERO: &str = "domain: d\nproblem: p\ntarget:\n  x: 0\n";
@@ -545,6 +548,37 @@ fn prints_what_is_known_of_small_models(rt: HostRuntime) -> Result<(), Fail> {
             ends_so(&rt, rt.alloc(), &words, (domain, problem), (text, status))?,
             "{text}"
         );
+    }
+    Ok(())
+}
+
+#[test]
+fn keeps_to_its_budget(rt: HostRuntime) -> Result<(), Fail> {
+    let from_0 = "domain: a\nproblem: one\ntarget:\n  x: 0\n";
+    for (budget, text, status) in [
+        (
+            "3",
+            "solution 5 1\njump\npass 1 share 1 visited 3 dropped 0\nverdict optimal 5\n",
+            0,
+        ),
+        (
+            "2",
+            "solution 5 1\njump\npass 1 share 1 visited 2 dropped 0\nverdict stopped 2\n",
+            11,
+        ),
+        (
+            "00000002",
+            "solution 5 1\njump\npass 1 share 1 visited 2 dropped 0\nverdict stopped 2\n",
+            11,
+        ),
+        ("0", USAGE, 2),
+        ("10000001", USAGE, 2),
+        ("000000002", USAGE, 2),
+        ("+2", USAGE, 2),
+        ("", USAGE, 2),
+    ] {
+        let words = ["solve", "a", "a1", "--prune", "off", "--budget", budget];
+        assert!(rt; ends_so(&rt, rt.alloc(), &words, (CLIMB, from_0), (text, status))?, "{budget}");
     }
     Ok(())
 }
