@@ -6,7 +6,6 @@ use dp_outside::{FineShelf, FineSink, OpenGate};
 use std::test::Fail;
 
 mod devices;
-mod first_form;
 
 const FROM_MINUS_ONE: &str = "domain: d\nproblem: p\ntarget:\n  x: -1\n";
 
@@ -438,6 +437,7 @@ fn ends_before_a_search(rt: HostRuntime) -> Result<(), Fail> {
             (DOMAIN, FROM_TWO),
             (USAGE, 2),
         ),
+        (["solve", "a"].as_slice(), (DOMAIN, FROM_TWO), (USAGE, 2)),
         (
             ["solve", "a", "a1"].as_slice(),
             (DOMAIN, FROM_TWO),
@@ -578,7 +578,10 @@ fn keeps_to_its_budget(rt: HostRuntime) -> Result<(), Fail> {
         ("", USAGE, 2),
     ] {
         let words = ["solve", "a", "a1", "--prune", "off", "--budget", budget];
-        assert!(rt; ends_so(&rt, rt.alloc(), &words, (CLIMB, from_0), (text, status))?, "{budget}");
+        assert!(rt;
+            ends_so(&rt, rt.alloc(), &words, (CLIMB, from_0), (text, status))?,
+            "{budget}"
+        );
     }
     Ok(())
 }
