@@ -1,6 +1,9 @@
 // Solves a model in two files, as the words of the command line ask, and ends with the status of the run.
 #![tactic(auto)]
 
+ghost use Rattle.std.specs.Prelude.{◌≡◌, ◌⊎◌, ◌∷◌, ◌++◌, [], codes};
+ghost use Rattle.dp_outside.specs.Outside.{Rose, Takes, TakesFront};
+
 use dp_outside::{FileShelf, OpenGate, OutSink, Sink, put_all};
 use solve_top::run;
 use std::alloc::Global;
@@ -24,7 +27,11 @@ fn words_of<R: Env + Alloc<A = Global>>(rt: &R) -> io::Result<Vec<String>> {
 }
 
 /// Prints that memory ran out before the words were read.
-fn run_out<S: Sink>(out: &mut S) -> u8 {
+fn run_out<S: Sink>(out: &mut S) -> u8
+    ensures printed { ((result ≡ 6) × Takes (S.taken out.old) (S.taken out.new) (codes "memory" ++ 10 ∷ []))
+        ⊎ ((result ≡ 5) × TakesFront (S.taken out.old) (S.taken out.new) (codes "memory" ++ 10 ∷ [])) }
+    ensures failed { result ≡ 5 → Rose (S.faults out.old) (S.faults out.new) }
+{
     match put_all(out, b"memory\n") {
         Ok(()) => NO_MEMORY,
         Err(_) => WRITE_FAULT,
