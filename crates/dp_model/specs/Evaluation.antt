@@ -1,7 +1,7 @@
 -- The value of an expression in a state, or the first fault that is met, over whole numbers without limit and
 -- ascending lists of members. It is a fold over the trees: one line for each form of expression. An expression
 -- takes the values of the parameters that are in force, in order, since a `forall` adds one.
-use Rattle.std.specs.Prelude.{ℕ, ◌+◌, ◌*◌, Bool, true, false, not, ◌&&◌, ◌||◌, nat_lt, nat_eq, ◌==◌, if◌then◌else◌, ◌⊎◌, List, [], ◌∷◌, ◌++◌, length, filter, slice_get, slice_index, Option, Some, None, option_and_then, unwrap_or, Result, Ok, Err, ℤ, pos, negsuc, ◌+ℤ◌, ◌-ℤ◌, ◌*ℤ◌, int_div, int_rem, int_lt, int_le}
+use Rattle.std.specs.Prelude.{ℕ, ◌+◌, ◌*◌, Bool, true, false, not, ◌&&◌, ◌||◌, nat_lt, nat_eq, ◌==◌, if◌then◌else◌, ◌⊎◌, List, [], ◌∷◌, ◌++◌, length, filter, map, slice_get, slice_index, Option, Some, None, option_and_then, unwrap_or, Result, Ok, Err, ℤ, pos, negsuc, ◌+ℤ◌, ◌-ℤ◌, ◌*ℤ◌, int_div, int_rem, int_lt, int_le}
 use Rattle.std.specs.List.{list_any, list_all, range_with_len, flat_map}
 use Rattle.std.specs.Int.{int_min, int_max}
 use Rattle.std.specs.Ordering.{int_eq}
@@ -175,11 +175,7 @@ choices_of (count ∷ counts) (inr set ∷ given) = choices_of counts given >>= 
 -- each way to choose one of each
 abbrev pub ways : List (List ℕ) → List (List ℕ)
 ways [] = [] ∷ []
-ways (set ∷ sets) = flat_map (λ k. prefixed k (ways sets)) set
-  where
-    prefixed : ℕ → List (List ℕ) → List (List ℕ)
-    prefixed k [] = []
-    prefixed k (members ∷ rest) = (k ∷ members) ∷ prefixed k rest
+ways (set ∷ sets) = flat_map (λ k. map (λ members. k ∷ members) (ways sets)) set
 
 abbrev pub total_of : Model → ℕ → List (List ℕ) → ℤ
 total_of m t [] = pos 0

@@ -5,3 +5,4 @@ pub mod Evaluation
 pub mod States
 pub mod Lists
 pub mod Records
+pub mod Typing

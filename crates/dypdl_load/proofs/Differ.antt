@@ -1,15 +1,10 @@
 -- Lists of which no two items are alike.
-use Rattle.std.proofs.Common.{◌≡◌, ℕ, ◌+◌, ◌<◌, Bool, true, false, not, ◌&&◌, List, [], ◌∷◌, length, get_or, drop, map, refl, sym, ap, ◌∙◌, add-one, drop-cons}
+use Rattle.std.proofs.Common.{◌≡◌, ℕ, Bool, true, not, List, [], ◌∷◌, map, refl, sym, ◌∙◌}
 use Rattle.std.specs.List.{list_any, AllByRecursion}
 use Rattle.std.specs.Str.{bytes_eq}
 use Rattle.std.proofs.lemmas.Bool.{and_parts, and_from}
 use Rattle.dypdl_load.specs.FirstForm.{AreDistinct, is_among}
 use Rattle.dypdl_load.specs.Reading.{differ}
-
-pub differ_more : {X : Type 0} (same : X → X → Bool) (xs : List X) (x : X) (others : List X) (r : Bool) → xs ≡ x ∷ others → list_any (same x) others ≡ false → differ same xs ≡ r → differ same others ≡ r
-differ_more same xs x others r split alone so_far =
-    let e : differ same xs ≡ differ same others = ap (differ same) split ∙ ap (λ (b : Bool). not b && differ same others) alone in
-    sym e ∙ so_far
 
 pub differ_from : (ws : List (List ℕ)) → AreDistinct ws → differ bytes_eq ws ≡ true
 differ_from [] d = refl
@@ -33,17 +28,3 @@ module _ {P X : Type 0} (same : X → X → Bool) (of : P → X) (key : P → Li
 
   pub distinct_of : (ps : List P) → AllByRecursion Fits ps → differ same (map of ps) ≡ true → AreDistinct (map key ps)
   distinct_of ps fs e = differ_to (map key ps) (sym (all_alike ps fs) ∙ e)
-
--- the same in a loop over the places
-pub differ_next : {X Y : Type 0} (same : Y → Y → Bool) (h : X → Y) (xs : List X) (i : ℕ) (d : X) (r : Bool) → i < length xs → list_any (same (h (get_or xs i d))) (map h (drop (i + 1) xs)) ≡ false
-    → differ same (map h (drop i xs)) ≡ r → differ same (map h (drop (i + 1) xs)) ≡ r
-differ_next same h xs i d r lt alone so_far =
-    let split : drop i xs ≡ get_or xs i d ∷ drop (i + 1) xs = rw (drop-cons xs i d, add-one) refl in
-    differ_more same (map h (drop i xs)) (h (get_or xs i d)) (map h (drop (i + 1) xs)) r (ap (map h) split) alone so_far
-
-pub differ_here : {X Y : Type 0} (same : Y → Y → Bool) (h : X → Y) (xs : List X) (i : ℕ) (d : X) (r : Bool) → i < length xs → list_any (same (h (get_or xs i d))) (map h (drop (i + 1) xs)) ≡ true
-    → differ same (map h (drop i xs)) ≡ r → false ≡ r
-differ_here {X = X} same h xs i d r lt twice so_far =
-    let split : drop i xs ≡ get_or xs i d ∷ drop (i + 1) xs = rw (drop-cons xs i d, add-one) refl in
-    let e : differ same (map h (drop i xs)) ≡ false = ap (λ (l : List X). differ same (map h l)) split ∙ ap (λ (b : Bool). not b && differ same (map h (drop (i + 1) xs))) twice in
-    sym e ∙ so_far

@@ -1,9 +1,8 @@
 -- The text of a domain is read as it is spelled.
-use Rattle.std.proofs.Common.{◌≡◌, ℕ, ◌<◌, ◌≤◌, true, false, eqb, List, [], ◌∷◌, ◌++◌, length, map, Option, Some, None, refl, sym, ap, ◌∙◌, append_assoc, arith}
+use Rattle.std.proofs.Common.{◌≡◌, ℕ, ◌<◌, ◌≤◌, true, false, List, [], ◌∷◌, ◌++◌, length, map, Option, Some, None, refl, sym, ap, ◌∙◌, append_assoc, arith}
 use Rattle.std.specs.Prelude.{codes}
 use Rattle.std.specs.List.{flat_map, AllByRecursion}
 use Rattle.std.specs.Str.{bytes_eq}
-use Rattle.std.proofs.lemmas.Bool.{eq-eqb, eqb-true}
 use Rattle.dp_model.specs.declared.trees.Cond.{Cond}
 use Rattle.dp_model.specs.declared.parts.Transition.{Transition}
 use Rattle.dypdl_load.specs.FirstForm.{Condition, Move, DomainForm, line, condition_text, variable_text, move_text, base_text, domain_text, IsWord, IsCondition, IsMove, IsDomain, AreDistinct}
@@ -11,10 +10,10 @@ use Rattle.dypdl_load.specs.Meaning.{condition_of, transition_of}
 use Rattle.dypdl_load.specs.Reading.{◌>>=◌, with_value, many, differ, with_front, begins}
 use Rattle.dypdl_load.specs.ReadFirst.{condition_line_at, variable_line_at, variables_at, base_at, heads_at, bodies_at, domain_of}
 use Rattle.dypdl_load.proofs.Differ.{differ_from, differ_to}
-use Rattle.dypdl_load.proofs.Readers.{IsReader, Any, behind_reader, before_reader, and_then_reader, with_value_reader, mapped_reader, such_that_reader, recast, many_reader, many_all_reader, whole_takes, whole_again}
+use Rattle.dypdl_load.proofs.Readers.{IsReader, Any, behind_reader, before_reader, and_then_reader, with_value_reader, mapped_reader, such_that_reader, recast, many_reader, whole_takes, whole_again}
 use Rattle.dypdl_load.proofs.Words.{word_reader}
 use Rattle.dypdl_load.proofs.ConditionLaws.{line_reader, condition_line_reader}
-use Rattle.dypdl_load.proofs.TransitionLaws.{transitions_reader}
+use Rattle.dypdl_load.proofs.TransitionLaws.{some_reader, transitions_reader}
 
 -- ---- variables
 
@@ -27,14 +26,14 @@ map_same [] = refl
 map_same (w ∷ ws) = ap (λ (l : List (List ℕ)). w ∷ l) (map_same ws)
 
 abbrev VariablesFit : List (List ℕ) → Type 0
-VariablesFit vs = (AllByRecursion IsWord vs × AreDistinct vs) × (length vs ≡ 1)
+VariablesFit vs = (((length vs ≤ 1024) × AllByRecursion IsWord vs) × (0 < length vs)) × AreDistinct vs
 
 variables_reader : IsReader variables_at (flat_map variable_text) (λ vs. vs) VariablesFit (λ rest. begins (codes "  - name: ") rest ≡ false)
 unfolding variables_at
 variables_reader =
-    let all = recast (many_all_reader variable_line_reader (codes "  - name: ") (λ w rest f. refl) (λ w. omega arith)) (flat_map variable_text) (λ vs. vs) (AllByRecursion IsWord) (λ vs. vs) (λ vs. vs) (λ vs. refl) (λ vs f. refl) (λ vs f. map_same vs) (λ vs f. f) (λ vs f. f) in
-    such_that_reader (such_that_reader all (differ bytes_eq) AreDistinct (λ vs f d. differ_from vs d) (λ vs f e. differ_to vs e)) (λ vs. eqb (length vs) 1) (λ vs. length vs ≡ 1)
-    (λ vs f e. eq-eqb (length vs) 1 e) (λ vs f e. eqb-true (length vs) 1 e)
+    let all = some_reader (λ w. w) (many_reader variable_line_reader (codes "  - name: ") (λ w rest f. refl) 1024) in
+    such_that_reader (recast all (flat_map variable_text) (λ vs. vs) (λ vs. ((length vs ≤ 1024) × AllByRecursion IsWord vs) × (0 < length vs)) (λ vs. vs) (λ vs. vs) (λ vs. refl) (λ vs f. refl) (λ vs f. map_same vs) (λ vs f. f) (λ vs f. f))
+    (differ bytes_eq) AreDistinct (λ vs f d. differ_from vs d) (λ vs f e. differ_to vs e)
 
 -- ---- the base case
 
@@ -125,15 +124,16 @@ parts_of d = ((d.name, d.variables), (map (transition_of d.variables) d.moves, m
 
 parts_reader : IsReader (with_value heads_at (λ x. bodies_at x.1)) domain_text parts_of IsDomain (λ rest. begins (codes "    - ") rest ≡ false)
 parts_reader =
-    recast (with_value_reader heads_reader (λ x. bodies_at x.1) (λ p f. bodies_reader p.1 f.1.0.0) (λ p q rest f g e. refl))
+    recast (with_value_reader heads_reader (λ x. bodies_at x.1) (λ p f. bodies_reader p.1 f.1.0.0.1) (λ p q rest f g e. refl))
     domain_text parts_of IsDomain (λ d. ((d.name, d.variables), (d.moves, d.conditions))) (λ x. record { name = x.0.0; variables = x.0.1; moves = x.1.0; conditions = x.1.1 }) (λ x. refl)
     (λ d f. regroup_domain (line (codes "domain: " ++ d.name)) (line (codes "state_variables:")) (flat_map variable_text d.variables) (line (codes "transitions:")) (flat_map move_text d.moves) (line (codes "base_cases:")) (base_text d.conditions))
     (λ d f. refl)
     (λ d f. record {
       name = f.0.0;
-      one_variable = f.0.1.1;
-      variables = f.0.1.0.0;
-      different_variables = f.0.1.0.1;
+      some_variables = f.0.1.0.1;
+      few_variables = f.0.1.0.0.0;
+      variables = f.0.1.0.0.1;
+      different_variables = f.0.1.1;
       some_moves = f.1.0.0.1;
       few_moves = f.1.0.0.0.0;
       moves = f.1.0.0.0.1;
@@ -143,7 +143,7 @@ parts_reader =
       conditions = f.1.1.0;
     })
     (λ d f. (
-      (f.name, ((f.variables, f.different_variables), f.one_variable)),
+      (f.name, (((f.few_variables, f.variables), f.some_variables), f.different_variables)),
       ((((f.few_moves, f.moves), f.some_moves), f.different_moves), (f.conditions, (f.some_conditions, f.few_conditions))),
     ))
 

@@ -152,10 +152,11 @@ pub record IsMove (variables : List (List ℕ)) (t : Move) : Type 0 where
   pub once : AreDistinct (map (λ c. c.variable) t.changes)
   pub cost : IsNumber t.cost
 
--- a domain that fits: one variable, one to 65,536 transitions, one base case of 1 to 256 conditions
+-- a domain that fits: one to 1,024 variables of different names, one to 65,536 transitions, one base case of 1 to 256 conditions
 pub record IsDomain (d : DomainForm) : Type 0 where
   pub name : IsWord d.name
-  pub one_variable : length d.variables ≡ 1
+  pub some_variables : 0 < length d.variables
+  pub few_variables : length d.variables ≤ 1024
   pub variables : AllByRecursion IsWord d.variables
   pub different_variables : AreDistinct d.variables
   pub some_moves : 0 < length d.moves

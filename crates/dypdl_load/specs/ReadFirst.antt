@@ -1,5 +1,5 @@
 -- Reading the two texts of the first form.
-use Rattle.std.specs.Prelude.{ℕ, Bool, false, ◌==◌, List, [], ◌∷◌, length, codes, Option, Some}
+use Rattle.std.specs.Prelude.{ℕ, Bool, false, ◌==◌, List, [], ◌∷◌, codes, Option, Some}
 use Rattle.std.specs.Str.{bytes_eq}
 use Rattle.dp_model.specs.declared.trees.Num.{Num}
 use Rattle.dp_model.specs.declared.trees.Cond.{Cond}
@@ -77,7 +77,7 @@ unfoldable pub variable_line_at : Reader (List ℕ)
 variable_line_at = before (line_at (codes "  - name: ") word_at) (line (codes "    type: integer"))
 
 unfoldable pub variables_at : Reader (List (List ℕ))
-variables_at = such_that (λ vs. length vs == 1) (such_that (differ bytes_eq) (many_all (codes "  - name: ") variable_line_at))
+variables_at = such_that (differ bytes_eq) (some (many (codes "  - name: ") variable_line_at 1024))
 
 unfoldable pub base_at : List (List ℕ) → Reader (List Cond)
 base_at variables bytes = condition_line_at variables (codes "  - - ") bytes >>= λ x. with_front (x.0 ∷ []) (many (codes "    - ") (condition_line_at variables (codes "    - ")) 255 x.1)

@@ -1,7 +1,6 @@
 //! Conditions, new values and effects of integer variables.
 
-ghost use Rattle.std.specs.Prelude.{◌≡◌, ◌<◌, ◌^◌, length, codes};
-ghost use Rattle.std.specs.List.{list_any};
+ghost use Rattle.std.specs.Prelude.{◌≡◌, ◌<◌, ◌^◌, IfOk, length, codes};
 ghost use Rattle.dypdl_load.specs.Reading.{Gives, names, many, many_all, with_front};
 ghost use Rattle.dypdl_load.specs.ReadFirst.{comparison_at, condition_at, condition_line_at, value_at, change_at, changes_at, preconditions_at, variable_set, set_alike};
 ghost use Rattle.dypdl_load.specs.Reading.{differ};
@@ -9,7 +8,8 @@ ghost use Rattle.dypdl_load.specs.Reading.{differ};
 use crate::scan::{literal, number, variable, variable_and_number};
 use crate::stop::Stop;
 use dp_model::{Boxed, Compare, Cond, Effect, Num, NumOp};
-use std::alloc::Global;
+use std::alloc::{AllocError, Global};
+use std::collections::BTreeSet;
 
 #[tactic(auto, unfolding(crate::specs::ReadFirst::comparison_at))]
 fn comparison(bytes: &[u8]) -> Result<(Compare, &[u8]), Stop>
@@ -118,26 +118,17 @@ fn variable_of(effect: &Effect) -> u32
     }
 }
 
-/// Whether one of the effects sets the variable of the first.
-fn sets_variable_of(first: &Effect, others: &[Effect]) -> bool
-    ensures { result ≡ list_any (set_alike first.now) others.now }
-{
-    let variable = variable_of(first);
-    others.iter().any(|e| variable == variable_of(e))
-}
-
 /// Whether no variable is set twice.
-fn set_once(effects: &[Effect]) -> bool
-    ensures { result ≡ differ set_alike effects.now }
+fn set_once(alloc: Global, effects: &[Effect]) -> Result<bool, AllocError>
+    ensures { IfOk result (λ once. once ≡ differ set_alike effects.now) }
 {
-    let mut rest = effects;
-    while let Some((first, others)) = rest.split_first() {
-        if sets_variable_of(first, others) {
-            return false;
+    let mut seen = BTreeSet::new(alloc);
+    for effect in effects {
+        if !seen.insert(variable_of(effect))? {
+            return Ok(false);
         }
-        rest = others;
     }
-    true
+    Ok(true)
 }
 
 fn all_effects<'a>(
@@ -172,7 +163,8 @@ pub fn effects<'a>(
     ensures { Gives (λ x. (x.0.items, x.1.now)) result (changes_at (names variables.now) bytes.now) }
 {
     let (effects, rest) = all_effects(alloc, variables, bytes)?;
-    if effects.is_empty() || !set_once(&effects) {
+    let once = set_once(alloc, &effects)?;
+    if effects.is_empty() || !once {
         return Err(Stop::NotOfForm);
     }
     Ok((effects, rest))

@@ -2,7 +2,7 @@
 
 ghost use Rattle.std.specs.Prelude.{◌≡◌, ◌<◌, ◌≤◌, ◌^◌, All, IfOk, length, codes};
 ghost use Rattle.std.specs.Str.{IsAscii};
-ghost use Rattle.dypdl_load.specs.Reading.{Gives, names, many_all};
+ghost use Rattle.dypdl_load.specs.Reading.{Gives, names, many};
 ghost use Rattle.dypdl_load.specs.ReadFirst.{variable_line_at, variables_at, base_at, heads_at, bodies_at, domain_of};
 ghost use Rattle.dypdl_load.specs.Parts.{domain_parts};
 
@@ -32,12 +32,15 @@ fn variable_line(bytes: &[u8]) -> Result<(&[u8], &[u8]), Stop>
     Ok((name, rest))
 }
 
+const MOST_VARIABLES: usize = 1024;
+
 fn all_variables(alloc: Global, bytes: &[u8]) -> Result<(Vec<&[u8]>, &[u8]), Stop>
-    ensures { Gives (λ x. (names x.0.items, x.1.now)) result (many_all (codes "  - name: ") variable_line_at bytes.now) }
+    ensures read { Gives (λ x. (names x.0.items, x.1.now)) result (many (codes "  - name: ") variable_line_at 1024 bytes.now) }
+    ensures few { IfOk result (λ x. length x.0.items ≤ 1024) }
 {
     let mut variables = Vec::new(alloc);
     let mut rest = bytes;
-    for _ in 0..bytes.len() {
+    for _ in 0..MOST_VARIABLES {
         if !rest.starts_with(b"  - name: ") {
             break;
         }
@@ -48,14 +51,15 @@ fn all_variables(alloc: Global, bytes: &[u8]) -> Result<(Vec<&[u8]>, &[u8]), Sto
     Ok((variables, rest))
 }
 
-/// The name of the one variable.
+/// The names of one or more variables, all different.
 #[tactic(auto, unfolding(crate::specs::ReadFirst::variables_at))]
 fn variables(alloc: Global, bytes: &[u8]) -> Result<(Vec<&[u8]>, &[u8]), Stop>
     ensures read { Gives (λ x. (names x.0.items, x.1.now)) result (variables_at bytes.now) }
     ensures few { IfOk result (λ x. length x.0.items < 2 ^ 32) }
 {
     let (variables, rest) = all_variables(alloc, bytes)?;
-    if variables.len() != 1 || !are_different(&variables) {
+    let different = are_different(alloc, &variables)?;
+    if variables.is_empty() || !different {
         return Err(Stop::NotOfForm);
     }
     Ok((variables, rest))

@@ -10,6 +10,7 @@ ghost use Rattle.dypdl_load.specs.Reading.{Gives, literal_at, number_at, differ,
 use crate::stop::Stop;
 use dp_model::Text;
 use std::alloc::{AllocError, Global};
+use std::collections::BTreeSet;
 
 /// What is behind this text.
 #[tactic(auto, unfolding(crate::specs::Reading::literal_at))]
@@ -106,15 +107,16 @@ fn place_among(word: &[u8], words: &[&[u8]]) -> Option<usize>
 }
 
 /// Whether no two of the words are one.
-pub fn are_different(words: &[&[u8]]) -> bool
-    ensures { result ≡ differ bytes_eq (names words.now) }
+pub fn are_different(alloc: Global, words: &[&[u8]]) -> Result<bool, AllocError>
+    ensures { IfOk result (λ different. different ≡ differ bytes_eq (names words.now)) }
 {
-    for (i, word) in words.iter().enumerate() {
-        if place_among(word, &words[i + 1..]).is_some() {
-            return false;
+    let mut seen = BTreeSet::new(alloc);
+    for word in words {
+        if !seen.insert(*word)? {
+            return Ok(false);
         }
     }
-    true
+    Ok(true)
 }
 
 /// The words that expressions keep for themselves, of those that could be names.

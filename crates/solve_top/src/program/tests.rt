@@ -6,6 +6,7 @@ use dp_outside::{FineShelf, FineSink, OpenGate};
 use std::test::Fail;
 
 mod devices;
+mod first_form;
 
 const FROM_MINUS_ONE: &str = "domain: d\nproblem: p\ntarget:\n  x: -1\n";
 

@@ -1,7 +1,15 @@
-use Rattle.std.proofs.Common.{sym, ◌∙◌}
-use Rattle.dypdl_load.specs.ReadFirst.{set_alike}
-use Rattle.dypdl_load.proofs.Differ.{differ_more}
+use Rattle.std.proofs.Common.{ℕ, eqb, sym, ap, ◌∙◌}
+use Rattle.std.specs.Ordering.{nat_cmp}
+use Rattle.dypdl_load.specs.ReadFirst.{variable_set}
+use Rattle.dypdl_load.proofs.Seen.{eqb-comm, number_same, seen_twice, seen_more}
 use Rattle.dypdl_load.proofs.conditions.set_once.Goals as goal
 
-pub loop-first-preserved : goal.loop-first-preserved
-loop-first-preserved c = differ_more set_alike c.loop-first.rest.now c.in-Some.first.now c.in-Some.others.now _ c.in-Some.ensures.cases.0 (sym c.sets_variable_of.ensures ∙ c.if-sets_variable_of.false) c.loop-first.invariant
+pub returns-then-not-branch : goal.returns-then-not-branch
+returns-then-not-branch c =
+    seen_twice eqb eqb-comm variable_set (λ (q : ℕ). q) nat_cmp number_same c.args.effects.now c.loop-effect.effect-index c.effect-item.result c.loop-effect.seen c.loop-effect.invariant c.loop-effect-test.true c.variable_of.result
+    (c.variable_of.ensures ∙ ap variable_set c.effect-item.is) (sym c.in_ok-insert.ensures.added ∙ c.if-not-branch.true)
+
+pub loop-effect-preserved : goal.loop-effect-preserved
+loop-effect-preserved c =
+    seen_more eqb eqb-comm variable_set (λ (q : ℕ). q) nat_cmp number_same c.args.effects.now c.loop-effect.effect-index c.effect-item.result c.loop-effect.seen c.loop-effect.invariant c.loop-effect-test.true c.variable_of.result
+    (c.variable_of.ensures ∙ ap variable_set c.effect-item.is) c.insert.new.self (sym c.in_ok-insert.ensures.added ∙ c.if-not-branch.false) c.in_ok-insert.ensures.updates

@@ -1,10 +1,8 @@
-use Rattle.std.proofs.Common.{◌≡◌, length}
-use Rattle.dypdl_load.specs.Reading.{differ}
-use Rattle.dypdl_load.specs.ReadFirst.{set_alike}
+use Rattle.std.proofs.Common.{ℕ, eqb}
+use Rattle.std.specs.Ordering.{nat_cmp}
+use Rattle.dypdl_load.specs.ReadFirst.{variable_set}
+use Rattle.dypdl_load.proofs.Seen.{Seen}
 use Rattle.dypdl_load.proofs.conditions.set_once.Given as goal
 
-abbrev pub invariant-loop-first : goal.invariant-loop-first
-invariant-loop-first l = differ set_alike l.rest ≡ differ set_alike l.effects
-
-abbrev pub decreases-loop-first : goal.decreases-loop-first
-decreases-loop-first l = length l.rest
+abbrev pub invariant-loop-effect : goal.invariant-loop-effect
+invariant-loop-effect l = Seen eqb variable_set (λ (q : ℕ). q) nat_cmp l.effects l.effect-index l.seen

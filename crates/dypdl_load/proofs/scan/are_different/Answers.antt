@@ -1,28 +1,20 @@
-use Rattle.std.proofs.Common.{◌≡◌, ℕ, ◌+◌, ◌-◌, List, [], length, get_or, take, drop, Bor, sym, ap, ◌∙◌}
-use Rattle.std.specs.Prelude.{position, is_some}
-use Rattle.std.specs.List.{list_any}
+use Rattle.std.proofs.Common.{ℕ, List, [], get_or, Bor, refl, sym, ◌∙◌, arith}
 use Rattle.std.specs.Str.{bytes_eq}
-use Rattle.std.proofs.lemmas.List.{take_rest}
-use Rattle.dypdl_load.specs.Reading.{names}
-use Rattle.dypdl_load.proofs.Differ.{differ_next, differ_here}
-use Rattle.dypdl_load.proofs.Texts.{among_place}
+use Rattle.dypdl_load.proofs.Seen.{bytes_eq-comm, text_cmp, text_same, seen_twice, seen_more, seen_all, differ_names}
 use Rattle.dypdl_load.proofs.scan.are_different.Goals as goal
 
-later_alike : (ws : List (Bor (List ℕ))) (n : ℕ) (w : List ℕ) → list_any (bytes_eq w) (names (drop n ws)) ≡ is_some (position (bytes_eq w) (names (take (length ws - n) (drop n ws))))
-later_alike ws n w =
-    let later : take (length ws - n) (drop n ws) ≡ drop n ws = take_rest ws n in
-    rw later (sym (among_place (bytes_eq w) (names (drop n ws))))
-
-pub returns-then-is_some : goal.returns-then-is_some
-returns-then-is_some c =
+pub returns-then-not-branch : goal.returns-then-not-branch
+returns-then-not-branch c =
     let nothing : Bor (List ℕ) = record { ref_ptr = (0, 0); now = [] } in
-    let w : List ℕ = (get_or c.args.words.now c.loop-i.i nothing).now in
-    differ_here bytes_eq (λ (t : Bor (List ℕ)). t.now) c.args.words.now c.loop-i.i nothing _ c.loop-i-test.true
-    (later_alike c.args.words.now (c.loop-i.i + 1) w ∙ ap is_some (sym c.place_among.ensures.place) ∙ sym c.is_some.ensures ∙ c.if-is_some.true) c.loop-i.invariant
+    seen_twice bytes_eq bytes_eq-comm (λ (w : Bor (List ℕ)). w.now) (λ (q : Bor (List ℕ)). q.now) text_cmp text_same c.args.words.now c.loop-word.word-index nothing c.loop-word.seen c.loop-word.invariant c.loop-word-test.true (get_or c.args.words.now c.loop-word.word-index nothing)
+    refl (sym c.in_ok-insert.ensures.added ∙ c.if-not-branch.true) ∙ sym (differ_names c.args.words.now)
 
-pub loop-i-preserved : goal.loop-i-preserved
-loop-i-preserved c =
+pub loop-word-preserved : goal.loop-word-preserved
+loop-word-preserved c =
     let nothing : Bor (List ℕ) = record { ref_ptr = (0, 0); now = [] } in
-    let w : List ℕ = (get_or c.args.words.now c.loop-i.i nothing).now in
-    differ_next bytes_eq (λ (t : Bor (List ℕ)). t.now) c.args.words.now c.loop-i.i nothing _ c.loop-i-test.true
-    (later_alike c.args.words.now (c.loop-i.i + 1) w ∙ ap is_some (sym c.place_among.ensures.place) ∙ sym c.is_some.ensures ∙ c.if-is_some.false) c.loop-i.invariant
+    seen_more bytes_eq bytes_eq-comm (λ (w : Bor (List ℕ)). w.now) (λ (q : Bor (List ℕ)). q.now) text_cmp text_same c.args.words.now c.loop-word.word-index nothing c.loop-word.seen c.loop-word.invariant c.loop-word-test.true (get_or c.args.words.now c.loop-word.word-index nothing)
+    refl c.insert.new.self (sym c.in_ok-insert.ensures.added ∙ c.if-not-branch.false) c.in_ok-insert.ensures.updates
+
+pub returns : goal.returns
+returns c =
+    seen_all bytes_eq (λ (w : Bor (List ℕ)). w.now) (λ (q : Bor (List ℕ)). q.now) text_cmp c.args.words.now c.loop-word.word-index c.loop-word.seen c.loop-word.invariant (omega arith) ∙ sym (differ_names c.args.words.now)

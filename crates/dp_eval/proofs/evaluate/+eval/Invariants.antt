@@ -1,0 +1,19 @@
+use Rattle.std.proofs.Common.{◌≡◌, ◌∷◌, ◌++◌, [], map, drop, Ok}
+use Rattle.dp_model.specs.Evaluation.{◌>>=◌, in_turn, each_holds, num_value, cond_value, NumValue}
+use Rattle.dp_eval.specs.Terms.{term_value, term_values}
+use Rattle.dp_eval.proofs.evaluate.+eval.Given as goal
+
+abbrev pub invariant-eval_all-loop-member : goal.invariant-eval_all-loop-member
+invariant-eval_all-loop-member l =
+    each_holds (λ k. cond_value l.model l.s l.c (l.args ++ k ∷ [])) (drop l.member-index l.members)
+    ≡ each_holds (λ k. cond_value l.model l.s l.c (l.args ++ k ∷ [])) l.members
+
+abbrev pub invariant-eval_nums-loop-n : goal.invariant-eval_nums-loop-n
+invariant-eval_nums-loop-n l =
+    (in_turn (λ (n : NumValue). n l.args) (map (num_value l.model l.s) (drop l.n-index l.n-items)) >>= λ more. Ok (l.values.items ++ more))
+    ≡ in_turn (λ (n : NumValue). n l.args) (map (num_value l.model l.s) l.n-items)
+
+abbrev pub invariant-eval_terms-loop-term : goal.invariant-eval_terms-loop-term
+invariant-eval_terms-loop-term l =
+    (term_values l.model l.s (drop l.term-index l.term-items) l.args >>= λ more. Ok (map term_value l.values.items ++ more))
+    ≡ term_values l.model l.s l.term-items l.args

@@ -1,0 +1,18 @@
+//! The plain evaluators: the value of an expression in a state, or the first fault that it meets. They are slow,
+//! and follow the definition of the value line by line.
+#![tactic(auto)]
+
+mod ends;
+mod evaluate;
+mod numbers;
+mod sets;
+mod sums;
+mod tables;
+
+pub use ends::EvalEnd;
+pub use evaluate::{eval_cond, eval_num, eval_set};
+
+#[cfg(test)]
+mod tests;
+#[cfg(test)]
+mod worked;

@@ -1,0 +1,227 @@
+//! What a model says of the number of a name, and the cells of its tables.
+
+ghost use Rattle.std.specs.Prelude.{◌≡◌, ◌+◌, ◌*◌, ℕ, [], pos, false, Option, Some, unwrap_or, option_and_then, slice_get, IfOk};
+ghost use Rattle.std.specs.Option.{option_copied};
+ghost use Rattle.dp_model.specs.declared.parts.TableData.{TableData};
+ghost use Rattle.dp_model.specs.Evaluation.{count_of, counts_of, kind_of, object_of_kind, number_in, set_in, number_held, set_held, members_of, table_counts, cells_of, cells_object, place_from, place_in, number_cell, truth_cell, set_cell};
+ghost use Rattle.dp_eval.specs.Answers.{Answers, Pushes};
+ghost use Rattle.dp_eval.specs.Places.{IsPlace};
+
+use crate::ends::EvalEnd;
+use crate::numbers::member_of;
+use dp_model::{Cells, Model, PlainState, PlainValue, Seq, TableData, VarKind};
+use std::alloc::{AllocError, Global};
+
+/// How many members an object type has.
+pub fn count_of(model: &Model, object: u32) -> u32
+    ensures { result ≡ count_of model.now object }
+{
+    match model.objects.list().get(object as usize) {
+        Some(object) => object.count,
+        None => 0,
+    }
+}
+
+/// The object type of what a variable holds.
+pub fn variable_object(model: &Model, v: u32) -> u32
+    ensures { result ≡ object_of_kind (kind_of model.now v) }
+{
+    match model.variables.list().get(v as usize) {
+        Some(variable) => match variable.kind {
+            VarKind::Element(object) | VarKind::Set(object) => object,
+            VarKind::Integer => 0,
+        },
+        None => 0,
+    }
+}
+
+pub fn number_in(s: &PlainState, v: u32) -> i64
+    ensures { result ≡ number_in s.now v }
+{
+    match s.values.list().get(v as usize) {
+        Some(PlainValue::Number(n)) => *n,
+        Some(PlainValue::Members(_)) | None => 0,
+    }
+}
+
+pub fn set_in(alloc: Global, s: &PlainState, v: u32) -> Result<Seq<u32>, AllocError>
+    ensures { IfOk result (λ set. set ≡ set_in s.now v) }
+{
+    match s.values.list().get(v as usize) {
+        Some(PlainValue::Members(set)) => copied(alloc, set),
+        Some(PlainValue::Number(_)) | None => Ok(Seq::of(Vec::new(alloc))),
+    }
+}
+
+pub fn copied(alloc: Global, items: &Seq<u32>) -> Result<Seq<u32>, AllocError>
+    ensures { IfOk result (λ copy. copy ≡ items.now) }
+{
+    Ok(Seq::of(Vec::from_slice(alloc, items.list())?))
+}
+
+fn table<'m>(model: &'m Model, t: u32) -> Option<&'m TableData>
+    ensures { option_copied result ≡ slice_get model.now.tables t }
+{
+    model.tables.list().get(t as usize)
+}
+
+/// The object types of a table's arguments.
+pub fn arguments(model: &Model, t: u32) -> &[u32]
+    ensures { counts_of model.now result.now ≡ table_counts model.now t }
+{
+    match table(model, t) {
+        Some(table) => table.args.list(),
+        None => &[],
+    }
+}
+
+/// The place of a cell whose first arguments lead to a place, and whose next argument is this member.
+fn next_place(at: Option<usize>, count: u32, member: u32) -> Option<usize>
+    ensures { (place : ℕ) → IsPlace place at → IsPlace (place * count + member) result }
+{
+    if count == 0 {
+        return Some(member as usize);
+    }
+    at?.checked_mul(count as usize)?
+        .checked_add(member as usize)
+}
+
+/// The place of the cell at these members, where `at` is the place that the arguments before them lead to.
+fn place_from(model: &Model, at: Option<usize>, objects: &[u32], members: &[u32]) -> Option<usize>
+    ensures { (place : ℕ) → IsPlace place at
+        → IsPlace (place_from place (counts_of model.now objects.now) members.now) result }
+{
+    let [object, objects @ ..] = objects else {
+        return at;
+    };
+    let [member, members @ ..] = members else {
+        return at;
+    };
+    let at = next_place(at, count_of(model, *object), *member);
+    place_from(model, at, objects, members)
+}
+
+fn place_in(model: &Model, t: u32, members: &[u32]) -> Option<usize>
+    ensures { IsPlace (place_in model.now t members.now) result }
+{
+    place_from(model, Some(0), arguments(model, t), members)
+}
+
+/// Pushes the arguments that are left as members, tested in order.
+fn push_members(
+    model: &Model,
+    objects: &[u32],
+    numbers: &[i64],
+    members: &mut Vec<u32>,
+) -> Result<(), EvalEnd>
+    ensures { Pushes result members.old.items
+        (members_of (counts_of model.now objects.now) numbers.now) members.new.items }
+{
+    let [object, objects @ ..] = objects else {
+        return Ok(());
+    };
+    let [n, numbers @ ..] = numbers else {
+        return Ok(());
+    };
+    members.push(member_of(count_of(model, *object), *n)?)?;
+    push_members(model, objects, numbers, members)
+}
+
+/// The arguments of a table as members, tested in order.
+pub fn members_of(
+    alloc: Global,
+    model: &Model,
+    t: u32,
+    numbers: &[i64],
+) -> Result<Seq<u32>, EvalEnd>
+    ensures { Answers result (members_of (table_counts model.now t) numbers.now) }
+{
+    let mut members = Vec::new(alloc);
+    push_members(model, arguments(model, t), numbers, &mut members)?;
+    Ok(Seq::of(members))
+}
+
+fn cells(model: &Model, t: u32) -> Option<&Cells>
+    ensures { unwrap_or (option_copied result) (Cells.Numbers []) ≡ cells_of model.now t }
+{
+    match table(model, t) {
+        Some(table) => Some(&table.cells),
+        None => None,
+    }
+}
+
+fn number_at(xs: &[i64], at: Option<usize>) -> i64
+    ensures { (place : ℕ) → IsPlace place at
+        → result ≡ unwrap_or (slice_get xs.now place) (pos 0) }
+{
+    match at {
+        Some(i) if i < xs.len() => xs[i],
+        _ => 0,
+    }
+}
+
+fn truth_at(xs: &[bool], at: Option<usize>) -> bool
+    ensures { (place : ℕ) → IsPlace place at
+        → result ≡ unwrap_or (slice_get xs.now place) false }
+{
+    match at {
+        Some(i) if i < xs.len() => xs[i],
+        _ => false,
+    }
+}
+
+fn set_at(alloc: Global, xs: &[Seq<u32>], at: Option<usize>) -> Result<Seq<u32>, AllocError>
+    ensures { IfOk result (λ set. (place : ℕ) → IsPlace place at
+        → set ≡ unwrap_or (slice_get xs.now place) []) }
+{
+    match at {
+        Some(i) if i < xs.len() => copied(alloc, &xs[i]),
+        _ => Ok(Seq::of(Vec::new(alloc))),
+    }
+}
+
+/// The cell of a table of numbers at these members.
+pub fn number_cell(model: &Model, t: u32, members: &[u32]) -> i64
+    ensures { result ≡ number_cell (cells_of model.now t) (place_in model.now t members.now) }
+{
+    match cells(model, t) {
+        Some(Cells::Numbers(xs)) => number_at(xs.list(), place_in(model, t, members)),
+        _ => 0,
+    }
+}
+
+/// The cell of a table of truth values at these members.
+pub fn truth_cell(model: &Model, t: u32, members: &[u32]) -> bool
+    ensures { result ≡ truth_cell (cells_of model.now t) (place_in model.now t members.now) }
+{
+    match cells(model, t) {
+        Some(Cells::Truths(xs)) => truth_at(xs.list(), place_in(model, t, members)),
+        _ => false,
+    }
+}
+
+/// The cell of a table of sets at these members.
+pub fn set_cell(
+    alloc: Global,
+    model: &Model,
+    t: u32,
+    members: &[u32],
+) -> Result<Seq<u32>, AllocError>
+    ensures { IfOk result
+        (λ set. set ≡ set_cell (cells_of model.now t) (place_in model.now t members.now)) }
+{
+    match cells(model, t) {
+        Some(Cells::Sets(_, xs)) => set_at(alloc, xs.list(), place_in(model, t, members)),
+        _ => Ok(Seq::of(Vec::new(alloc))),
+    }
+}
+
+/// The object type of a table's sets.
+pub fn cells_object(model: &Model, t: u32) -> u32
+    ensures { result ≡ cells_object (cells_of model.now t) }
+{
+    match cells(model, t) {
+        Some(Cells::Sets(object, _)) => *object,
+        _ => 0,
+    }
+}

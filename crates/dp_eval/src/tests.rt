@@ -1,0 +1,518 @@
+//! Values of expressions that were worked out by a program of their own from the rules of the language. The
+//! expressions stand in postfix order: operands come before what they are operands of.
+
+use crate::worked::TABLE;
+use crate::{EvalEnd, eval_cond, eval_num, eval_set};
+use dp_model::{
+    Arg, Boxed, Cells, Compare, Cond, FaultKind, JoinOp, Model, Num, NumOp, ObjectType, Over,
+    PlainState, PlainValue, Preference, Seq, SetEx, SetOp, TableData, Text, VarKind, Variable,
+};
+use std::alloc::{AllocError, Global};
+
+const GREATEST: i64 = 4_611_686_018_427_387_903;
+
+/// An expression of any kind.
+#[derive(Drop)]
+enum Tree {
+    Number(Num),
+    Set(SetEx),
+    Truth(Cond),
+}
+
+/// Expressions that wait for what they are operands of.
+#[derive(Drop)]
+struct Waiting {
+    alloc: Global,
+    trees: Vec<Tree>,
+}
+
+impl Waiting {
+    fn number(&mut self) -> Option<Num> {
+        match self.trees.pop()? {
+            Tree::Number(n) => Some(n),
+            Tree::Set(_) | Tree::Truth(_) => None,
+        }
+    }
+
+    fn set(&mut self) -> Option<SetEx> {
+        match self.trees.pop()? {
+            Tree::Set(set) => Some(set),
+            Tree::Number(_) | Tree::Truth(_) => None,
+        }
+    }
+
+    fn truth(&mut self) -> Option<Cond> {
+        match self.trees.pop()? {
+            Tree::Truth(c) => Some(c),
+            Tree::Number(_) | Tree::Set(_) => None,
+        }
+    }
+
+    fn boxed_number(&mut self) -> Option<Boxed<Num>> {
+        let n = self.number()?;
+        Boxed::new(self.alloc, n).ok()
+    }
+
+    fn boxed_set(&mut self) -> Option<Boxed<SetEx>> {
+        let set = self.set()?;
+        Boxed::new(self.alloc, set).ok()
+    }
+
+    fn boxed_truth(&mut self) -> Option<Boxed<Cond>> {
+        let c = self.truth()?;
+        Boxed::new(self.alloc, c).ok()
+    }
+
+    /// The last numbers, in order.
+    fn numbers(&mut self, count: u32) -> Option<Seq<Num>> {
+        let mut numbers = Vec::new(self.alloc);
+        for _ in 0..count {
+            numbers.push(self.number()?).ok()?;
+        }
+        numbers.reverse();
+        Some(Seq::of(numbers))
+    }
+
+    /// The last arguments of a `sum`, in order.
+    fn terms(&mut self, count: u32) -> Option<Seq<Arg>> {
+        let mut terms = Vec::new(self.alloc);
+        for _ in 0..count {
+            let term = match self.trees.pop()? {
+                Tree::Number(n) => Arg::One(n),
+                Tree::Set(set) => Arg::Many(set),
+                Tree::Truth(_) => return None,
+            };
+            terms.push(term).ok()?;
+        }
+        terms.reverse();
+        Some(Seq::of(terms))
+    }
+
+    fn operation(&mut self, op: NumOp) -> Option<Tree> {
+        let b = self.boxed_number()?;
+        let a = self.boxed_number()?;
+        Some(Tree::Number(Num::Op(op, a, b)))
+    }
+
+    fn comparison(&mut self, op: Compare) -> Option<Tree> {
+        let b = self.number()?;
+        let a = self.number()?;
+        Some(Tree::Truth(Cond::Numbers(op, a, b)))
+    }
+
+    fn set_operation(&mut self, op: SetOp) -> Option<Tree> {
+        let b = self.boxed_set()?;
+        let a = self.boxed_set()?;
+        Some(Tree::Set(SetEx::Op(op, a, b)))
+    }
+
+    /// A number operation, a comparison, or a choice between two numbers.
+    fn number_word(&mut self, word: &str) -> Option<Tree> {
+        match word {
+            "+" => self.operation(NumOp::Plus),
+            "-" => self.operation(NumOp::Minus),
+            "*" => self.operation(NumOp::Times),
+            "/" => self.operation(NumOp::Over),
+            "%" => self.operation(NumOp::Rest),
+            "max" => self.operation(NumOp::Most),
+            "min" => self.operation(NumOp::Least),
+            "=" => self.comparison(Compare::Same),
+            "!=" => self.comparison(Compare::Other),
+            "<" => self.comparison(Compare::Less),
+            "<=" => self.comparison(Compare::AtMost),
+            ">" => self.comparison(Compare::More),
+            ">=" => self.comparison(Compare::AtLeast),
+            _ => None,
+        }
+    }
+
+    fn choice_word(&mut self, word: &str) -> Option<Tree> {
+        if word == "if" {
+            let b = self.boxed_number()?;
+            let a = self.boxed_number()?;
+            return Some(Tree::Number(Num::If(self.boxed_truth()?, a, b)));
+        }
+        if word == "setif" {
+            let b = self.boxed_set()?;
+            let a = self.boxed_set()?;
+            return Some(Tree::Set(SetEx::If(self.boxed_truth()?, a, b)));
+        }
+        None
+    }
+
+    fn set_word(&mut self, word: &str) -> Option<Tree> {
+        match word {
+            "size" => Some(Tree::Number(Num::Size(self.boxed_set()?))),
+            "union" => self.set_operation(SetOp::Union),
+            "shared" => self.set_operation(SetOp::Intersection),
+            "less" => self.set_operation(SetOp::Difference),
+            "others" => Some(Tree::Set(SetEx::Not(self.boxed_set()?))),
+            "with" => {
+                let set = self.boxed_set()?;
+                Some(Tree::Set(SetEx::With(self.boxed_number()?, set)))
+            }
+            "without" => {
+                let set = self.boxed_set()?;
+                Some(Tree::Set(SetEx::Without(self.boxed_number()?, set)))
+            }
+            _ => None,
+        }
+    }
+
+    fn set_test(&mut self, word: &str) -> Option<Tree> {
+        if word == "empty" {
+            return Some(Tree::Truth(Cond::Empty(self.set()?)));
+        }
+        let b = self.set()?;
+        if word == "is_in" {
+            return Some(Tree::Truth(Cond::IsIn(self.number()?, b)));
+        }
+        let a = self.set()?;
+        match word {
+            "same" => Some(Tree::Truth(Cond::SameSet(a, b))),
+            "other" => Some(Tree::Truth(Cond::OtherSet(a, b))),
+            "subset" => Some(Tree::Truth(Cond::Subset(a, b))),
+            _ => None,
+        }
+    }
+
+    fn truth_word(&mut self, word: &str) -> Option<Tree> {
+        match word {
+            "true" => Some(Tree::Truth(Cond::Fixed(true))),
+            "false" => Some(Tree::Truth(Cond::Fixed(false))),
+            "not" => Some(Tree::Truth(Cond::Not(self.boxed_truth()?))),
+            "and" => {
+                let b = self.boxed_truth()?;
+                Some(Tree::Truth(Cond::And(self.boxed_truth()?, b)))
+            }
+            "or" => {
+                let b = self.boxed_truth()?;
+                Some(Tree::Truth(Cond::Or(self.boxed_truth()?, b)))
+            }
+            _ => None,
+        }
+    }
+
+    /// A name, and the number that it names.
+    fn named(&mut self, model: &Model, name: &str, number: u32) -> Option<Tree> {
+        match name {
+            "v" => Some(Tree::Number(Num::Var(number))),
+            "s" => Some(Tree::Set(SetEx::Var(number))),
+            "p" => Some(Tree::Number(Num::Param(number))),
+            "all:o" => Some(Tree::Truth(Cond::All(Over::Object(number), self.boxed_truth()?))),
+            "all:m" => Some(Tree::Truth(Cond::All(Over::Members(number), self.boxed_truth()?))),
+            _ => self.of_table(name, number, argument_count(model, number)),
+        }
+    }
+
+    fn of_table(&mut self, name: &str, t: u32, count: u32) -> Option<Tree> {
+        match name {
+            "cell" => Some(Tree::Number(Num::Cell(t, self.numbers(count)?))),
+            "truth" => Some(Tree::Truth(Cond::Cell(t, self.numbers(count)?))),
+            "setcell" => Some(Tree::Set(SetEx::Cell(t, self.numbers(count)?))),
+            "sum" => Some(Tree::Number(Num::Sum(t, self.terms(count)?))),
+            _ => None,
+        }
+    }
+
+    fn word(&mut self, model: &Model, word: &str) -> Option<Tree> {
+        if let Ok(n) = word.parse::<i64>() {
+            return Some(Tree::Number(Num::Fixed(n)));
+        }
+        if let Some((name, number)) = word.rsplit_once(':') {
+            return self.named(model, name, number.parse::<u32>().ok()?);
+        }
+        match word {
+            "G" => Some(Tree::Number(Num::Fixed(GREATEST))),
+            "-G" => Some(Tree::Number(Num::Fixed(-GREATEST))),
+            "if" | "setif" => self.choice_word(word),
+            "size" | "union" | "shared" | "less" | "others" | "with" | "without" => {
+                self.set_word(word)
+            }
+            "empty" | "is_in" | "same" | "other" | "subset" => self.set_test(word),
+            "true" | "false" | "not" | "and" | "or" => self.truth_word(word),
+            _ => self.number_word(word),
+        }
+    }
+}
+
+fn argument_count(model: &Model, t: u32) -> u32 {
+    match model.tables.list().get(t as usize) {
+        Some(table) => table.args.list().len().min(4) as u32,
+        None => 0,
+    }
+}
+
+fn tree_of(alloc: Global, model: &Model, text: &str) -> Option<Tree> {
+    let mut waiting = Waiting {
+        alloc,
+        trees: Vec::new(alloc),
+    };
+    for word in text.split_whitespace() {
+        let tree = waiting.word(model, word)?;
+        waiting.trees.push(tree).ok()?;
+    }
+    waiting.trees.pop()
+}
+
+fn fault_text(end: &EvalEnd) -> &'static str {
+    match end {
+        EvalEnd::Fault(FaultKind::Range) => "Range",
+        EvalEnd::Fault(FaultKind::ZeroDivisor) => "ZeroDivisor",
+        EvalEnd::Fault(FaultKind::Negative) => "Negative",
+        EvalEnd::Fault(FaultKind::Index) => "Index",
+        EvalEnd::Memory => "Memory",
+    }
+}
+
+fn set_text(alloc: Global, set: &Seq<u32>) -> Result<String, AllocError> {
+    let mut text = String::from_str(alloc, "{")?;
+    for (i, member) in set.list().iter().enumerate() {
+        if i > 0 {
+            text.push(',')?;
+        }
+        text.push_str(member.to_string(alloc)?.as_str())?;
+    }
+    text.push('}')?;
+    Ok(text)
+}
+
+/// The value of an expression, or the fault, as text.
+fn value_text(alloc: Global, world: &World, tree: &Tree) -> Result<String, AllocError> {
+    let World { model, args, state } = world;
+    match tree {
+        Tree::Number(e) => match eval_num(alloc, model, e, args, state) {
+            Ok(n) => n.to_string(alloc),
+            Err(end) => String::from_str(alloc, fault_text(&end)),
+        },
+        Tree::Set(e) => match eval_set(alloc, model, e, args, state) {
+            Ok(set) => set_text(alloc, &set),
+            Err(end) => String::from_str(alloc, fault_text(&end)),
+        },
+        Tree::Truth(e) => match eval_cond(alloc, model, e, args, state) {
+            Ok(held) => String::from_str(alloc, if held { "true" } else { "false" }),
+            Err(end) => String::from_str(alloc, fault_text(&end)),
+        },
+    }
+}
+
+/// What the expressions are evaluated in.
+#[derive(Drop)]
+struct World {
+    model: Model,
+    args: Seq<u32>,
+    state: PlainState,
+}
+
+fn text(alloc: Global, name: &str) -> Result<Text, AllocError> {
+    Ok(Text::of(String::from_str(alloc, name)?))
+}
+
+fn list(alloc: Global, items: &[u32]) -> Result<Seq<u32>, AllocError> {
+    Ok(Seq::of(Vec::from_slice(alloc, items)?))
+}
+
+/// The multiples of a number below the count.
+fn multiples(alloc: Global, of: u32, count: u32) -> Result<Seq<u32>, AllocError> {
+    let mut members = Vec::new(alloc);
+    for k in 0..count {
+        if of != 0 && k % of == 0 {
+            members.push(k)?;
+        }
+    }
+    Ok(Seq::of(members))
+}
+
+fn objects(alloc: Global) -> Result<Seq<ObjectType>, AllocError> {
+    let mut objects = Vec::new(alloc);
+    for count in [3, 0, 1, 63, 64, 65, 1024] {
+        let name = text(alloc, "o")?;
+        objects.push(ObjectType { name, count })?;
+    }
+    Ok(Seq::of(objects))
+}
+
+const KINDS: [VarKind; 16] = [
+    VarKind::Integer,
+    VarKind::Integer,
+    VarKind::Integer,
+    VarKind::Element(0),
+    VarKind::Element(0),
+    VarKind::Element(0),
+    VarKind::Set(0),
+    VarKind::Set(0),
+    VarKind::Set(1),
+    VarKind::Set(2),
+    VarKind::Set(3),
+    VarKind::Set(4),
+    VarKind::Set(5),
+    VarKind::Set(6),
+    VarKind::Set(6),
+    VarKind::Set(6),
+];
+
+fn variables(alloc: Global) -> Result<Seq<Variable>, AllocError> {
+    let mut variables = Vec::new(alloc);
+    for kind in KINDS {
+        variables.push(Variable {
+            name: text(alloc, "v")?,
+            kind,
+            preference: Preference::Without,
+        })?;
+    }
+    Ok(Seq::of(variables))
+}
+
+fn state(alloc: Global) -> Result<PlainState, AllocError> {
+    let mut values = Vec::new(alloc);
+    for n in [7, GREATEST, -GREATEST, 2, 5, 4_294_967_295] {
+        values.push(PlainValue::Number(n))?;
+    }
+    values.push(PlainValue::Members(list(alloc, &[0, 2])?))?;
+    values.push(PlainValue::Members(list(alloc, &[])?))?;
+    values.push(PlainValue::Members(list(alloc, &[])?))?;
+    for count in [1, 63, 64] {
+        values.push(PlainValue::Members(multiples(alloc, 1, count)?))?;
+    }
+    values.push(PlainValue::Members(list(alloc, &[0, 63, 64])?))?;
+    for (of, count) in [(1, 1024), (2, 1024), (1, 0)] {
+        values.push(PlainValue::Members(multiples(alloc, of, count)?))?;
+    }
+    Ok(PlainState {
+        values: Seq::of(values),
+    })
+}
+
+fn table(alloc: Global, args: &[u32], cells: Cells) -> Result<TableData, AllocError> {
+    Ok(TableData {
+        name: text(alloc, "t")?,
+        args: list(alloc, args)?,
+        element: false,
+        cells,
+    })
+}
+
+fn numbers(alloc: Global, args: &[u32], cells: &[i64]) -> Result<TableData, AllocError> {
+    let cells = Cells::Numbers(Seq::of(Vec::from_slice(alloc, cells)?));
+    table(alloc, args, cells)
+}
+
+fn truths(alloc: Global, args: &[u32], cells: &[bool]) -> Result<TableData, AllocError> {
+    let cells = Cells::Truths(Seq::of(Vec::from_slice(alloc, cells)?));
+    table(alloc, args, cells)
+}
+
+/// A table whose cell at `k` is `k` or its square, modulo a number.
+fn powers(
+    alloc: Global,
+    args: &[u32],
+    count: u16,
+    squared: bool,
+    modulus: i64,
+) -> Result<TableData, AllocError> {
+    let mut cells = Vec::new(alloc);
+    for k in 0..count {
+        let k = i64::from(k);
+        let power = if squared { k * k } else { k };
+        cells.push(if modulus > 0 { power % modulus } else { power })?;
+    }
+    table(alloc, args, Cells::Numbers(Seq::of(cells)))
+}
+
+fn small_sets(alloc: Global) -> Result<TableData, AllocError> {
+    let mut cells = Vec::new(alloc);
+    cells.push(list(alloc, &[0, 1])?)?;
+    cells.push(list(alloc, &[])?)?;
+    cells.push(list(alloc, &[2])?)?;
+    table(alloc, &[0], Cells::Sets(0, Seq::of(cells)))
+}
+
+fn large_set(alloc: Global) -> Result<TableData, AllocError> {
+    let mut cells = Vec::new(alloc);
+    cells.push(multiples(alloc, 3, 1024)?)?;
+    table(alloc, &[], Cells::Sets(6, Seq::of(cells)))
+}
+
+fn first_tables(alloc: Global, tables: &mut Vec<TableData>) -> Result<(), AllocError> {
+    tables.push(numbers(alloc, &[0], &[10, 20, 30])?)?;
+    tables.push(numbers(alloc, &[0, 0], &[0, 1, 2, 3, 4, 5, 6, 7, 8])?)?;
+    let hundreds = [0, 1, 2, 100, 101, 102, 200, 201, 202];
+    tables.push(numbers(alloc, &[0, 2, 0], &hundreds)?)?;
+    tables.push(numbers(alloc, &[0, 2, 2, 0], &[0, -1, -2, 7, 6, 5, 14, 13, 12])?)?;
+    tables.push(numbers(alloc, &[], &[42])?)?;
+    tables.push(truths(alloc, &[0], &[true, false, true])?)?;
+    tables.push(small_sets(alloc)?)?;
+    tables.push(numbers(alloc, &[0], &[GREATEST, GREATEST, -GREATEST])?)?;
+    Ok(())
+}
+
+fn other_tables(alloc: Global, tables: &mut Vec<TableData>) -> Result<(), AllocError> {
+    tables.push(powers(alloc, &[5], 65, true, 0)?)?;
+    tables.push(powers(alloc, &[6], 1024, false, 0)?)?;
+    tables.push(truths(alloc, &[], &[true])?)?;
+    tables.push(large_set(alloc)?)?;
+    tables.push(numbers(alloc, &[1], &[])?)?;
+    tables.push(numbers(alloc, &[0, 1], &[])?)?;
+    let below = [false, true, true, false, false, true, false, false, false];
+    tables.push(truths(alloc, &[0, 0], &below)?)?;
+    tables.push(numbers(alloc, &[0], &[2, 0, 1])?)?;
+    tables.push(powers(alloc, &[6, 2], 1024, false, 10)?)?;
+    Ok(())
+}
+
+fn model(alloc: Global) -> Result<Model, AllocError> {
+    let mut tables = Vec::new(alloc);
+    first_tables(alloc, &mut tables)?;
+    other_tables(alloc, &mut tables)?;
+    Ok(Model {
+        domain: text(alloc, "d")?,
+        problem: text(alloc, "p")?,
+        minimize: true,
+        join: JoinOp::Plus,
+        objects: objects(alloc)?,
+        variables: variables(alloc)?,
+        tables: Seq::of(tables),
+        transitions: Seq::of(Vec::new(alloc)),
+        ground: Seq::of(Vec::new(alloc)),
+        constraints: Seq::of(Vec::new(alloc)),
+        base_cases: Seq::of(Vec::new(alloc)),
+        bounds: Seq::of(Vec::new(alloc)),
+        target: state(alloc)?,
+    })
+}
+
+fn make_world(alloc: Global) -> Result<World, AllocError> {
+    Ok(World {
+        model: model(alloc)?,
+        args: list(alloc, &[1, 2])?,
+        state: state(alloc)?,
+    })
+}
+
+fn text_of(alloc: Global, world: &World, expression: &str) -> Option<String> {
+    let tree = tree_of(alloc, &world.model, expression)?;
+    value_text(alloc, world, &tree).ok()
+}
+
+/// Whether a line of the table has an expression and its value.
+fn is_right(alloc: Global, world: &World, line: &str) -> bool {
+    let Some((expression, want)) = line.split_once(" => ") else {
+        return false;
+    };
+    match text_of(alloc, world, expression) {
+        Some(value) => value.as_str() == want,
+        None => false,
+    }
+}
+
+#[test]
+fn values_are_those_of_the_rules(rt: HostRuntime) {
+    let alloc = rt.alloc();
+    let world = make_world(alloc).expect(&rt, "memory for the model");
+    let mut count = 0u32;
+    for line in TABLE.lines() {
+        assert!(rt; is_right(alloc, &world, line), "{line}");
+        count = count.saturating_add(1);
+    }
+    assert_eq!(rt; count, 254);
+}
