@@ -1,0 +1,74 @@
+-- Scalars and flow forms in block style.
+use Rattle.std.proofs.Common.{◌≡◌, ℕ, zero, suc, true, false, List, length, Result, Ok, Err, refl, sym, ap, ◌∙◌, subst}
+use Rattle.yaml_tree.specs.Rest.{Rest, place, on}
+use Rattle.yaml_tree.specs.Scalars.{part_of, with_text, added, scalar_at, plain, plain_part}
+use Rattle.yaml_tree.specs.Openings.{opening}
+use Rattle.yaml_tree.specs.declared.opening.Opening.{Opening}
+use Rattle.yaml_tree.specs.declared.opening.Opening.TheVariants.{Plain, Quoted, OpenQuote, FlowList, FlowMap, Outside, Nothing}
+use Rattle.yaml_tree.specs.Flow.{Outcome, Reading, FormOf, Form}
+use Rattle.yaml_tree.specs.Blocks.{ended, whole_form, LineValue}
+use Rattle.yaml_tree.specs.BlockSteps.{scalar_made, continued_form, continued, whole_from}
+use Rattle.yaml_tree.specs.Results.{MemoryOr}
+use Rattle.yaml_tree.specs.declared.tree.Tree.{Tree}
+use Rattle.yaml_tree.specs.declared.tree.Tree.TheVariants as trees
+use Rattle.yaml_tree.specs.declared.tree.Tree.{Tree-F}
+use Rattle.yaml_tree.specs.declared.tree.Pair.{Pair}
+use Rattle.yaml_tree.specs.declared.tree.YamlEnd.{YamlEnd}
+use Rattle.yaml_tree.specs.declared.tree.YamlEnd.TheVariants.{Scan, BadQuote, Unread, TwiceKey, TooDeep, OutOfProfile, Memory}
+
+-- what is refused stays refused under another name
+pub memory_or : (P Q : YamlEnd → Type 0) → ((e : YamlEnd) → P e → Q e) → (e : YamlEnd) → MemoryOr P e → MemoryOr Q e
+memory_or P Q h (Scan x) is = h (Scan x) is
+memory_or P Q h (BadQuote at) is = h (BadQuote at) is
+memory_or P Q h (Unread at) is = h (Unread at) is
+memory_or P Q h (TwiceKey at) is = h (TwiceKey at) is
+memory_or P Q h (TooDeep at) is = h (TooDeep at) is
+memory_or P Q h (OutOfProfile at feature) is = h (OutOfProfile at feature) is
+memory_or P Q h Memory is = tt
+
+-- ---- a plain scalar goes on behind its first line
+
+scalar_at-made : (from : Rest) (x : Result (List ℕ × Rest) YamlEnd) → scalar_at from x ≡ scalar_made (place from) x
+scalar_at-made from (Ok x) = refl
+scalar_at-made from (Err e) = refl
+
+abbrev Continues : (least : ℕ) → Rest → Tree × Rest → Type 0
+Continues least from x = plain false least from ≡ continued least x.0 x.1
+
+begun-continues : (least : ℕ) (from : Rest) → Continues least from (trees.Scalar (place from) (part_of false from.here), on (length (part_of false from.here)) from)
+begun-continues least from =
+    let part : List ℕ = part_of false from.here in
+    let to : Rest = on (length part) from in
+    scalar_at-made from (with_text part (added false least to))
+    ∙ ap (λ (f : Tree-F Tree Pair). continued_form least f (trees.Scalar (place from) part) to) (sym (trees.outs-Scalar (place from) part))
+
+part-continues : (least : ℕ) (from : Rest) (x : Tree × Rest) → Ok x ≡ plain_part from → Continues least from x
+part-continues least from x is =
+    let whole : Tree × Rest = (trees.Scalar (place from) (part_of false from.here), on (length (part_of false from.here)) from) in
+    let same : whole ≡ x = cc is in
+    subst (λ (y : Tree × Rest). Continues least from y) same (begun-continues least from)
+
+-- ---- the whole form is decided by what was begun
+
+form_of-whole : (N K : Reading) (o : Opening) (least : ℕ) (from : Rest) (x : Tree × Rest) → FormOf false N K o from (Ok x) → whole_form o least from (Ok x) ≡ whole_from o least x.0 x.1
+form_of-whole N K Plain least from x is = ap ended (part-continues least from x is)
+form_of-whole N K (Quoted single inside) least from x is = refl
+form_of-whole N K OpenQuote least from x is = refl
+form_of-whole N K FlowList least from x is = refl
+form_of-whole N K FlowMap least from x is = refl
+form_of-whole N K (Outside feature) least from x is = refl
+form_of-whole N K Nothing least from x is = refl
+
+pub form-whole : (levels least : ℕ) (from : Rest) (o : Opening) (x : Tree × Rest) → o ≡ opening false true from → Form false true levels from (Ok x) → whole_form (opening false true from) least from (Ok x) ≡ whole_from o least x.0 x.1
+form-whole zero least from o x same is = absurd (cc is)
+form-whole (suc levels) least from o x same is =
+    form_of-whole (Form true true levels) (Form true false levels) (opening false true from) least from x is
+    ∙ ap (λ (p : Opening). whole_from p least x.0 x.1) (sym same)
+
+-- ---- a form behind a key
+
+pub line_value-read : (levels least : ℕ) (from : Rest) (o : Opening) (x : Tree × Rest) (outcome : Outcome) → o ≡ opening false true from → Form false true levels from (Ok x) → whole_from o least x.0 x.1 ≡ outcome → LineValue levels least from outcome
+line_value-read levels least from o x outcome same is whole = (Ok x, is, sym (form-whole levels least from o x same is ∙ whole))
+
+pub line_value-refused : (levels least : ℕ) (from : Rest) (e : YamlEnd) → Form false true levels from (Err e) → LineValue levels least from (Err e)
+line_value-refused levels least from e is = (Err e, is, refl)

@@ -1,0 +1,16 @@
+pub mod Rest
+pub mod Characters
+pub mod Lines
+pub mod Scalars
+pub mod Openings
+pub mod Keys
+pub mod Repeats
+pub mod Flow
+pub mod Blocks
+pub mod Texts
+pub mod Results
+pub mod Fields
+pub mod Within
+pub mod Known
+pub mod BlockSteps
+pub mod FlowSteps

@@ -1,0 +1,19 @@
+-- What the functions of the reader hand out.
+use Rattle.std.specs.Prelude.{[], ◌∷◌, None, Some, ⊤}
+use Rattle.yaml_tree.specs.Rest.{Rest}
+use Rattle.yaml_tree.specs.Repeats.{Turn, More, Last}
+use Rattle.yaml_tree.specs.declared.tree.YamlEnd.{YamlEnd}
+use Rattle.yaml_tree.specs.declared.tree.YamlEnd.TheVariants.{Memory}
+use Rattle.yaml_tree.specs.declared.turns.Step.{Step}
+use Rattle.yaml_tree.specs.declared.turns.Step.TheVariants as steps
+
+-- memory ran out, or P says what was refused
+abbrev pub MemoryOr : (YamlEnd → Type 0) → YamlEnd → Type 0
+MemoryOr P Memory = ⊤
+MemoryOr P e = P e
+
+-- the turn that a step and what is left after it stand for
+abbrev pub turn_of : {A : Type 0} → Step A → Rest → Turn A Rest
+turn_of (steps.More x) left = More x left
+turn_of (steps.Last None) left = Last [] left
+turn_of (steps.Last (Some x)) left = Last (x ∷ []) left
