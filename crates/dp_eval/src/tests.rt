@@ -1,15 +1,13 @@
 //! Values of expressions that were worked out by a program of their own from the rules of the language. The
 //! expressions stand in postfix order: operands come before what they are operands of.
 
+use crate::tested::{GREATEST, list, model, state};
 use crate::worked::TABLE;
 use crate::{EvalEnd, eval_cond, eval_num, eval_set};
 use dp_model::{
-    Arg, Boxed, Cells, Compare, Cond, FaultKind, JoinOp, Model, Num, NumOp, ObjectType, Over,
-    PlainState, PlainValue, Preference, Seq, SetEx, SetOp, TableData, Text, VarKind, Variable,
+    Arg, Boxed, Compare, Cond, FaultKind, Model, Num, NumOp, Over, PlainState, Seq, SetEx, SetOp,
 };
 use std::alloc::{AllocError, Global};
-
-const GREATEST: i64 = 4_611_686_018_427_387_903;
 
 /// An expression of any kind.
 #[derive(Drop)]
@@ -302,183 +300,6 @@ struct World {
     model: Model,
     args: Seq<u32>,
     state: PlainState,
-}
-
-fn text(alloc: Global, name: &str) -> Result<Text, AllocError> {
-    Ok(Text::of(String::from_str(alloc, name)?))
-}
-
-fn list(alloc: Global, items: &[u32]) -> Result<Seq<u32>, AllocError> {
-    Ok(Seq::of(Vec::from_slice(alloc, items)?))
-}
-
-/// The multiples of a number below the count.
-fn multiples(alloc: Global, of: u32, count: u32) -> Result<Seq<u32>, AllocError> {
-    let mut members = Vec::new(alloc);
-    for k in 0..count {
-        if of != 0 && k % of == 0 {
-            members.push(k)?;
-        }
-    }
-    Ok(Seq::of(members))
-}
-
-fn objects(alloc: Global) -> Result<Seq<ObjectType>, AllocError> {
-    let mut objects = Vec::new(alloc);
-    for count in [3, 0, 1, 63, 64, 65, 1024] {
-        let name = text(alloc, "o")?;
-        objects.push(ObjectType { name, count })?;
-    }
-    Ok(Seq::of(objects))
-}
-
-const KINDS: [VarKind; 16] = [
-    VarKind::Integer,
-    VarKind::Integer,
-    VarKind::Integer,
-    VarKind::Element(0),
-    VarKind::Element(0),
-    VarKind::Element(0),
-    VarKind::Set(0),
-    VarKind::Set(0),
-    VarKind::Set(1),
-    VarKind::Set(2),
-    VarKind::Set(3),
-    VarKind::Set(4),
-    VarKind::Set(5),
-    VarKind::Set(6),
-    VarKind::Set(6),
-    VarKind::Set(6),
-];
-
-fn variables(alloc: Global) -> Result<Seq<Variable>, AllocError> {
-    let mut variables = Vec::new(alloc);
-    for kind in KINDS {
-        variables.push(Variable {
-            name: text(alloc, "v")?,
-            kind,
-            preference: Preference::Without,
-        })?;
-    }
-    Ok(Seq::of(variables))
-}
-
-fn state(alloc: Global) -> Result<PlainState, AllocError> {
-    let mut values = Vec::new(alloc);
-    for n in [7, GREATEST, -GREATEST, 2, 5, 4_294_967_295] {
-        values.push(PlainValue::Number(n))?;
-    }
-    values.push(PlainValue::Members(list(alloc, &[0, 2])?))?;
-    values.push(PlainValue::Members(list(alloc, &[])?))?;
-    values.push(PlainValue::Members(list(alloc, &[])?))?;
-    for count in [1, 63, 64] {
-        values.push(PlainValue::Members(multiples(alloc, 1, count)?))?;
-    }
-    values.push(PlainValue::Members(list(alloc, &[0, 63, 64])?))?;
-    for (of, count) in [(1, 1024), (2, 1024), (1, 0)] {
-        values.push(PlainValue::Members(multiples(alloc, of, count)?))?;
-    }
-    Ok(PlainState {
-        values: Seq::of(values),
-    })
-}
-
-fn table(alloc: Global, args: &[u32], cells: Cells) -> Result<TableData, AllocError> {
-    Ok(TableData {
-        name: text(alloc, "t")?,
-        args: list(alloc, args)?,
-        element: false,
-        cells,
-    })
-}
-
-fn numbers(alloc: Global, args: &[u32], cells: &[i64]) -> Result<TableData, AllocError> {
-    let cells = Cells::Numbers(Seq::of(Vec::from_slice(alloc, cells)?));
-    table(alloc, args, cells)
-}
-
-fn truths(alloc: Global, args: &[u32], cells: &[bool]) -> Result<TableData, AllocError> {
-    let cells = Cells::Truths(Seq::of(Vec::from_slice(alloc, cells)?));
-    table(alloc, args, cells)
-}
-
-/// A table whose cell at `k` is `k` or its square, modulo a number.
-fn powers(
-    alloc: Global,
-    args: &[u32],
-    count: u16,
-    squared: bool,
-    modulus: i64,
-) -> Result<TableData, AllocError> {
-    let mut cells = Vec::new(alloc);
-    for k in 0..count {
-        let k = i64::from(k);
-        let power = if squared { k * k } else { k };
-        cells.push(if modulus > 0 { power % modulus } else { power })?;
-    }
-    table(alloc, args, Cells::Numbers(Seq::of(cells)))
-}
-
-fn small_sets(alloc: Global) -> Result<TableData, AllocError> {
-    let mut cells = Vec::new(alloc);
-    cells.push(list(alloc, &[0, 1])?)?;
-    cells.push(list(alloc, &[])?)?;
-    cells.push(list(alloc, &[2])?)?;
-    table(alloc, &[0], Cells::Sets(0, Seq::of(cells)))
-}
-
-fn large_set(alloc: Global) -> Result<TableData, AllocError> {
-    let mut cells = Vec::new(alloc);
-    cells.push(multiples(alloc, 3, 1024)?)?;
-    table(alloc, &[], Cells::Sets(6, Seq::of(cells)))
-}
-
-fn first_tables(alloc: Global, tables: &mut Vec<TableData>) -> Result<(), AllocError> {
-    tables.push(numbers(alloc, &[0], &[10, 20, 30])?)?;
-    tables.push(numbers(alloc, &[0, 0], &[0, 1, 2, 3, 4, 5, 6, 7, 8])?)?;
-    let hundreds = [0, 1, 2, 100, 101, 102, 200, 201, 202];
-    tables.push(numbers(alloc, &[0, 2, 0], &hundreds)?)?;
-    tables.push(numbers(alloc, &[0, 2, 2, 0], &[0, -1, -2, 7, 6, 5, 14, 13, 12])?)?;
-    tables.push(numbers(alloc, &[], &[42])?)?;
-    tables.push(truths(alloc, &[0], &[true, false, true])?)?;
-    tables.push(small_sets(alloc)?)?;
-    tables.push(numbers(alloc, &[0], &[GREATEST, GREATEST, -GREATEST])?)?;
-    Ok(())
-}
-
-fn other_tables(alloc: Global, tables: &mut Vec<TableData>) -> Result<(), AllocError> {
-    tables.push(powers(alloc, &[5], 65, true, 0)?)?;
-    tables.push(powers(alloc, &[6], 1024, false, 0)?)?;
-    tables.push(truths(alloc, &[], &[true])?)?;
-    tables.push(large_set(alloc)?)?;
-    tables.push(numbers(alloc, &[1], &[])?)?;
-    tables.push(numbers(alloc, &[0, 1], &[])?)?;
-    let below = [false, true, true, false, false, true, false, false, false];
-    tables.push(truths(alloc, &[0, 0], &below)?)?;
-    tables.push(numbers(alloc, &[0], &[2, 0, 1])?)?;
-    tables.push(powers(alloc, &[6, 2], 1024, false, 10)?)?;
-    Ok(())
-}
-
-fn model(alloc: Global) -> Result<Model, AllocError> {
-    let mut tables = Vec::new(alloc);
-    first_tables(alloc, &mut tables)?;
-    other_tables(alloc, &mut tables)?;
-    Ok(Model {
-        domain: text(alloc, "d")?,
-        problem: text(alloc, "p")?,
-        minimize: true,
-        join: JoinOp::Plus,
-        objects: objects(alloc)?,
-        variables: variables(alloc)?,
-        tables: Seq::of(tables),
-        transitions: Seq::of(Vec::new(alloc)),
-        ground: Seq::of(Vec::new(alloc)),
-        constraints: Seq::of(Vec::new(alloc)),
-        base_cases: Seq::of(Vec::new(alloc)),
-        bounds: Seq::of(Vec::new(alloc)),
-        target: state(alloc)?,
-    })
 }
 
 fn make_world(alloc: Global) -> Result<World, AllocError> {

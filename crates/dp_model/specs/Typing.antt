@@ -1,9 +1,9 @@
 -- When an expression is well typed over a model's object types, variables and tables, as a test that is a fold
--- over the trees; and when variables, tables, a state and the values of parameters fit them. No definition names
--- the model, so that the model can keep these facts of its own trees.
-use Rattle.std.specs.Prelude.{◌≡◌, ℕ, suc, ◌*◌, ◌^◌, ◌≤◌, ◌<◌, Bool, true, false, not, ◌&&◌, nat_lt, ◌==◌, List, [], ◌∷◌, length, slice_get, Option, Some, None, IfSome, option_and_then, unwrap_or, ℤ, pos, neg_ℤ, ◌≤ℤ◌, ◌<ℤ◌, int_le}
+-- over the trees; and when variables, tables, a state and the values of parameters fit them. All are tests, and none
+-- names the model, so that the model can keep these facts of its own trees.
+use Rattle.std.specs.Prelude.{ℕ, suc, ◌*◌, ◌^◌, Bool, true, false, not, ◌&&◌, nat_lt, ◌==◌, List, [], ◌∷◌, length, slice_get, Option, Some, None, option_and_then, unwrap_or, ℤ, pos, neg_ℤ, int_le, int_lt}
 use Rattle.std.specs.List.{list_all}
-use Rattle.dp_model.specs.Costs.{greatest, InRange}
+use Rattle.dp_model.specs.Costs.{greatest}
 use Rattle.dp_model.specs.declared.trees.Over.{Over}
 use Rattle.dp_model.specs.declared.trees.Over.TheVariants.{Object, Members}
 use Rattle.dp_model.specs.declared.trees.Arg as args
@@ -17,6 +17,10 @@ use Rattle.dp_model.specs.declared.parts.VarKind.TheVariants as kinds
 use Rattle.dp_model.specs.declared.parts.Cells.{Cells}
 use Rattle.dp_model.specs.declared.parts.Cells.TheVariants as cells
 use Rattle.dp_model.specs.declared.parts.TableData.{TableData}
+use Rattle.dp_model.specs.declared.parts.Effect.{Effect}
+use Rattle.dp_model.specs.declared.parts.Effect.TheVariants as effects
+use Rattle.dp_model.specs.declared.parts.Transition.{Transition}
+use Rattle.dp_model.specs.declared.parts.BaseCase.{BaseCase}
 use Rattle.dp_model.specs.declared.parts.PlainValue.{PlainValue}
 use Rattle.dp_model.specs.declared.parts.PlainValue.TheVariants as values
 use Rattle.dp_model.specs.declared.parts.PlainState.{PlainState}
@@ -135,8 +139,11 @@ cond_typed os vs ts (conds.Cond-F.And a b) given = a given && b given
 cond_typed os vs ts (conds.Cond-F.Or a b) given = a given && b given
 cond_typed os vs ts (conds.Cond-F.All over c) given = over_typed os vs over && c (suc given)
 
+abbrev pub is_in_range : ℤ → Bool
+is_in_range n = int_le (neg_ℤ greatest) n && int_le n greatest
+
 abbrev pub num_typed : List Variable → List TableData → nums.Num-F ArgTest CondTest NumTest SetTest → NumTest
-num_typed vs ts (nums.Num-F.Num::Fixed n) given = int_le (neg_ℤ greatest) n && int_le n greatest
+num_typed vs ts (nums.Num-F.Num::Fixed n) given = is_in_range n
 num_typed vs ts (nums.Num-F.Num::Var v) given = is_number_kind (kind_at vs v)
 num_typed vs ts (nums.Num-F.Param p) given = nat_lt p given
 num_typed vs ts (nums.Num-F.Num::Cell t ns) given = are_numbers (cells_at ts t) && cell_typed (args_at ts t) ns given
@@ -165,66 +172,106 @@ is_set os vs ts = sets.fold-SetEx ArgTest CondTest NumTest SetTest arg_typed (co
 abbrev pub is_cond : List ObjectType → List Variable → List TableData → conds.Cond → CondTest
 is_cond os vs ts = conds.fold-Cond ArgTest CondTest NumTest SetTest arg_typed (cond_typed os vs ts) (num_typed vs ts) (set_typed vs ts)
 
--- an ascending list of members, none below the least and all below the count
-abbrev pub Ascends : ℕ → ℕ → List ℕ → Type 0
-Ascends least count [] = Unit {0}
-Ascends least count (k ∷ ks) = (least ≤ k) × (k < count) × Ascends (suc k) count ks
+-- ---- effects, transitions and base cases
+
+abbrev pub holds_set_of : ℕ → Option VarKind → Bool
+holds_set_of object (Some (kinds.Set other)) = object == other
+holds_set_of object (Some (kinds.Element other)) = false
+holds_set_of object (Some kinds.Integer) = false
+holds_set_of object None = false
+
+-- an effect sets a variable to what its kind holds
+abbrev pub is_effect : List ObjectType → List Variable → List TableData → ℕ → Effect → Bool
+is_effect os vs ts given (effects.Number v n) = is_number_kind (kind_at vs v) && is_num os vs ts n given
+is_effect os vs ts given (effects.Members v set) = holds_set_of (is_set os vs ts set).0 (kind_at vs v) && (is_set os vs ts set).1 given
+
+abbrev pub is_weight : List ObjectType → List Variable → List TableData → ℕ → Option nums.Num → Bool
+is_weight os vs ts given (Some n) = is_num os vs ts n given
+is_weight os vs ts given None = true
+
+-- the trees of a transition, with its parameters in force
+abbrev pub is_transition : List ObjectType → List Variable → List TableData → Transition → Bool
+is_transition os vs ts t =
+    list_all (over_typed os vs) t.params
+    && (list_all (λ c. is_cond os vs ts c (length t.params)) t.preconditions
+    && (list_all (is_effect os vs ts (length t.params)) t.effects
+    && is_weight os vs ts (length t.params) t.weight))
+
+abbrev pub is_base_case : List ObjectType → List Variable → List TableData → BaseCase → Bool
+is_base_case os vs ts b = list_all (λ c. is_cond os vs ts c 0) b.conditions && is_num os vs ts b.cost 0
+
+-- every tree of a model is well typed
+abbrev pub are_trees : List ObjectType → List Variable → List TableData → List Transition → (constraints : List conds.Cond) → List BaseCase → (bounds : List nums.Num) → Bool
+are_trees os vs ts transitions constraints base_cases bounds =
+    list_all (is_transition os vs ts) transitions
+    && (list_all (λ c. is_cond os vs ts c 0) constraints
+    && (list_all (is_base_case os vs ts) base_cases
+    && list_all (λ n. is_num os vs ts n 0) bounds))
+
+-- ---- numbers, sets, variables, tables and states
+
+-- ascending members, none below the least and all below the count
+abbrev pub ascends : (least count : ℕ) → List ℕ → Bool
+ascends least count [] = true
+ascends least count (k ∷ ks) = not (nat_lt k least) && (nat_lt k count && ascends (suc k) count ks)
 
 -- a set of an object type with this count
-abbrev pub IsSet : ℕ → List ℕ → Type 0
-IsSet count set = Ascends 0 count set
+abbrev pub is_set_below : ℕ → List ℕ → Bool
+is_set_below count set = ascends 0 count set
 
--- variables: each object type that a kind names is there
-abbrev pub AreVariables : List ObjectType → List Variable → Type 0
-AreVariables objects variables = (v : ℕ) → IfSome (kind_at variables v) IsKind
-  where
-    IsKind : VarKind → Type 0
-    IsKind (kinds.Element object) = object < length objects
-    IsKind (kinds.Set object) = object < length objects
-    IsKind kinds.Integer = Unit {0}
+-- a variable's kind names an object type that is there
+abbrev pub is_kind : List ObjectType → VarKind → Bool
+is_kind objects (kinds.Element object) = nat_lt object (length objects)
+is_kind objects (kinds.Set object) = nat_lt object (length objects)
+is_kind objects kinds.Integer = true
 
--- tables: one cell for each choice of arguments, each cell of its kind
+abbrev pub are_variables : List ObjectType → List Variable → Bool
+are_variables objects variables = list_all (λ (v : Variable). is_kind objects v.kind) variables
 
+-- how many choices of arguments of these object types there are
 abbrev pub cell_count : List ObjectType → List ℕ → ℕ
 cell_count objects [] = 1
 cell_count objects (object ∷ args) = type_count objects object * cell_count objects args
 
-abbrev pub AreCells : List ObjectType → ℕ → Cells → Type 0
-AreCells objects size (cells.Numbers xs) = (length xs ≡ size) × ((at : ℕ) → IfSome (slice_get xs at) InRange)
-AreCells objects size (cells.Truths xs) = length xs ≡ size
-AreCells objects size (cells.Sets object xs) = (length xs ≡ size) × (object < length objects) × ((at : ℕ) → IfSome (slice_get xs at) (IsSet (type_count objects object)))
+-- so many cells, each of which is in range or a set of the table's object type
+abbrev pub are_cells : List ObjectType → ℕ → Cells → Bool
+are_cells objects count (cells.Numbers xs) = (length xs == count) && list_all is_in_range xs
+are_cells objects count (cells.Truths xs) = length xs == count
+are_cells objects count (cells.Sets object xs) = (length xs == count) && (nat_lt object (length objects) && list_all (is_set_below (type_count objects object)) xs)
 
-pub record IsTable (objects : List ObjectType) (t : TableData) : Type 0 where
-  pub arguments : (i : ℕ) → IfSome (slice_get t.args i) (λ object. object < length objects)
-  pub cells : AreCells objects (cell_count objects t.args) t.cells
+-- a table has one cell for each choice of arguments, each of an object type that is there
+abbrev pub is_table : List ObjectType → TableData → Bool
+is_table objects t = list_all (λ object. nat_lt object (length objects)) t.args && are_cells objects (cell_count objects t.args) t.cells
 
-abbrev pub AreTables : List ObjectType → List TableData → Type 0
-AreTables objects tables = (t : ℕ) → IfSome (slice_get tables t) (IsTable objects)
+abbrev pub are_tables : List ObjectType → List TableData → Bool
+are_tables objects tables = list_all (is_table objects) tables
 
--- a state: one value for each variable, of its kind
+-- A variable of this kind may hold this value. An element may be any number of 32 bits.
+abbrev pub may_hold : List ObjectType → VarKind → PlainValue → Bool
+may_hold objects kinds.Integer (values.Number n) = is_in_range n
+may_hold objects (kinds.Element object) (values.Number n) = int_le (pos 0) n && int_lt n (pos (2 ^ 32))
+may_hold objects (kinds.Set object) (values.Members set) = is_set_below (type_count objects object) set
+may_hold objects kind value = false
 
-abbrev pub Holds : List ObjectType → Option VarKind → Option PlainValue → Type 0
-Holds objects (Some kinds.Integer) (Some (values.Number n)) = InRange n
-Holds objects (Some (kinds.Element object)) (Some (values.Number n)) = (pos 0 ≤ℤ n) × (n <ℤ pos (2 ^ 32))
-Holds objects (Some (kinds.Set object)) (Some (values.Members set)) = IsSet (type_count objects object) set
-Holds objects None None = Unit {0}
-Holds objects (Some kinds.Integer) (Some (values.Members set)) = ⊥
-Holds objects (Some (kinds.Element object)) (Some (values.Members set)) = ⊥
-Holds objects (Some (kinds.Set object)) (Some (values.Number n)) = ⊥
-Holds objects (Some kind) None = ⊥
-Holds objects None (Some value) = ⊥
+-- one value for each variable
+abbrev pub are_held : List ObjectType → List Variable → List PlainValue → Bool
+are_held objects [] [] = true
+are_held objects (v ∷ vs) (x ∷ xs) = may_hold objects v.kind x && are_held objects vs xs
+are_held objects [] (x ∷ xs) = false
+are_held objects (v ∷ vs) [] = false
 
-abbrev pub IsState : List ObjectType → List Variable → PlainState → Type 0
-IsState objects variables s = (v : ℕ) → Holds objects (kind_at variables v) (slice_get s.values v)
+abbrev pub is_state : List ObjectType → List Variable → PlainState → Bool
+is_state objects variables s = are_held objects variables s.values
 
--- the values of parameters: one for each, below the count of the object type that it ranges over
+-- ---- parameters
 
 abbrev pub over_object : List Variable → Over → ℕ
 over_object variables (Object object) = object
 over_object variables (Members v) = kind_object (kind_at variables v)
 
-abbrev pub AreArguments : List ObjectType → List Variable → List Over → List ℕ → Type 0
-AreArguments objects variables [] [] = Unit {0}
-AreArguments objects variables (over ∷ overs) (k ∷ given) = (k < type_count objects (over_object variables over)) × AreArguments objects variables overs given
-AreArguments objects variables [] (k ∷ given) = ⊥
-AreArguments objects variables (over ∷ overs) [] = ⊥
+-- one value for each parameter, below the count of the object type that it ranges over
+abbrev pub are_arguments : List ObjectType → List Variable → List Over → List ℕ → Bool
+are_arguments objects variables [] [] = true
+are_arguments objects variables (over ∷ overs) (k ∷ given) = nat_lt k (type_count objects (over_object variables over)) && are_arguments objects variables overs given
+are_arguments objects variables [] (k ∷ given) = false
+are_arguments objects variables (over ∷ overs) [] = false

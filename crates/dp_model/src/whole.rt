@@ -1,4 +1,5 @@
-ghost use Rattle.std.specs.Prelude.{◌≡◌};
+ghost use Rattle.std.specs.Prelude.{◌≡◌, IsTrue};
+ghost use Rattle.dp_model.specs.Typing.{are_trees, are_variables, are_tables, is_state};
 
 use crate::parts::{
     BaseCase, Ground, JoinOp, ObjectType, PlainState, TableData, Transition, Variable,
@@ -9,6 +10,10 @@ use crate::trees::{Cond, Num};
 
 /// A DyPDL model. `minimize` says whether the lesser of two costs is better. `ground` has the ground transitions
 /// in order of definition, which every list of steps names by their numbers.
+///
+/// A model keeps that the object types which its variables and tables name are there, that each table has a cell in
+/// range for each choice of arguments, that every expression in it is well typed over them, and that its target gives
+/// each variable a value of its kind.
 #[derive(Debug, Drop)]
 pub struct Model {
     pub domain: Text,
@@ -24,6 +29,10 @@ pub struct Model {
     pub base_cases: Seq<BaseCase>,
     pub bounds: Seq<Num>,
     pub target: PlainState,
+    pub ghost kinds: { IsTrue (are_variables objects variables) },
+    pub ghost cells: { IsTrue (are_tables objects tables) },
+    pub ghost typed: { IsTrue (are_trees objects variables tables transitions constraints base_cases bounds) },
+    pub ghost held: { IsTrue (is_state objects variables target) },
 }
 
 impl Model {

@@ -11,5 +11,6 @@ pub mod ConditionLaws
 pub mod TransitionLaws
 pub mod DomainLaws
 pub mod ProblemLaws
+pub mod Typed
 pub mod Meanings
 pub mod Seen

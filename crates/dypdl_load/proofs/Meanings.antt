@@ -14,7 +14,7 @@ use Rattle.dypdl_load.specs.declared.first_form.FirstEnd.{FirstEnd}
 use Rattle.dypdl_load.specs.declared.first_form.FirstEnd.TheVariants as ends
 use Rattle.dypdl_load.specs.declared.stop.Stop.{Stop}
 use Rattle.dypdl_load.specs.FirstForm.{DomainForm, ProblemForm, IsWord}
-use Rattle.dypdl_load.specs.Meaning.{ground_transition, transition_of, model_of, SpellsDomain, Means, IsRefusedAt}
+use Rattle.dypdl_load.specs.Meaning.{ground_transition, transition_of, ModelParts, parts, model_of, SpellsDomain, Means, IsRefusedAt}
 use Rattle.dypdl_load.specs.Reading.{◌>>=◌, Gives, names}
 use Rattle.dypdl_load.specs.ReadFirst.{domain_of, problem_of}
 use Rattle.dypdl_load.specs.Parts.{domain_parts, model_made, model_read, StopsAt, Loads}
@@ -22,6 +22,7 @@ use Rattle.dypdl_load.proofs.Ascii.{name_ascii}
 use Rattle.dypdl_load.proofs.Readers.{bind_some, then_some, some_is}
 use Rattle.dypdl_load.proofs.DomainLaws.{parts_of, domain_takes, domain_again}
 use Rattle.dypdl_load.proofs.ProblemLaws.{values_of, problem_takes, problem_again}
+use Rattle.dypdl_load.proofs.Typed.{same_model}
 
 -- the model of the parts is the model of the forms
 made_is : (d : DomainForm) (p : ProblemForm) → model_made (parts_of d) (values_of p) ≡ model_of d p
@@ -29,13 +30,13 @@ made_is d p =
     let n : length (map (transition_of d.variables) d.moves) ≡ length d.moves = length-map d.moves (transition_of d.variables) in
     ap (λ (k : ℕ). record (model_of d p) { «ground» = map ground_transition (range_with_len 0 k) }) n
 
-pub read_means : (domain problem : List ℕ) (m : Model) → model_read domain problem ≡ Some m → Means domain problem m
+pub read_means : (domain problem : List ℕ) (m : Model) → model_read domain problem ≡ Some (parts m) → Means domain problem m
 read_means domain problem m e =
-    let a = bind_some (domain_of domain) (λ x. problem_of x.0.1 problem >>= λ y. Some (model_made x y)) m e in
-    let b = bind_some (problem_of a.0.0.1 problem) (λ y. Some (model_made a.0 y)) m a.2 in
+    let a = bind_some (domain_of domain) (λ x. problem_of x.0.1 problem >>= λ y. Some (model_made x y)) (parts m) e in
+    let b = bind_some (problem_of a.0.0.1 problem) (λ y. Some (model_made a.0 y)) (parts m) a.2 in
     let t = domain_takes domain a.0 a.1 in
     let u = problem_takes t.0.variables problem b.0 (ap (λ (x : (List ℕ × List (List ℕ)) × (List Transition × List Cond)). problem_of x.0.1 problem) (sym t.2) ∙ b.1) in
-    let i = some_is (model_made a.0 b.0) m b.2 in (
+    let i = some_is (model_made a.0 b.0) (parts m) b.2 in (
       t.0,
       u.0,
       (t.3, t.1),
@@ -46,18 +47,18 @@ read_means domain problem m e =
 pub domain_reads : (domain : List ℕ) (d : DomainForm) → SpellsDomain domain d → domain_of domain ≡ Some (parts_of d)
 domain_reads domain d s = ap domain_of s.0 ∙ domain_again d s.1
 
-pub means_read : (domain problem : List ℕ) (m : Model) → Means domain problem m → model_read domain problem ≡ Some m
+pub means_read : (domain problem : List ℕ) (m : Model) → Means domain problem m → model_read domain problem ≡ Some (parts m)
 means_read domain problem m h =
     let d = h.0 in
     let p = h.1 in
     let e = domain_reads domain d h.2 in
     let f : problem_of d.variables problem ≡ Some (values_of p) = ap (problem_of d.variables) h.3.0 ∙ problem_again d.variables p h.3.1 in
-    let g : model_made (parts_of d) (values_of p) ≡ m = made_is d p ∙ sym h.4 in
-    then_some (domain_of domain) (λ x. problem_of x.0.1 problem >>= λ y. Some (model_made x y)) (parts_of d) (Some m) e
-    (then_some (problem_of d.variables problem) (λ y. Some (model_made (parts_of d) y)) (values_of p) (Some m) f (ap (λ (n : Model). Some n) g))
+    let g : model_made (parts_of d) (values_of p) ≡ parts m = made_is d p ∙ sym h.4 in
+    then_some (domain_of domain) (λ x. problem_of x.0.1 problem >>= λ y. Some (model_made x y)) (parts_of d) (Some (parts m)) e
+    (then_some (problem_of d.variables problem) (λ y. Some (model_made (parts_of d) y)) (values_of p) (Some (parts m)) f (ap (λ (n : ModelParts). Some n) g))
 
 pub one_model : (domain problem : List ℕ) (m n : Model) → Means domain problem m → Means domain problem n → m ≡ n
-one_model domain problem m n h k = some_is m n (sym (means_read domain problem m h) ∙ means_read domain problem n k)
+one_model domain problem m n h k = same_model m n (some_is (parts m) (parts n) (sym (means_read domain problem m h) ∙ means_read domain problem n k))
 
 -- ---- what loading returns
 

@@ -1,5 +1,5 @@
 -- The model that the two texts of the first form mean, and where a text is refused.
-use Rattle.std.specs.Prelude.{◌≡◌, ℕ, ◌+◌, ◌*◌, ◌-◌, true, false, if◌then◌else◌, ◌⊎◌, List, [], ◌∷◌, length, map, Some, ℤ, pos, neg_ℤ}
+use Rattle.std.specs.Prelude.{◌≡◌, ℕ, ◌+◌, ◌*◌, ◌-◌, Bool, true, false, if◌then◌else◌, ◌⊎◌, List, [], ◌∷◌, length, map, Some, ℤ, pos, neg_ℤ}
 use Rattle.std.specs.List.{fold, range_with_len, position_or_len}
 use Rattle.std.specs.Str.{bytes_eq}
 use Rattle.dp_model.specs.declared.trees.Num.{Num}
@@ -8,14 +8,18 @@ use Rattle.dp_model.specs.declared.trees.Num.TheVariants as nums
 use Rattle.dp_model.specs.declared.trees.Cond.TheVariants as conds
 use Rattle.dp_model.specs.declared.trees.NumOp.TheVariants as operations
 use Rattle.dp_model.specs.declared.trees.Compare.TheVariants as comparisons
+use Rattle.dp_model.specs.declared.parts.ObjectType.{ObjectType}
 use Rattle.dp_model.specs.declared.parts.Variable.{Variable}
 use Rattle.dp_model.specs.declared.parts.VarKind.TheVariants as kinds
 use Rattle.dp_model.specs.declared.parts.Preference.TheVariants as preferences
+use Rattle.dp_model.specs.declared.parts.TableData.{TableData}
 use Rattle.dp_model.specs.declared.parts.Effect.{Effect}
 use Rattle.dp_model.specs.declared.parts.Transition.{Transition}
 use Rattle.dp_model.specs.declared.parts.Ground.{Ground}
 use Rattle.dp_model.specs.declared.parts.BaseCase.{BaseCase}
 use Rattle.dp_model.specs.declared.parts.PlainValue.{PlainValue}
+use Rattle.dp_model.specs.declared.parts.PlainState.{PlainState}
+use Rattle.dp_model.specs.declared.parts.JoinOp.{JoinOp}
 use Rattle.dp_model.specs.declared.parts.JoinOp.TheVariants as joins
 use Rattle.dp_model.specs.declared.places.Place.{Place}
 use Rattle.dp_model.specs.declared.whole.Model.{Model}
@@ -67,8 +71,41 @@ ground_transition i = record { transition = i; args = [] }
 abbrev pub ground : ℕ → List Ground
 ground count = map ground_transition (range_with_len 0 count)
 
--- a model that minimizes, whose transitions have no parameters and add their weights
-abbrev pub model_of : DomainForm → ProblemForm → Model
+-- the parts of a model, without what is proved of them
+pub record ModelParts : Type 0 where
+  pub domain : List ℕ
+  pub problem : List ℕ
+  pub minimize : Bool
+  pub join : JoinOp
+  pub objects : List ObjectType
+  pub variables : List Variable
+  pub tables : List TableData
+  pub transitions : List Transition
+  pub ground : List Ground
+  pub constraints : List Cond
+  pub base_cases : List BaseCase
+  pub bounds : List Num
+  pub target : PlainState
+
+abbrev pub parts : Model → ModelParts
+parts m = record {
+  domain = m.domain;
+  problem = m.problem;
+  minimize = m.minimize;
+  join = m.join;
+  objects = m.objects;
+  variables = m.variables;
+  tables = m.tables;
+  transitions = m.transitions;
+  ground = m.ground;
+  constraints = m.constraints;
+  base_cases = m.base_cases;
+  bounds = m.bounds;
+  target = m.target;
+}
+
+-- those of a model that minimizes, whose transitions have no parameters and add their weights
+abbrev pub model_of : DomainForm → ProblemForm → ModelParts
 model_of d p = record {
   domain = d.name;
   problem = p.name;
@@ -95,7 +132,7 @@ SpellsProblem d bytes p = (bytes ≡ problem_text p) × IsProblem d.variables p
 
 -- the texts of a domain and a problem mean a model
 abbrev pub Means : List ℕ → List ℕ → Model → Type 0
-Means domain problem model = (d : DomainForm) × (p : ProblemForm) × SpellsDomain domain d × SpellsProblem d problem p × (model ≡ model_of d p)
+Means domain problem model = (d : DomainForm) × (p : ProblemForm) × SpellsDomain domain d × SpellsProblem d problem p × (parts model ≡ model_of d p)
 
 -- Line 1, column 1 of the domain is refused where its text is not of the form, and else that of the problem where the two mean no model.
 abbrev pub IsRefusedAt : List ℕ → List ℕ → Place → Type 0

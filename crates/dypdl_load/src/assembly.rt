@@ -1,11 +1,11 @@
 //! The model, of what was read in a domain and a problem.
 
-ghost use Rattle.std.specs.Prelude.{◌≡◌, ◌≤◌, ◌∷◌, [], All, IfOk, length, map, pos};
+ghost use Rattle.std.specs.Prelude.{◌≡◌, ◌≤◌, All, IfOk, IsTrue, length, map};
 ghost use Rattle.std.specs.List.{range_with_len};
 ghost use Rattle.std.specs.Str.{IsAscii};
-ghost use Rattle.dypdl_load.specs.Meaning.{ground_transition, variable_of};
+ghost use Rattle.dypdl_load.specs.Meaning.{ground_transition, variable_of, parts};
 ghost use Rattle.dypdl_load.specs.Reading.{names};
-ghost use Rattle.dypdl_load.specs.Parts.{domain_parts, model_made};
+ghost use Rattle.dypdl_load.specs.Parts.{base_cases_made, domain_parts, is_held, is_typed, model_made};
 
 use crate::domain::DomainParts;
 use crate::scan::text_of;
@@ -48,7 +48,7 @@ fn ground_transitions(alloc: Global, count: u32) -> Result<Vec<Ground>, AllocErr
 
 /// The one base case, which costs 0.
 fn base_cases(alloc: Global, conditions: Vec<Cond>) -> Result<Vec<BaseCase>, AllocError>
-    ensures { IfOk result (λ v. v.items ≡ record { conditions = conditions.items; cost = Num.Fixed (pos 0) } ∷ []) }
+    ensures { IfOk result (λ v. v.items ≡ base_cases_made conditions.items) }
 {
     let mut cases = Vec::new(alloc);
     cases.push(BaseCase {
@@ -67,7 +67,9 @@ pub fn model_of(
 ) -> Result<Model, AllocError>
     requires words { All (λ w. IsAscii w.now) domain.variables.items }
     requires few { length domain.transitions.items ≤ 65536 }
-    ensures { IfOk result (λ m. m ≡ model_made (domain_parts domain.entry) (problem, values.items)) }
+    requires typed { IsTrue (is_typed (domain_parts domain)) }
+    requires held { IsTrue (is_held (domain_parts domain) values.items) }
+    ensures { IfOk result (λ m. parts m ≡ model_made (domain_parts domain.entry) (problem, values.items)) }
 {
     let DomainParts {
         name,

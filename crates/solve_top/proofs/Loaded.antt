@@ -1,13 +1,12 @@
 -- A model of the first form is plain.
-use Rattle.std.proofs.Common.{◌≡◌, ℕ, zero, suc, ◌+◌, ◌*◌, ◌^◌, ◌<◌, ◌≤◌, Bool, true, false, cond, not, ◌||◌, List, [], ◌∷◌, length, get_or, map, refl, sym, ap, ◌∙◌, subst, All, Some, pos, neg_ℤ, inl, inr, arith}
+use Rattle.std.proofs.Common.{◌≡◌, ℕ, zero, suc, ◌<◌, ◌≤◌, Bool, true, false, List, [], ◌∷◌, length, get_or, map, refl, sym, ap, ◌∙◌, subst, All, Some, pos, neg_ℤ, inl, inr, arith}
 use Rattle.std.specs.Prelude.{if◌then◌else◌, slice_get, unwrap_or, option_and_then}
-use Rattle.std.specs.List.{list_any, position_or_len, range_with_len, AllByRecursion}
-use Rattle.std.specs.Str.{bytes_eq}
-use Rattle.std.proofs.Math.Nat.{pow-le-pow_right}
+use Rattle.std.specs.List.{range_with_len, AllByRecursion}
 use Rattle.std.proofs.lemmas.Int.{ints}
 use Rattle.std.proofs.lemmas.List.{length-map}
 use Rattle.std.proofs.lemmas.List.Elements.{All-nil, All-cons, All-map}
 use Rattle.std.proofs.lemmas.List.FromFn.{length-map-range_with_len, get_or-map-range_with_len}
+use Rattle.dp_model.specs.Typing.{kind_at}
 use Rattle.dp_model.specs.declared.trees.Num.TheVariants as nums
 use Rattle.dp_model.specs.declared.trees.Compare.TheVariants as comparisons
 use Rattle.dp_model.specs.declared.parts.Ground.{Ground}
@@ -18,32 +17,17 @@ use Rattle.dp_model.specs.declared.parts.VarKind.TheVariants as kinds
 use Rattle.dp_model.specs.declared.parts.Variable.{Variable}
 use Rattle.dp_model.specs.declared.whole.Model.{Model}
 use Rattle.dypdl_load.specs.FirstForm.{Number, Condition, NewValue, Constant, Added, Change, Move, Setting, IsNumber, IsCondition, IsNewValue, IsChange, IsMove, is_among}
-use Rattle.dypdl_load.specs.Meaning.{digits_value, number_value, variable_number, condition_of, value_of, effect_of, transition_of, variable_of, base_case_of, Means}
-use Rattle.dypdl_load.proofs.Digits.{fold_small}
-use Rattle.solve_top.specs.Plain.{IsSmall, IsPlainCond, IsPlainNum, IsPlainEffect, IsPlainTransition, IsPlain, numbers_of}
+use Rattle.dypdl_load.specs.Meaning.{digits_value, number_value, variable_number, condition_of, value_of, effect_of, transition_of, variable_of, base_case_of, ground_transition, ModelParts, Means}
+use Rattle.dypdl_load.proofs.Typed.{number_within, small_value}
+use Rattle.solve_top.specs.Plain.{IsSmall, IsPlainCond, IsPlainNum, IsPlainEffect, IsPlainTransition, HasPlainBase, IsPlainTarget, IsPlain, numbers_of}
 
 -- what follows for each
 follows : {X : Type 0} (P Q : X → Type 0) → ((x : X) → P x → Q x) → (xs : List X) → AllByRecursion P xs → All Q xs
 follows P Q f [] h = All-nil Q
 follows P Q f (x ∷ xs) h = All-cons Q x xs (f x h.0) (follows P Q f xs h.1)
 
-step_within : (here rest : Bool) (k n : ℕ) → (here || rest) ≡ true → (rest ≡ true → k < n) → cond (not here) (1 + k) 0 < suc n
-step_within true rest k n h f = omega arith
-step_within false rest k n h f = omega (arith, f h)
-
--- a text that is among others has a number
-found_within : {X : Type 0} (p : X → Bool) (xs : List X) → list_any p xs ≡ true → position_or_len p xs < length xs
-found_within p [] h = absurd (grind (arith, h))
-found_within p (x ∷ xs) h = step_within (p x) (list_any p xs) (position_or_len p xs) (length xs) h (found_within p xs)
-
-number_within : (vs : List (List ℕ)) (n : ℕ) (v : List ℕ) → n ≡ length vs → is_among vs v ≡ true → variable_number vs v < n
-number_within vs n v long h = omega (arith, long, found_within (bytes_eq v) vs h)
-
-small_value : (n : Number) → IsNumber n → digits_value n.digits ≤ 999999
-small_value n h =
-    let k : digits_value n.digits + 1 ≤ (0 + 1) * 10 ^ length n.digits = fold_small 0 n.digits h.digits in
-    let p : 10 ^ length n.digits ≤ 10 ^ 6 = pow-le-pow_right (omega arith) h.few in
-    omega (arith, k, p)
+below_count : (vs : List (List ℕ)) (n : ℕ) (v : List ℕ) → n ≡ length vs → is_among vs v ≡ true → variable_number vs v < n
+below_count vs n v long h = omega (arith, long, number_within vs v h)
 
 small_signed : (negative : Bool) (v : ℕ) → v ≤ 999999 → IsSmall (if negative then neg_ℤ (pos v) else pos v)
 small_signed true v h = (omega (arith, ints, h), omega (arith, ints, h))
@@ -58,20 +42,20 @@ module _ (vs : List (List ℕ)) (n : ℕ) (long : n ≡ length vs) where
     op = if c.less then comparisons.Less else comparisons.Same;
     left = nums.Var (variable_number vs c.variable);
     right = nums.Fixed (number_value c.number);
-    left_leaf = inl (variable_number vs c.variable, number_within vs n c.variable long h.0, refl);
+    left_leaf = inl (variable_number vs c.variable, below_count vs n c.variable long h.0, refl);
     right_leaf = inr (number_value c.number, refl);
     shape = refl;
   }
 
   plain_value : (v : NewValue) → IsNewValue vs v → IsPlainNum n (value_of vs v)
   plain_value (Constant k) h = record { number = number_value k; small = small_number k h; shape = inl refl }
-  plain_value (Added v k) h = record { number = number_value k; small = small_number k h.1; shape = inr (variable_number vs v, number_within vs n v long h.0, refl) }
+  plain_value (Added v k) h = record { number = number_value k; small = small_number k h.1; shape = inr (variable_number vs v, below_count vs n v long h.0, refl) }
 
   plain_change : (c : Change) → IsChange vs c → IsPlainEffect n (effect_of vs c)
   plain_change c h = record {
     variable = variable_number vs c.variable;
     value = value_of vs c.value;
-    within = number_within vs n c.variable long h.0;
+    within = below_count vs n c.variable long h.0;
     plain = plain_value c.value h.1;
     shape = refl;
   }
@@ -115,24 +99,26 @@ plain domain problem m h =
     let fits = h.2.1 in
     let sets = h.3.1 in
     let long = length-map d.variables variable_of in
-    subst IsPlain (sym h.4) (record {
-      minimize = refl;
-      join = refl;
-      constraints = refl;
-      kinds = integers d.variables;
-      transitions = plain_moves d.variables (length (map variable_of d.variables)) long d.moves fits.moves;
-      few = omega (arith, length-map-range_with_len (λ (i : ℕ). let g : Ground = record { transition = i; args = [] } in g) 0 (length d.moves), fits.few_moves);
-      grounds = grounds_within (λ (i : ℕ). let g : Ground = record { transition = i; args = [] } in g) (length d.moves) (length (map (transition_of d.variables) d.moves)) (sym (length-map d.moves (transition_of d.variables))) (λ i. (refl, refl));
-      base = record {
+    let back = sym h.4 in
+    record {
+      minimize = ap (λ (x : ModelParts). x.minimize) h.4;
+      join = ap (λ (x : ModelParts). x.join) h.4;
+      constraints = ap (λ (x : ModelParts). x.constraints) h.4;
+      kinds = λ v. ap (λ (x : ModelParts). unwrap_or (kind_at x.variables v) kinds.Integer) h.4 ∙ integers d.variables v;
+      transitions = subst (λ (x : ModelParts). All (IsPlainTransition (length x.variables)) x.transitions) back (plain_moves d.variables (length (map variable_of d.variables)) long d.moves fits.moves);
+      few = subst (λ (x : ModelParts). length x.«ground» ≤ 65536) back (omega (arith, length-map-range_with_len ground_transition 0 (length d.moves), fits.few_moves));
+      grounds = subst (λ (x : ModelParts). All (λ (g : Ground). (g.transition < length x.transitions) × (g.args ≡ [])) x.«ground») back
+          (grounds_within ground_transition (length d.moves) (length (map (transition_of d.variables) d.moves)) (sym (length-map d.moves (transition_of d.variables))) (λ i. (refl, refl)));
+      base = subst (λ (x : ModelParts). HasPlainBase (length x.variables) x.base_cases) back (record {
         case = base_case_of d;
         one = refl;
         conditions = plain_conditions d.variables (length (map variable_of d.variables)) long d.conditions fits.conditions;
         cost = refl;
-      };
-      target = record {
+      });
+      target = subst (λ (x : ModelParts). IsPlainTarget (length x.variables) x.target) back (record {
         numbers = map (λ (s : Setting). number_value s.number) p.target;
         is = ap (λ (xs : List PlainValue). let s : PlainState = record { values = xs } in s) (map_twice p.target);
         long = omega (arith, length-map p.target (λ (s : Setting). number_value s.number), length-map p.target (λ (s : Setting). s.variable), ap (λ (ws : List (List ℕ)). length ws) sets.all_variables, long);
         small = All-map IsSmall (λ (s : Setting). number_value s.number) p.target (follows (λ (s : Setting). IsNumber s.number) (λ (s : Setting). IsSmall (number_value s.number)) (λ s k. small_number s.number k) p.target sets.numbers);
-      };
-    })
+      });
+    }

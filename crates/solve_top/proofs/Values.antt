@@ -13,7 +13,7 @@ use Rattle.dp_model.specs.declared.parts.PlainValue.{PlainValue}
 use Rattle.dp_model.specs.declared.parts.PlainValue.TheVariants as values
 use Rattle.dp_model.specs.declared.parts.PlainState.{PlainState}
 use Rattle.dp_model.specs.declared.whole.Model.{Model}
-use Rattle.dp_model.specs.States.{effect_value, with_changes, all_true, Allowed, Base, Inner}
+use Rattle.dp_model.specs.States.{effect_value, with_changes, all_true, case_costs, Allowed, Base, Inner}
 use Rattle.dp_model.specs.declared.parts.BaseCase.{BaseCase}
 use Rattle.std.specs.Prelude.{MatchBool}
 use Rattle.dp_model.specs.declared.parts.Effect.{Effect}
@@ -75,17 +75,24 @@ after_one m from e es ns v n h =
 pub allowed : (m : Model) (s : PlainState) → m.constraints ≡ [] → Allowed m s
 allowed m s h = ap (λ cs. all_true m s [] cs) h
 
+-- the costs of one base case of cost 0, where it holds and where not
+one_cost : (m : Model) (s : PlainState) (case : BaseCase) (cases : List BaseCase) → cases ≡ case ∷ [] → num_value m s case.cost [] ≡ Ok (pos 0) → all_true m s [] case.conditions ≡ Ok true → case_costs m s cases ≡ Ok (pos 0 ∷ [])
+one_cost m s case cases one costs h = rw (one, h, costs) refl
+
+no_cost : (m : Model) (s : PlainState) (case : BaseCase) (cases : List BaseCase) → cases ≡ case ∷ [] → all_true m s [] case.conditions ≡ Ok false → case_costs m s cases ≡ Ok []
+no_cost m s case cases one h = rw (one, h) refl
+
 -- with one base case of cost 0, a state is base where its conditions hold, and inner where one does not
 pub base_or_inner : (m : Model) (s : PlainState) (case : BaseCase) (b : Bool) → m.constraints ≡ [] → m.base_cases ≡ case ∷ [] → case.cost ≡ nums.Fixed (pos 0) → all_true m s [] case.conditions ≡ Ok b → MatchBool b (Base m s (pos 0)) (Inner m s)
 base_or_inner m s case true none one free h =
     let costs : num_value m s case.cost [] ≡ Ok (pos 0) = ap (λ e. num_value m s e []) free ∙ num_fixed m s (pos 0) [] in
     record {
       allowed = allowed m s none;
-      best = (pos 0, [], rw (one, h, costs), refl);
+      best = (pos 0, [], one_cost m s case m.base_cases one costs h, refl);
     }
 base_or_inner m s case false none one free h = record {
   allowed = allowed m s none;
-  open_cases = rw (one, h);
+  open_cases = no_cost m s case m.base_cases one h;
 }
 
 -- what is at a place of a state of integers

@@ -4,8 +4,8 @@ ghost use Rattle.std.specs.Prelude.{None};
 
 use super::*;
 use dp_model::{
-    Effect, FaultAt, FaultKind, Ground, JoinOp, Num, Over, Place, PlainState, Preference, Reason,
-    Seq, Spot, Text, Transition, VarKind, Variable,
+    Effect, FaultAt, FaultKind, Ground, JoinOp, Num, ObjectType, Over, Place, PlainState,
+    PlainValue, Preference, Reason, Seq, Spot, Text, Transition, VarKind, Variable,
 };
 use dp_outside::FineSink;
 use std::alloc::{AllocError, Global};
@@ -15,7 +15,7 @@ fn text(alloc: Global, words: &str) -> Result<Text, AllocError> {
     Ok(Text::of(String::from_str(alloc, words)?))
 }
 
-/// A model with one variable `place`, and one transition `visit` with a parameter, at 2.
+/// A model of three places and one variable `place`, with one transition `visit` of a place, at 2.
 fn visiting(alloc: Global) -> Result<Model, AllocError> {
     let visit = Transition {
         name: text(alloc, "visit")?,
@@ -24,6 +24,10 @@ fn visiting(alloc: Global) -> Result<Model, AllocError> {
         preconditions: Seq::of(Vec::new(alloc)),
         effects: Seq::of(vec![in alloc; Effect::Number(0, Num::Param(0))]?),
         weight: None,
+    };
+    let places = ObjectType {
+        name: text(alloc, "places")?,
+        count: 3,
     };
     let place = Variable {
         name: text(alloc, "place")?,
@@ -39,7 +43,7 @@ fn visiting(alloc: Global) -> Result<Model, AllocError> {
         problem: text(alloc, "one")?,
         minimize: true,
         join: JoinOp::Plus,
-        objects: Seq::of(Vec::new(alloc)),
+        objects: Seq::of(vec![in alloc; places]?),
         variables: Seq::of(vec![in alloc; place]?),
         tables: Seq::of(Vec::new(alloc)),
         transitions: Seq::of(vec![in alloc; visit]?),
@@ -48,7 +52,7 @@ fn visiting(alloc: Global) -> Result<Model, AllocError> {
         base_cases: Seq::of(Vec::new(alloc)),
         bounds: Seq::of(Vec::new(alloc)),
         target: PlainState {
-            values: Seq::of(Vec::new(alloc)),
+            values: Seq::of(vec![in alloc; PlainValue::Number(0)]?),
         },
     })
 }

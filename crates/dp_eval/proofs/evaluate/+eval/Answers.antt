@@ -1,7 +1,10 @@
 use Rattle.std.proofs.Common.{rules, ◌≡◌}
 use Rattle.dp_model.specs.declared.trees.Cond as conds
+use Rattle.dp_model.specs.declared.trees.Num as nums
+use Rattle.dp_model.specs.declared.trees.SetEx as sets
 use Rattle.dp_model.specs.Evaluation.{range_of}
 use Rattle.dp_eval.proofs.Forall.{all-answers}
+use Rattle.dp_eval.proofs.Stops.{num_cell-stops, set_cell-stops, cond_cell-stops}
 use Rattle.dp_eval.proofs.evaluate.+eval.Goals as goal
 
 pub eval_cond-returns-in_ok-members-in-All : goal.eval_cond-returns-in_ok-members-in-All
@@ -9,3 +12,18 @@ eval_cond-returns-in_ok-members-in-All t c =
     let p : conds.out-Cond c.args.e.now ≡ conds.Cond-F.All c.in-All.over c.get-in-All.result.now = search (rules, conds.the_lemmas) in
     let n : c.deref-in-All.result.now ≡ range_of c.args.model.now c.args.s.now c.in-All.over = search rules in
     all-answers c.args.model.now c.args.s.now c.in-All.over c.args.e.now c.get-in-All.result.now c.args.args.now c.deref-in-All.result.now c.eval_all.result p n c.eval_all.ensures
+
+pub eval_num-returns-in_err-members-in-Cell : goal.eval_num-returns-in_err-members-in-Cell
+eval_num-returns-in_err-members-in-Cell t c =
+    let p : nums.out-Num c.args.e.now ≡ nums.Num-F.Num::Cell c.in-Cell.t c.in-Cell.ns = search (rules, nums.the_lemmas) in
+    num_cell-stops c.args.model.now c.args.s.now c.in-Cell.t c.in-Cell.ns c.args.args.now c.in_err-members-in-Cell.field-0.0 c.in_err-members-in-Cell.ensures c.args.e.now c.from_residual.result p c.from_residual.ensures.1
+
+pub eval_set-returns-in_err-members-in-Cell : goal.eval_set-returns-in_err-members-in-Cell
+eval_set-returns-in_err-members-in-Cell t c =
+    let p : sets.out-SetEx c.args.e.now ≡ sets.SetEx-F.SetEx::Cell c.in-Cell.t c.in-Cell.ns = search (rules, sets.the_lemmas) in
+    set_cell-stops c.args.model.now c.args.s.now c.in-Cell.t c.in-Cell.ns c.args.args.now c.in_err-members-in-Cell.field-0.0 c.in_err-members-in-Cell.ensures c.args.e.now c.from_residual-in_err-members-in-Cell.result p c.from_residual-in_err-members-in-Cell.ensures.1
+
+pub eval_cond-returns-in_err-members-in-Cell : goal.eval_cond-returns-in_err-members-in-Cell
+eval_cond-returns-in_err-members-in-Cell t c =
+    let p : conds.out-Cond c.args.e.now ≡ conds.Cond-F.Cond::Cell c.in-Cell.t c.in-Cell.ns = search (rules, conds.the_lemmas) in
+    cond_cell-stops c.args.model.now c.args.s.now c.in-Cell.t c.in-Cell.ns c.args.args.now c.in_err-members-in-Cell.field-0.0 c.in_err-members-in-Cell.ensures c.args.e.now c.from_residual.result p c.from_residual.ensures.1
