@@ -6,7 +6,8 @@ use Rattle.dp_model.specs.declared.parts.PlainState.{PlainState}
 use Rattle.dp_model.specs.declared.trees.Cond as conds
 use Rattle.dp_model.specs.declared.trees.Num as nums
 use Rattle.dp_model.specs.declared.trees.SetEx as sets
-use Rattle.dp_model.specs.Evaluation.{◌>>=◌, in_turn, members_of, table_counts, cells_of, place_in, number_cell, truth_cell, set_cell, num_value, set_value, cond_value, ArgValue, CondValue, NumValue, SetValue, arg_step, cond_step, num_step, set_step}
+use Rattle.dp_base.specs.Results.{◌>>=◌, in_turn}
+use Rattle.dp_model.specs.Evaluation.{members_of, table_counts, cells_of, place_in, number_cell, truth_cell, set_cell, num_value, set_value, cond_value, ArgValue, CondValue, NumValue, SetValue, arg_step, cond_step, num_step, set_step}
 use Rattle.dp_eval.specs.declared.ends.EvalEnd.{EvalEnd}
 use Rattle.dp_eval.specs.declared.ends.EvalEnd.TheVariants.{Fault, Memory}
 use Rattle.dp_eval.specs.Answers.{Answers}

@@ -1,6 +1,6 @@
 -- What an evaluator answers.
 use Rattle.std.specs.Prelude.{◌≡◌, List, ◌++◌, Result, Ok, Err}
-use Rattle.dp_model.specs.Evaluation.{◌>>=◌}
+use Rattle.dp_base.specs.Results.{◌>>=◌}
 use Rattle.dp_model.specs.declared.answers.FaultKind.{FaultKind}
 use Rattle.dp_eval.specs.declared.ends.EvalEnd.{EvalEnd}
 use Rattle.dp_eval.specs.declared.ends.EvalEnd.TheVariants.{Fault, Memory}

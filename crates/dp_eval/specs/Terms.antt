@@ -1,7 +1,8 @@
 -- Arguments of a `sum` after they were evaluated.
 use Rattle.std.specs.Prelude.{ℕ, List, [], ◌∷◌, map, ◌⊎◌, ℤ, Result, Ok}
 use Rattle.std.proofs.Common.{inl, inr}
-use Rattle.dp_model.specs.Evaluation.{◌>>=◌, in_turn, member_of, members_of, choices_of, table_counts, total_of, ways, ArgValue, CondValue, NumValue, SetValue, arg_step, cond_step, num_step, set_step, num_value}
+use Rattle.dp_base.specs.Results.{◌>>=◌, in_turn}
+use Rattle.dp_model.specs.Evaluation.{member_of, members_of, choices_of, table_counts, total_of, ways, ArgValue, CondValue, NumValue, SetValue, arg_step, cond_step, num_step, set_step, num_value}
 use Rattle.dp_model.specs.Costs.{ranged}
 use Rattle.dp_model.specs.declared.whole.Model.{Model}
 use Rattle.dp_model.specs.declared.parts.PlainState.{PlainState}

@@ -4,7 +4,8 @@ ghost use Rattle.std.specs.Prelude.{◌≡◌, ◌∷◌, ◌++◌, [], map, sli
 ghost use Rattle.std.specs.List.{range_with_len};
 ghost use Rattle.dp_model.specs.declared.whole.Model.{Model};
 ghost use Rattle.dp_model.specs.declared.parts.PlainState.{PlainState};
-ghost use Rattle.dp_model.specs.Evaluation.{count_of, in_turn, each_holds, range_of, num_value, set_value, cond_value, NumValue};
+ghost use Rattle.dp_base.specs.Results.{in_turn};
+ghost use Rattle.dp_model.specs.Evaluation.{count_of, each_holds, range_of, num_value, set_value, cond_value, NumValue};
 ghost use Rattle.dp_eval.specs.Answers.{Answers, AnswersBy};
 ghost use Rattle.dp_eval.specs.Terms.{term_value, arg_value, member_values, term_values};
 

@@ -277,7 +277,7 @@ pub fn model(alloc: Global) -> Result<Model, AllocError> {
         variables: variables(alloc)?,
         tables: Seq::of(items),
         transitions: Seq::of(Vec::new(alloc)),
-        ground: Seq::of(Vec::new(alloc)),
+        dp_ground: Seq::of(Vec::new(alloc)),
         constraints: Seq::of(Vec::new(alloc)),
         base_cases: Seq::of(Vec::new(alloc)),
         bounds: Seq::of(Vec::new(alloc)),

@@ -7,6 +7,7 @@ use Rattle.std.specs.Int.{int_min, int_max}
 use Rattle.std.specs.Ordering.{int_eq}
 use Rattle.std.specs.Str.{bytes_eq}
 use Rattle.std.proofs.Common.{inl, inr}
+use Rattle.dp_base.specs.Results.{◌>>=◌, in_turn}
 use Rattle.dp_model.specs.Costs.{ranged}
 use Rattle.dp_model.specs.declared.answers.FaultKind.{FaultKind}
 use Rattle.dp_model.specs.declared.answers.FaultKind.TheVariants.{ZeroDivisor, Negative, Index}
@@ -33,17 +34,6 @@ use Rattle.dp_model.specs.declared.parts.PlainValue.{PlainValue}
 use Rattle.dp_model.specs.declared.parts.PlainValue.TheVariants as values
 use Rattle.dp_model.specs.declared.parts.PlainState.{PlainState}
 use Rattle.dp_model.specs.declared.whole.Model.{Model}
-
--- What comes after a step that may meet a fault.
-infixl 10 ◌>>=◌
-abbrev pub ◌>>=◌ : {A B : Type 0} → Result A FaultKind → (A → Result B FaultKind) → Result B FaultKind
-(Ok x) >>= f = f x
-(Err k) >>= f = Err k
-
--- one after another, up to the first fault
-abbrev pub in_turn : {A B : Type 0} → (A → Result B FaultKind) → List A → Result (List B) FaultKind
-in_turn f [] = Ok []
-in_turn f (x ∷ xs) = f x >>= λ y. in_turn f xs >>= λ ys. Ok (y ∷ ys)
 
 -- whether a test holds of each, in turn up to the first of which it does not
 abbrev pub each_holds : {A : Type 0} → (A → Result Bool FaultKind) → List A → Result Bool FaultKind
@@ -225,6 +215,7 @@ cond_step m s (conds.Cond-F.Empty a) given = a.1 given >>= λ xs. Ok (length xs 
 cond_step m s (conds.Cond-F.Cond::Not c) given = negated (c given)
 cond_step m s (conds.Cond-F.And a b) given = a given >>= λ held. if held then b given else Ok false
 cond_step m s (conds.Cond-F.Or a b) given = a given >>= λ held. if held then Ok true else b given
+cond_step m s (conds.Cond-F.Cond::If c a b) given = c given >>= λ held. if held then a given else b given
 cond_step m s (conds.Cond-F.All over c) given = each_holds (λ k. c (given ++ k ∷ [])) (range_of m s over)
 
 abbrev pub num_step : Model → PlainState → nums.Num-F ArgValue CondValue NumValue SetValue → NumValue

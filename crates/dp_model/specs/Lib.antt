@@ -1,8 +1,5 @@
-pub mod formers
-pub mod Lending
 pub mod Costs
 pub mod Evaluation
-pub mod States
-pub mod Lists
-pub mod Records
 pub mod Typing
+pub mod Limits
+pub mod StepTexts

@@ -1,8 +1,8 @@
 -- When an expression is well typed over a model's object types, variables and tables, as a test that is a fold
 -- over the trees; and when variables, tables, a state and the values of parameters fit them. All are tests, and none
 -- names the model, so that the model can keep these facts of its own trees.
-use Rattle.std.specs.Prelude.{ℕ, suc, ◌*◌, ◌^◌, Bool, true, false, not, ◌&&◌, nat_lt, ◌==◌, List, [], ◌∷◌, length, slice_get, Option, Some, None, option_and_then, unwrap_or, ℤ, pos, neg_ℤ, int_le, int_lt}
-use Rattle.std.specs.List.{list_all}
+use Rattle.std.specs.Prelude.{ℕ, suc, ◌*◌, ◌^◌, Bool, true, false, not, ◌&&◌, ◌||◌, nat_lt, ◌==◌, List, [], ◌∷◌, length, slice_get, Option, Some, None, option_and_then, unwrap_or, ℤ, pos, neg_ℤ, int_le, int_lt}
+use Rattle.std.specs.List.{list_all, list_any}
 use Rattle.dp_model.specs.Costs.{greatest}
 use Rattle.dp_model.specs.declared.trees.Over.{Over}
 use Rattle.dp_model.specs.declared.trees.Over.TheVariants.{Object, Members}
@@ -20,6 +20,9 @@ use Rattle.dp_model.specs.declared.parts.TableData.{TableData}
 use Rattle.dp_model.specs.declared.parts.Effect.{Effect}
 use Rattle.dp_model.specs.declared.parts.Effect.TheVariants as effects
 use Rattle.dp_model.specs.declared.parts.Transition.{Transition}
+use Rattle.dp_model.specs.declared.parts.Ground.{Ground}
+use Rattle.dp_model.specs.declared.parts.Preference.{Preference}
+use Rattle.dp_model.specs.declared.parts.Preference.TheVariants.{Without, Less, Greater}
 use Rattle.dp_model.specs.declared.parts.BaseCase.{BaseCase}
 use Rattle.dp_model.specs.declared.parts.PlainValue.{PlainValue}
 use Rattle.dp_model.specs.declared.parts.PlainValue.TheVariants as values
@@ -86,6 +89,11 @@ sets_object (Some (cells.Numbers xs)) = 0
 sets_object (Some (cells.Truths xs)) = 0
 sets_object None = 0
 
+-- a `sum` goes over a table of numbers, not of members of an object type, with one argument or more
+abbrev pub is_summed : Option TableData → Bool
+is_summed (Some t) = not t.element && (are_numbers (Some t.cells) && nat_lt 0 (length t.args))
+is_summed None = false
+
 -- what each form of expression needs, given what its parts need: a test for a number of parameters in force
 
 abbrev pub NumTest : Type 0
@@ -137,6 +145,7 @@ cond_typed os vs ts (conds.Cond-F.Empty a) given = a.1 given
 cond_typed os vs ts (conds.Cond-F.Cond::Not c) given = c given
 cond_typed os vs ts (conds.Cond-F.And a b) given = a given && b given
 cond_typed os vs ts (conds.Cond-F.Or a b) given = a given && b given
+cond_typed os vs ts (conds.Cond-F.Cond::If c a b) given = c given && a given && b given
 cond_typed os vs ts (conds.Cond-F.All over c) given = over_typed os vs over && c (suc given)
 
 abbrev pub is_in_range : ℤ → Bool
@@ -147,7 +156,7 @@ num_typed vs ts (nums.Num-F.Num::Fixed n) given = is_in_range n
 num_typed vs ts (nums.Num-F.Num::Var v) given = is_number_kind (kind_at vs v)
 num_typed vs ts (nums.Num-F.Param p) given = nat_lt p given
 num_typed vs ts (nums.Num-F.Num::Cell t ns) given = are_numbers (cells_at ts t) && cell_typed (args_at ts t) ns given
-num_typed vs ts (nums.Num-F.Sum t terms) given = are_numbers (cells_at ts t) && args_typed (args_at ts t) terms given
+num_typed vs ts (nums.Num-F.Sum t terms) given = is_summed (slice_get ts t) && args_typed (args_at ts t) terms given
 num_typed vs ts (nums.Num-F.Size a) given = a.1 given
 num_typed vs ts (nums.Num-F.Num::Op op a b) given = a given && b given
 num_typed vs ts (nums.Num-F.Num::If c a b) given = c given && a given && b given
@@ -185,6 +194,16 @@ abbrev pub is_effect : List ObjectType → List Variable → List TableData → 
 is_effect os vs ts given (effects.Number v n) = is_number_kind (kind_at vs v) && is_num os vs ts n given
 is_effect os vs ts given (effects.Members v set) = holds_set_of (is_set os vs ts set).0 (kind_at vs v) && (is_set os vs ts set).1 given
 
+-- the variable that an effect sets
+abbrev pub effect_variable : Effect → ℕ
+effect_variable (effects.Number v e) = v
+effect_variable (effects.Members v e) = v
+
+-- no two effects set one variable
+abbrev pub are_different : List Effect → Bool
+are_different [] = true
+are_different (e ∷ es) = not (list_any (λ other. effect_variable other == effect_variable e) es) && are_different es
+
 abbrev pub is_weight : List ObjectType → List Variable → List TableData → ℕ → Option nums.Num → Bool
 is_weight os vs ts given (Some n) = is_num os vs ts n given
 is_weight os vs ts given None = true
@@ -195,7 +214,8 @@ is_transition os vs ts t =
     list_all (over_typed os vs) t.params
     && (list_all (λ c. is_cond os vs ts c (length t.params)) t.preconditions
     && (list_all (is_effect os vs ts (length t.params)) t.effects
-    && is_weight os vs ts (length t.params) t.weight))
+    && (are_different t.effects
+    && is_weight os vs ts (length t.params) t.weight)))
 
 abbrev pub is_base_case : List ObjectType → List Variable → List TableData → BaseCase → Bool
 is_base_case os vs ts b = list_all (λ c. is_cond os vs ts c 0) b.conditions && is_num os vs ts b.cost 0
@@ -225,8 +245,22 @@ is_kind objects (kinds.Element object) = nat_lt object (length objects)
 is_kind objects (kinds.Set object) = nat_lt object (length objects)
 is_kind objects kinds.Integer = true
 
+abbrev pub is_without : Preference → Bool
+is_without Without = true
+is_without Less = false
+is_without Greater = false
+
+-- A resource holds numbers: a set variable has no preference.
+abbrev pub may_prefer : VarKind → Preference → Bool
+may_prefer (kinds.Set object) preference = is_without preference
+may_prefer (kinds.Element object) preference = true
+may_prefer kinds.Integer preference = true
+
+abbrev pub is_variable : List ObjectType → Variable → Bool
+is_variable objects v = is_kind objects v.kind && may_prefer v.kind v.preference
+
 abbrev pub are_variables : List ObjectType → List Variable → Bool
-are_variables objects variables = list_all (λ (v : Variable). is_kind objects v.kind) variables
+are_variables objects variables = list_all (is_variable objects) variables
 
 -- how many choices of arguments of these object types there are
 abbrev pub cell_count : List ObjectType → List ℕ → ℕ
@@ -239,9 +273,13 @@ are_cells objects count (cells.Numbers xs) = (length xs == count) && list_all is
 are_cells objects count (cells.Truths xs) = length xs == count
 are_cells objects count (cells.Sets object xs) = (length xs == count) && (nat_lt object (length objects) && list_all (is_set_below (type_count objects object)) xs)
 
--- a table has one cell for each choice of arguments, each of an object type that is there
+-- A table has one cell for each choice of arguments, each of an object type that is there. Only numbers are told to be
+-- members of an object type.
 abbrev pub is_table : List ObjectType → TableData → Bool
-is_table objects t = list_all (λ object. nat_lt object (length objects)) t.args && are_cells objects (cell_count objects t.args) t.cells
+is_table objects t =
+    list_all (λ object. nat_lt object (length objects)) t.args
+    && (are_cells objects (cell_count objects t.args) t.cells
+    && (not t.element || are_numbers (Some t.cells)))
 
 abbrev pub are_tables : List ObjectType → List TableData → Bool
 are_tables objects tables = list_all (is_table objects) tables
@@ -275,3 +313,14 @@ are_arguments objects variables [] [] = true
 are_arguments objects variables (over ∷ overs) (k ∷ given) = nat_lt k (type_count objects (over_object variables over)) && are_arguments objects variables overs given
 are_arguments objects variables [] (k ∷ given) = false
 are_arguments objects variables (over ∷ overs) [] = false
+
+-- a ground transition names a transition that is there, and gives each of its parameters a value
+abbrev pub is_ground : List ObjectType → List Variable → List Transition → Ground → Bool
+is_ground objects variables transitions g = fits (slice_get transitions g.transition)
+  where
+    fits : Option Transition → Bool
+    fits (Some t) = are_arguments objects variables t.params g.args
+    fits None = false
+
+abbrev pub are_grounded : List ObjectType → List Variable → List Transition → List Ground → Bool
+are_grounded objects variables transitions grounds = list_all (is_ground objects variables transitions) grounds

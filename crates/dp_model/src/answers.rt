@@ -1,6 +1,6 @@
 ghost use Rattle.std.specs.Prelude.{◌≡◌};
 
-use crate::seq::Seq;
+use dp_base::Seq;
 
 /// Why an expression has no value: a result out of range, a divisor of 0, a number below 0 where a member of an
 /// object type is wanted, or one that is not below the type's count.

@@ -1,8 +1,7 @@
 ghost use Rattle.std.specs.Prelude.{◌≡◌};
 
-use crate::seq::Seq;
-use crate::text::Text;
 use crate::trees::{Cond, Num, Over, SetEx};
+use dp_base::{Seq, Text};
 
 /// An object type: its members are numbered from 0 to one less than `count`.
 #[derive(Debug, Drop)]

@@ -1,5 +1,4 @@
-use crate::boxed::Boxed;
-use crate::seq::Seq;
+use dp_base::{Boxed, Seq};
 
 /// An operation on two numbers. `Over` rounds toward zero, and `Rest` has the dividend's sign.
 #[derive(Clone, Copy, Debug, PartialEq, Eq)]
@@ -93,6 +92,7 @@ pub enum Cond {
     Not(Boxed<Cond>),
     And(Boxed<Cond>, Boxed<Cond>),
     Or(Boxed<Cond>, Boxed<Cond>),
+    If(Boxed<Cond>, Boxed<Cond>, Boxed<Cond>),
     /// Holds where the condition holds for each choice of one more parameter.
     All(Over, Boxed<Cond>),
 }

@@ -1,19 +1,20 @@
 ghost use Rattle.std.specs.Prelude.{◌≡◌, IsTrue};
-ghost use Rattle.dp_model.specs.Typing.{are_trees, are_variables, are_tables, is_state};
+ghost use Rattle.dp_model.specs.Typing.{are_trees, are_variables, are_tables, is_state, are_grounded};
+ghost use Rattle.dp_model.specs.Limits.{are_few_names, are_few_rules};
 
 use crate::parts::{
     BaseCase, Ground, JoinOp, ObjectType, PlainState, TableData, Transition, Variable,
 };
-use crate::seq::Seq;
-use crate::text::Text;
 use crate::trees::{Cond, Num};
+use dp_base::{Seq, Text};
 
 /// A DyPDL model. `minimize` says whether the lesser of two costs is better. `ground` has the ground transitions
 /// in order of definition, which every list of steps names by their numbers.
 ///
 /// A model keeps that the object types which its variables and tables name are there, that each table has a cell in
-/// range for each choice of arguments, that every expression in it is well typed over them, and that its target gives
-/// each variable a value of its kind.
+/// range for each choice of arguments, that every expression in it is well typed over them, that its target gives
+/// each variable a value of its kind, that each ground transition gives each parameter a value, and that its lists
+/// are no longer than the language allows.
 #[derive(Debug, Drop)]
 pub struct Model {
     pub domain: Text,
@@ -24,7 +25,7 @@ pub struct Model {
     pub variables: Seq<Variable>,
     pub tables: Seq<TableData>,
     pub transitions: Seq<Transition>,
-    pub ground: Seq<Ground>,
+    pub dp_ground: Seq<Ground>,
     pub constraints: Seq<Cond>,
     pub base_cases: Seq<BaseCase>,
     pub bounds: Seq<Num>,
@@ -33,6 +34,9 @@ pub struct Model {
     pub ghost cells: { IsTrue (are_tables objects tables) },
     pub ghost typed: { IsTrue (are_trees objects variables tables transitions constraints base_cases bounds) },
     pub ghost held: { IsTrue (is_state objects variables target) },
+    pub ghost grounded: { IsTrue (are_grounded objects variables transitions dp_ground) },
+    pub ghost few_names: { IsTrue (are_few_names objects variables tables) },
+    pub ghost few_rules: { IsTrue (are_few_rules transitions dp_ground constraints base_cases bounds) },
 }
 
 impl Model {
@@ -94,9 +98,9 @@ impl Model {
 
     /// The ground transitions, in order of definition.
     pub fn ground(&self) -> &Seq<Ground>
-        ensures { result.now ≡ self.now.ground }
+        ensures { result.now ≡ self.now.dp_ground }
     {
-        &self.ground
+        &self.dp_ground
     }
 
     /// What every allowed state meets.

@@ -1,7 +1,7 @@
 ghost use Rattle.std.specs.Prelude.{◌≡◌};
 ghost use Rattle.dypdl_expr.specs.declared.expr.ExprEnd.TheVariants.{Memory};
 
-use dp_model::{Boxed, Seq, Text};
+use dp_base::{Boxed, Seq, Text};
 use std::alloc::{AllocError, AllocFailed};
 use thiserror::Error;
 

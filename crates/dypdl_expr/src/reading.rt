@@ -8,7 +8,7 @@ ghost use Rattle.dypdl_expr.specs.Lexemes.{followed_by, after_expression, inside
 
 use crate::expr::{Expr, ExprEnd};
 use crate::tokens::{Lexeme, Tokens, has_control};
-use dp_model::{Boxed, Seq, Text};
+use dp_base::{Boxed, Seq, Text};
 use std::alloc::Global;
 
 /// How many forms may stand inside one another.

@@ -21,7 +21,7 @@ use Rattle.dp_model.specs.declared.parts.PlainValue.{PlainValue}
 use Rattle.dp_model.specs.declared.parts.PlainState.{PlainState}
 use Rattle.dp_model.specs.declared.parts.JoinOp.{JoinOp}
 use Rattle.dp_model.specs.declared.parts.JoinOp.TheVariants as joins
-use Rattle.dp_model.specs.declared.places.Place.{Place}
+use Rattle.dp_base.specs.declared.place.Place.{Place}
 use Rattle.dp_model.specs.declared.whole.Model.{Model}
 use Rattle.dypdl_load.specs.FirstForm.{Number, Condition, NewValue, Constant, Added, Change, Move, DomainForm, Setting, ProblemForm, domain_text, problem_text, IsDomain, IsProblem}
 

@@ -8,7 +8,7 @@ use Rattle.dp_model.specs.declared.parts.BaseCase.{BaseCase}
 use Rattle.dp_model.specs.declared.parts.PlainValue.{PlainValue}
 use Rattle.dp_model.specs.declared.parts.PlainState.{PlainState}
 use Rattle.dp_model.specs.declared.parts.JoinOp.TheVariants as joins
-use Rattle.dp_model.specs.declared.places.Place.{Place}
+use Rattle.dp_base.specs.declared.place.Place.{Place}
 use Rattle.dp_model.specs.declared.whole.Model.{Model}
 use Rattle.dypdl_load.specs.declared.domain.DomainParts.{DomainParts}
 use Rattle.dypdl_load.specs.declared.first_form.FirstEnd.{FirstEnd}

@@ -89,7 +89,7 @@ pub fn model_of(
         variables: Seq::of(variables),
         tables: Seq::of(Vec::new(alloc)),
         transitions: Seq::of(transitions),
-        ground: Seq::of(ground),
+        dp_ground: Seq::of(ground),
         constraints: Seq::of(Vec::new(alloc)),
         base_cases: Seq::of(base_cases),
         bounds: Seq::of(Vec::new(alloc)),

@@ -50,7 +50,7 @@ fn a_small_model(rt: HostRuntime) -> Result<(), Fail> {
         assert_eq!(rt; variable.name.as_text(), "x");
     }
     assert_eq!(rt; model.variables.list().len(), 1);
-    assert_eq!(rt; model.ground.list().len(), 2);
+    assert_eq!(rt; model.dp_ground.list().len(), 2);
     assert_eq!(rt; model.transitions.list().len(), 2);
     let inc = &model.transitions.list()[0];
     assert_eq!(rt; inc.name.as_text(), "inc");
@@ -102,8 +102,8 @@ fn a_model_of_three_variables(rt: HostRuntime) -> Result<(), Fail> {
     assert!(rt; matches!(&values[0], PlainValue::Number(0)));
     assert!(rt; matches!(&values[1], PlainValue::Number(-5)));
     assert!(rt; matches!(&values[2], PlainValue::Number(12)));
-    assert_eq!(rt; model.ground.list().len(), 1);
-    assert_eq!(rt; model.ground.list()[0].transition, 0);
+    assert_eq!(rt; model.dp_ground.list().len(), 1);
+    assert_eq!(rt; model.dp_ground.list()[0].transition, 0);
     assert_eq!(rt; model.base_cases.list().len(), 1);
     let conditions = model.base_cases.list()[0].conditions.list();
     assert_eq!(rt; conditions.len(), 2);

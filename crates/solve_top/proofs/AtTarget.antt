@@ -5,9 +5,10 @@ use Rattle.std.proofs.lemmas.Int.{ints}
 use Rattle.std.proofs.lemmas.Grind.{common_steps}
 use Rattle.dp_outside.specs.Outside.{Takes, TakesFront}
 use Rattle.dp_model.specs.Costs.{IsBetter, InRange}
-use Rattle.dp_model.specs.States.{Base}
-use Rattle.dp_model.specs.Lists.{Solution}
-use Rattle.dp_model.specs.Records.{Record, Ending, Ended, OutOfMemory, RightEnding, solution_text, ending_text, ending_status, record_text}
+use Rattle.dp_steps.specs.States.{Base}
+use Rattle.dp_steps.specs.Lists.{Solution}
+use Rattle.solve_top.specs.Records.{Record, Ending, Ended, OutOfMemory, RightEnding, ending_text, ending_status, record_text}
+use Rattle.solve_report.specs.Lines.{solution_text}
 use Rattle.dp_model.specs.declared.answers.Found.{Found}
 use Rattle.dp_model.specs.declared.answers.Options.{Options}
 use Rattle.dp_model.specs.declared.answers.Verdict.TheVariants as verdicts

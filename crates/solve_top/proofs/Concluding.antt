@@ -9,8 +9,8 @@ use Rattle.dp_outside.specs.Outside.{Takes, TakesFront}
 use Rattle.dp_outside.proofs.Steps.{Takes-more}
 use Rattle.dp_outside.specs.declared.failing.Failed.{Failed}
 use Rattle.dp_model.specs.Costs.{IsBetter}
-use Rattle.dp_model.specs.Lists.{Solution}
-use Rattle.dp_model.specs.Records.{Pass, Ending, Ended, OutOfMemory, AllButLastDropped, LastDroppedNone, RightEnding, RightVerdict, pass_text, ending_text, ending_status}
+use Rattle.dp_steps.specs.Lists.{Solution}
+use Rattle.solve_top.specs.Records.{Pass, Ending, Ended, OutOfMemory, AllButLastDropped, LastDroppedNone, RightEnding, RightVerdict, pass_text, ending_text, ending_status}
 use Rattle.dp_model.specs.declared.answers.Found.{Found}
 use Rattle.dp_model.specs.declared.answers.Options.{Options}
 use Rattle.dp_model.specs.declared.answers.Verdict.{Verdict}

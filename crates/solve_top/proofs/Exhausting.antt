@@ -5,8 +5,8 @@ use Rattle.std.proofs.lemmas.Int.{ints}
 use Rattle.std.proofs.lemmas.Bool.{cases_lt}
 use Rattle.std.proofs.lemmas.List.Elements.{All-contains, Contains-push}
 use Rattle.dp_model.specs.Costs.{join, join_onto}
-use Rattle.dp_model.specs.States.{Base, Inner, Step, weight_of, next_state}
-use Rattle.dp_model.specs.Lists.{Leads, Path, Completion}
+use Rattle.dp_steps.specs.States.{Base, Inner, Step, weight_of, next_state}
+use Rattle.dp_steps.specs.Lists.{Leads, Path, Completion}
 use Rattle.dp_model.specs.declared.answers.Found.{Found}
 use Rattle.dp_model.specs.declared.parts.Transition.{Transition}
 use Rattle.dp_model.specs.declared.parts.JoinOp.{JoinOp}

@@ -6,8 +6,9 @@ use Rattle.std.proofs.lemmas.List.{length-append}
 use Rattle.std.proofs.lemmas.Option.{slice_get_past}
 use Rattle.dp_model.specs.declared.parts.Ground.{Ground}
 use Rattle.dp_model.specs.Costs.{InRange, join, join_onto, better_of}
-use Rattle.dp_model.specs.States.{Base, Inner, Step, ground_of, is_enabled}
-use Rattle.dp_model.specs.Lists.{Path, Solution}
+use Rattle.dp_model.specs.StepTexts.{ground_of}
+use Rattle.dp_steps.specs.States.{Base, Inner, Step, is_enabled}
+use Rattle.dp_steps.specs.Lists.{Path, Solution}
 use Rattle.dp_model.specs.declared.answers.Found.{Found}
 use Rattle.dp_model.specs.declared.trees.Num.TheVariants as nums
 use Rattle.dp_model.specs.declared.parts.Transition.{Transition}

@@ -7,8 +7,8 @@ use Rattle.std.proofs.lemmas.List.{append-nil}
 use Rattle.std.proofs.lemmas.List.Sums.{sum_by-append}
 use Rattle.std.proofs.lemmas.Grind.{flat_map-append}
 use Rattle.dp_model.specs.Costs.{IsBetter}
-use Rattle.dp_model.specs.Lists.{Solution}
-use Rattle.dp_model.specs.Records.{Pass, Ending, NumberedFrom, AllButLastDropped, LastDroppedNone, Improving, Right, RightEnding, last_cost, visits, pass_text}
+use Rattle.dp_steps.specs.Lists.{Solution}
+use Rattle.solve_top.specs.Records.{Pass, Ending, NumberedFrom, AllButLastDropped, LastDroppedNone, Improving, Right, RightEnding, last_cost, visits, pass_text}
 use Rattle.dp_model.specs.declared.answers.Found.{Found}
 use Rattle.dp_model.specs.declared.answers.Options.{Options}
 use Rattle.dp_model.specs.declared.whole.Model.{Model}

@@ -3,8 +3,8 @@ use Rattle.std.proofs.Common.{◌≡◌, ℕ, List, [], ◌∷◌, ◌++◌, ref
 use Rattle.std.specs.Prelude.{IfSome}
 use Rattle.std.proofs.lemmas.Int.{ints}
 use Rattle.dp_model.specs.Costs.{InRange, join, join_onto}
-use Rattle.dp_model.specs.States.{Base, Step}
-use Rattle.dp_model.specs.Lists.{Leads, Path, Completion, Solution}
+use Rattle.dp_steps.specs.States.{Base, Step}
+use Rattle.dp_steps.specs.Lists.{Leads, Path, Completion, Solution}
 use Rattle.dp_model.specs.declared.parts.JoinOp.{JoinOp}
 use Rattle.dp_model.specs.declared.parts.JoinOp.TheVariants.{Plus}
 use Rattle.dp_model.specs.declared.parts.PlainState.{PlainState}

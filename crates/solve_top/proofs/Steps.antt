@@ -3,7 +3,8 @@ use Rattle.std.proofs.Common.{◌≡◌, ℕ, zero, suc, ◌<◌, List, [], ◌�
 use Rattle.std.specs.Prelude.{All, slice_get, option_and_then, option_map}
 use Rattle.std.proofs.lemmas.Bool.{false≢true}
 use Rattle.std.proofs.lemmas.List.Elements.{All-head, All-tail}
-use Rattle.dp_model.specs.States.{Inner, Considered, Step, ground_of, is_enabled, weight_of, next_state}
+use Rattle.dp_model.specs.StepTexts.{ground_of}
+use Rattle.dp_steps.specs.States.{Inner, Considered, Step, is_enabled, weight_of, next_state}
 use Rattle.dp_model.specs.declared.trees.Num.TheVariants as nums
 use Rattle.dp_model.specs.declared.parts.Transition.{Transition}
 use Rattle.dp_model.specs.declared.parts.Ground.{Ground}

@@ -1,7 +1,8 @@
 -- The values of the expressions of a plain model.
 use Rattle.std.proofs.Common.{◌≡◌, ℕ, zero, suc, ◌<◌, List, [], ◌∷◌, ◌++◌, length, get_or, refl, sym, ap, ◌∙◌, Result, Ok, Err, ℤ, pos, Bool, true, false, arith, rules}
 use Rattle.std.specs.Prelude.{slice_get, slice_set}
-use Rattle.dp_model.specs.Evaluation.{num_value, number_in, number_held, ArgValue, CondValue, NumValue, SetValue, in_turn, ◌>>=◌, arg_step, cond_step, num_step, set_step}
+use Rattle.dp_base.specs.Results.{in_turn, ◌>>=◌}
+use Rattle.dp_model.specs.Evaluation.{num_value, number_in, number_held, ArgValue, CondValue, NumValue, SetValue, arg_step, cond_step, num_step, set_step}
 use Rattle.dp_model.specs.declared.trees.Num.{Num}
 use Rattle.dp_model.specs.declared.trees.Num as nums
 use Rattle.dp_model.specs.declared.trees.Num.TheVariants as variants
@@ -13,7 +14,7 @@ use Rattle.dp_model.specs.declared.parts.PlainValue.{PlainValue}
 use Rattle.dp_model.specs.declared.parts.PlainValue.TheVariants as values
 use Rattle.dp_model.specs.declared.parts.PlainState.{PlainState}
 use Rattle.dp_model.specs.declared.whole.Model.{Model}
-use Rattle.dp_model.specs.States.{effect_value, with_changes, all_true, case_costs, Allowed, Base, Inner}
+use Rattle.dp_steps.specs.States.{effect_value, with_changes, all_true, case_costs, Allowed, Base, Inner}
 use Rattle.dp_model.specs.declared.parts.BaseCase.{BaseCase}
 use Rattle.std.specs.Prelude.{MatchBool}
 use Rattle.dp_model.specs.declared.parts.Effect.{Effect}

@@ -1,8 +1,7 @@
 pub mod Words
+pub mod Records
 pub mod Outcomes
 pub mod Jobs
-pub mod Pieces
-pub mod Puts
 pub mod Plain
 pub mod Search
 pub mod Solving

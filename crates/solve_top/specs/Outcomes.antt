@@ -1,12 +1,13 @@
 -- What a run of the program may come to: the text that it prints, its status, and when it may come.
 use Rattle.std.specs.Prelude.{◌≡◌, ℕ, ◌≤◌, ◌<◌, ◌==◌, if◌then◌else◌, ◌⊎◌, List, ◌++◌, length, Option, IfSome, codes, decimal, ℤ}
 use Rattle.dp_outside.specs.Outside.{Takes, TakesFront}
-use Rattle.dp_model.specs.declared.places.Place.{Place}
+use Rattle.dp_base.specs.declared.place.Place.{Place}
 use Rattle.dp_model.specs.declared.answers.Options.{Options}
 use Rattle.dp_model.specs.declared.whole.Model.{Model}
 use Rattle.dp_model.specs.Costs.{IsBetter}
-use Rattle.dp_model.specs.Lists.{Solution}
-use Rattle.dp_model.specs.Records.{Record, Ending, Ended, OutOfMemory, Right, line, record_text, ending_status}
+use Rattle.dp_steps.specs.Lists.{Solution}
+use Rattle.solve_top.specs.Records.{Record, Ending, Ended, OutOfMemory, Right, record_text, ending_status}
+use Rattle.dp_base.specs.Bytes.{line}
 use Rattle.dp_model.specs.declared.answers.Verdict.TheVariants as verdicts
 use Rattle.dypdl_load.specs.Meaning.{Means, IsRefusedAt}
 use Rattle.solve_top.specs.Words.{SolveJob, Asks}

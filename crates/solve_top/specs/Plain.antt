@@ -2,7 +2,7 @@
 -- effects that set or shift a variable, weights that are added, no constraints, one base case of cost 0.
 use Rattle.std.specs.Prelude.{◌≡◌, ℕ, ◌+◌, ◌*◌, ◌<◌, ◌≤◌, true, false, ◌⊎◌, List, [], ◌∷◌, length, map, All, Some, Ok, ℤ, pos, neg_ℤ, ◌≤ℤ◌}
 use Rattle.dp_model.specs.Evaluation.{kind_of}
-use Rattle.dp_model.specs.States.{effect_value, next_state}
+use Rattle.dp_steps.specs.States.{effect_value, next_state}
 use Rattle.dp_model.specs.declared.trees.Num.{Num}
 use Rattle.dp_model.specs.declared.trees.Num.TheVariants as nums
 use Rattle.dp_model.specs.declared.trees.NumOp.TheVariants as operations

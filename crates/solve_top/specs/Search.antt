@@ -1,8 +1,8 @@
 -- What the nodes of a layer are, what a layer covers, and when a cost is no worse.
 use Rattle.std.specs.Prelude.{◌≡◌, ℕ, ◌≤◌, true, List, length, All, Contains, Option, Some, None, IfSome, ℤ, ◌≤ℤ◌}
 use Rattle.dp_model.specs.Costs.{join, join_onto, order_word}
-use Rattle.dp_model.specs.States.{Base, Inner, Step}
-use Rattle.dp_model.specs.Lists.{Path, Solution}
+use Rattle.dp_steps.specs.States.{Base, Inner, Step}
+use Rattle.dp_steps.specs.Lists.{Path, Solution}
 use Rattle.dp_model.specs.declared.answers.Found.{Found}
 use Rattle.dp_model.specs.declared.parts.JoinOp.TheVariants.{Plus}
 use Rattle.dp_model.specs.declared.parts.PlainState.{PlainState}

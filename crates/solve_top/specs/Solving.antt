@@ -2,8 +2,8 @@
 use Rattle.std.specs.Prelude.{◌≡◌, ℕ, ◌+◌, ◌^◌, ◌<◌, ◌≤◌, ◌⊎◌, true, false, List, length, Option, Some, None}
 use Rattle.std.specs.List.{flat_map, AllByRecursion}
 use Rattle.dp_outside.specs.Outside.{Takes, TakesFront}
-use Rattle.dp_model.specs.Lists.{Solution}
-use Rattle.dp_model.specs.Records.{Pass, Record, NumberedFrom, Improving, Right, last_cost, visits, pass_text, record_text, ending_status}
+use Rattle.dp_steps.specs.Lists.{Solution}
+use Rattle.solve_top.specs.Records.{Pass, Record, NumberedFrom, Improving, Right, last_cost, visits, pass_text, record_text, ending_status}
 use Rattle.dp_model.specs.declared.answers.Found.{Found}
 use Rattle.dp_model.specs.declared.answers.Options.{Options}
 use Rattle.dp_model.specs.declared.whole.Model.{Model}

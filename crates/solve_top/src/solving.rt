@@ -1,9 +1,11 @@
 ghost use Rattle.std.specs.Prelude.{codes, pos, ◌≡◌, ◌+◌, ◌-◌, ◌≤◌, ◌<◌, ◌⊎◌, ℕ, ℤ, List, [], true, false, None, Some, Option, IfSome, IfNone, OnOk, OnErr};
 ghost use Rattle.dp_outside.specs.Outside.{Rose, Takes, TakesFront};
 ghost use Rattle.dp_model.specs.Costs.{IsBetter};
-ghost use Rattle.dp_model.specs.States.{Base, Inner};
+ghost use Rattle.dp_steps.specs.States.{Base, Inner};
 ghost use Rattle.dp_model.specs.declared.answers.Options.{Options};
-ghost use Rattle.dp_model.specs.Records.{line, pass_text, solution_lines, verdict_text, verdict_status};
+ghost use Rattle.dp_base.specs.Bytes.{line};
+ghost use Rattle.solve_top.specs.Records.{pass_text, solution_lines, verdict_status};
+ghost use Rattle.solve_report.specs.Lines.{verdict_text};
 ghost use Rattle.solve_top.specs.Plain.{IsPlain};
 ghost use Rattle.solve_top.specs.Puts.{Puts};
 ghost use Rattle.solve_top.specs.Search.{HoldsAtMost, IsSolved, IsExhaustive};

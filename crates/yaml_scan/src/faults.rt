@@ -4,7 +4,7 @@ ghost use Rattle.yaml_scan.specs.Faults.{bad_byte, is_filled, tab_in, tab_indent
 ghost use Rattle.yaml_scan.specs.Bytes.{mark_length};
 
 use crate::pieces::{first_of, leading_blanks, mark_length, split_line, without_end};
-use dp_model::Place;
+use dp_base::Place;
 use std::str;
 
 /// The first byte that begins no character of UTF-8.

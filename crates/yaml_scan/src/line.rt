@@ -1,7 +1,7 @@
 ghost use Rattle.std.specs.Prelude.{◌≡◌};
 ghost use Rattle.yaml_scan.specs.declared.line.ScanEnd.TheVariants.{Memory};
 
-use dp_model::Place;
+use dp_base::Place;
 use std::alloc::{AllocError, AllocFailed};
 use thiserror::Error;
 

@@ -6,7 +6,7 @@ ghost use Rattle.yaml_scan.specs.Scan.{scan, MemoryOr};
 use crate::faults::{bad_byte, place_of, tab_indent};
 use crate::line::{Line, ScanEnd};
 use crate::pieces::{leading_spaces, mark_length, split_line, trailing_blanks, without_end};
-use dp_model::Seq;
+use dp_base::Seq;
 use std::alloc::{AllocError, Global};
 
 /// The line of this number whose first byte has this offset.

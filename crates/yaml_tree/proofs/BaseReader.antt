@@ -3,7 +3,7 @@ use Rattle.std.proofs.Common.{◌≡◌, ℕ, ◌+◌, ◌-◌, ◌<◌, ◌≤�
 use Rattle.std.specs.List.{slice_get}
 use Rattle.std.proofs.lemmas.List.{drop-take, drop-drop, drop-map, get_or-map, length-map, get_or-drop}
 use Rattle.std.proofs.lemmas.Option.{get_or_from_slice_get}
-use Rattle.dp_model.specs.declared.places.Place.{Place}
+use Rattle.dp_base.specs.declared.place.Place.{Place}
 use Rattle.yaml_scan.specs.declared.line.Line.{Line}
 use Rattle.yaml_tree.specs.Rest.{Row, row_of, Rest, rest_of, on, front}
 

@@ -1,7 +1,7 @@
 -- A node in block style, by what begins it.
 use Rattle.std.proofs.Common.{◌≡◌, ℕ, zero, suc, ◌-◌, ◌<◌, Bool, true, false, None, Some, Option, Ok, Err, refl, sym, ap, ◌∙◌, subst, arith}
 use Rattle.std.specs.Prelude.{MatchBool}
-use Rattle.dp_model.specs.declared.places.Place.{Place}
+use Rattle.dp_base.specs.declared.place.Place.{Place}
 use Rattle.yaml_tree.specs.Rest.{Rest, place, on, skip_blanks}
 use Rattle.yaml_tree.specs.Characters.{is_item}
 use Rattle.yaml_tree.specs.Openings.{opening}

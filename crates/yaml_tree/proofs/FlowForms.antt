@@ -1,7 +1,7 @@
 -- The forms by what begins them, where levels are left, and the entries of maps.
 use Rattle.std.proofs.Common.{◌≡◌, ℕ, suc, ◌-◌, ◌<◌, Bool, true, false, not, if◌then◌else◌, List, [], ◌∷◌, ◌++◌, Result, Ok, Err, refl, sym, ap, ◌∙◌, subst, arith}
 use Rattle.std.specs.Prelude.{MatchBool}
-use Rattle.dp_model.specs.declared.places.Place.{Place}
+use Rattle.dp_base.specs.declared.place.Place.{Place}
 use Rattle.yaml_tree.specs.Rest.{Rest, place, on}
 use Rattle.yaml_tree.specs.Characters.{begins}
 use Rattle.yaml_tree.specs.Lines.{flow_point}

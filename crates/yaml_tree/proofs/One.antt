@@ -4,7 +4,7 @@ use Rattle.std.specs.Prelude.{MatchBool}
 use Rattle.yaml_scan.specs.Scan.{scan}
 use Rattle.yaml_scan.specs.declared.line.Line.{Line}
 use Rattle.yaml_scan.specs.declared.line.ScanEnd.{ScanEnd}
-use Rattle.dp_model.specs.declared.places.Place.{Place}
+use Rattle.dp_base.specs.declared.place.Place.{Place}
 use Rattle.yaml_tree.specs.Rest.{Row, row_of, Rest, on, skip_blanks, front}
 use Rattle.yaml_tree.specs.Characters.{begins, is_item, is_clear}
 use Rattle.yaml_tree.specs.Lines.{from_content, is_marker, flow_point}

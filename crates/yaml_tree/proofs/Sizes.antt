@@ -24,7 +24,7 @@ use Rattle.yaml_tree.specs.declared.tree.Tree.{Tree}
 use Rattle.yaml_tree.specs.declared.tree.Tree.TheVariants as trees
 use Rattle.yaml_tree.specs.declared.tree.Pair.{Pair}
 use Rattle.yaml_tree.specs.declared.tree.YamlEnd.{YamlEnd}
-use Rattle.dp_model.specs.declared.places.Place.{Place}
+use Rattle.dp_base.specs.declared.place.Place.{Place}
 use Rattle.yaml_tree.specs.declared.tree.Feature.TheVariants.{Anchor, Alias, Tag, QuestionKey, BlockScalar}
 
 -- ---- how much is left: the bytes, and one for each line below

@@ -1,7 +1,7 @@
 -- The scalars of a block form have no more bytes than what was left of the text.
 use Rattle.std.proofs.Common.{◌≡◌, ℕ, zero, suc, ◌+◌, ◌-◌, ◌≤◌, Bool, true, false, ◌&&◌, ◌==◌, if◌then◌else◌, List, [], ◌∷◌, ◌++◌, Option, None, Some, Ok, Err, refl, sym, subst, inl, inr, arith}
 use Rattle.std.specs.List.{list_all}
-use Rattle.dp_model.specs.declared.places.Place.{Place}
+use Rattle.dp_base.specs.declared.place.Place.{Place}
 use Rattle.yaml_tree.specs.Rest.{Rest, place, on, skip_blanks}
 use Rattle.yaml_tree.specs.Characters.{is_item, is_colon, is_clear}
 use Rattle.yaml_tree.specs.Lines.{from_content, settle, end_line}

@@ -1,6 +1,6 @@
 -- What the functions of block style hand out.
 use Rattle.std.specs.Prelude.{◌≡◌, ℕ, ◌-◌, ◌&&◌, ◌==◌, Bool, true, false, List, [], ◌∷◌, ◌++◌, Option, None, Some, Result, Ok, Err}
-use Rattle.dp_model.specs.declared.places.Place.{Place}
+use Rattle.dp_base.specs.declared.place.Place.{Place}
 use Rattle.yaml_tree.specs.Rest.{Rest, skip_blanks}
 use Rattle.yaml_tree.specs.Characters.{is_colon}
 use Rattle.yaml_tree.specs.Scalars.{added, with_text}

@@ -1,7 +1,7 @@
 -- Block forms: lists and maps by indent. A relation says what reading a node at a point gives, as with flow forms. What
 -- is left after a node begins with the next line that has content.
 use Rattle.std.specs.Prelude.{◌≡◌, ℕ, zero, suc, ◌+◌, ◌-◌, Bool, true, false, not, ◌&&◌, ◌||◌, ◌==◌, if◌then◌else◌, nat_lt, MatchBool, List, [], ◌∷◌, ◌++◌, Option, None, Some, Result, Ok, Err}
-use Rattle.dp_model.specs.declared.places.Place.{Place}
+use Rattle.dp_base.specs.declared.place.Place.{Place}
 use Rattle.yaml_tree.specs.Rest.{Row, Rest, place, on, skip_blanks, front}
 use Rattle.yaml_tree.specs.Characters.{is_item, is_colon, is_clear}
 use Rattle.yaml_tree.specs.Lines.{is_marker, from_content, settle, end_line}

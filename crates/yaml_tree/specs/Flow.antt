@@ -1,7 +1,7 @@
 -- Flow forms: lists in `[` `]`, maps in `{` `}`, and the nodes in them. A relation says what reading a form at a point
 -- gives: its tree and what is left of the text, or the first refusal.
 use Rattle.std.specs.Prelude.{◌≡◌, ℕ, zero, suc, Bool, true, false, ◌&&◌, ◌||◌, ◌==◌, if◌then◌else◌, MatchBool, List, [], ◌∷◌, drop, Result, Ok, Err}
-use Rattle.dp_model.specs.declared.places.Place.{Place}
+use Rattle.dp_base.specs.declared.place.Place.{Place}
 use Rattle.yaml_tree.specs.Rest.{Rest, place, on}
 use Rattle.yaml_tree.specs.Characters.{begins, ends_scalar}
 use Rattle.yaml_tree.specs.Lines.{flow_point}

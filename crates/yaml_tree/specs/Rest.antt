@@ -2,7 +2,7 @@
 use Rattle.std.specs.Prelude.{◌≡◌, ◌≤◌, ℕ, ◌+◌, ◌-◌, Bool, List, length, map, take, drop, slice_index, IsCharBoundary, refl}
 use Rattle.std.specs.Coded.{Coded, code_by, coded×, coded_ℕ, coded_bool, coded_list}
 use Rattle.std.specs.List.{All, prefix_len}
-use Rattle.dp_model.specs.declared.places.Place.{Place}
+use Rattle.dp_base.specs.declared.place.Place.{Place}
 use Rattle.yaml_scan.specs.Bytes.{is_blank}
 use Rattle.yaml_scan.specs.declared.line.Line.{Line}
 

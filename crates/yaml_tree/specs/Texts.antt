@@ -1,7 +1,7 @@
 -- What a whole text spells, or what it is refused for first.
 use Rattle.std.specs.Prelude.{◌≡◌, ℕ, ◌+◌, false, ◌&&◌, ◌==◌, if◌then◌else◌, MatchBool, List, [], ◌∷◌, map, codes, Result, Ok, Err}
 use Rattle.std.specs.Str.{bytes_eq}
-use Rattle.dp_model.specs.declared.places.Place.{Place}
+use Rattle.dp_base.specs.declared.place.Place.{Place}
 use Rattle.yaml_scan.specs.Scan.{scan}
 use Rattle.yaml_scan.specs.declared.line.Line.{Line}
 use Rattle.yaml_scan.specs.declared.line.ScanEnd.{ScanEnd}

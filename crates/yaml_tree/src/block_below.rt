@@ -11,7 +11,7 @@ use crate::line_below::LineBelow;
 use crate::points::{is_item, is_marker, settle};
 use crate::reader::Reader;
 use crate::tree::{Tree, YamlEnd};
-use dp_model::Text;
+use dp_base::Text;
 use std::alloc::Global;
 
 /// Whether a node below a block of this indent begins in a line. `lists` says whether a list with the same indent may.

@@ -14,7 +14,7 @@ use crate::plain::go_on;
 use crate::points::{end_line, is_colon, leading_blanks, skip_blanks};
 use crate::reader::Reader;
 use crate::tree::{Tree, YamlEnd};
-use dp_model::Text;
+use dp_base::Text;
 use std::alloc::Global;
 
 fn may_be_key(opening: Opening, one_line: bool) -> bool

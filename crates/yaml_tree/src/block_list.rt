@@ -9,7 +9,7 @@ use crate::block_below::below;
 use crate::points::{is_clear, is_item, is_marker, skip_blanks};
 use crate::reader::Reader;
 use crate::tree::{Tree, YamlEnd};
-use dp_model::Seq;
+use dp_base::Seq;
 use std::alloc::Global;
 
 /// What stands behind the `-` of an item: a node in the same line, or one below.

@@ -11,7 +11,7 @@ use crate::keys::Keys;
 use crate::points::{is_clear, is_marker, skip_blanks};
 use crate::reader::Reader;
 use crate::tree::{Pair, Tree, YamlEnd};
-use dp_model::{Place, Seq};
+use dp_base::{Place, Seq};
 use std::alloc::Global;
 
 /// The value behind the `:` of a key: a scalar or flow form in the same line, or a node below.

@@ -19,7 +19,7 @@ use crate::quoted::quoted;
 use crate::reader::Reader;
 use crate::tree::{Feature, Pair, Tree, YamlEnd};
 use crate::turns::Step;
-use dp_model::Seq;
+use dp_base::Seq;
 use std::alloc::Global;
 
 fn plain_scalar(alloc: Global, reader: &mut Reader<'_>, flow: bool) -> Result<Tree, YamlEnd>

@@ -8,7 +8,7 @@ ghost use Rattle.yaml_tree.specs.declared.tree.Tree.{Tree};
 ghost use Rattle.yaml_tree.specs.declared.tree.Pair.{Pair};
 
 use crate::tree::{Pair, Tree};
-use dp_model::Place;
+use dp_base::Place;
 use std::alloc::{AllocError, Global};
 use std::collections::BTreeSet;
 

@@ -2,7 +2,7 @@ ghost use Rattle.std.specs.Prelude.{◌≡◌, ◌+◌};
 ghost use Rattle.yaml_tree.specs.Rest.{IsSpan, row_of};
 ghost use Rattle.yaml_tree.specs.Texts.{place_in};
 
-use dp_model::Place;
+use dp_base::Place;
 use std::marker::Model;
 use yaml_scan::Line;
 

@@ -14,7 +14,7 @@ use crate::points::{begins, flow_point};
 use crate::reader::Reader;
 use crate::tree::{Tree, YamlEnd};
 use crate::turns::Step;
-use dp_model::{Place, Text};
+use dp_base::{Place, Text};
 use std::alloc::Global;
 
 /// Whether a key ends before the `:` here. `opening` is what the key begins with, and `one_line` says whether it

@@ -6,7 +6,7 @@ use crate::points::is_blank;
 use crate::quoted::inside;
 use crate::reader::Reader;
 use crate::tree::{Feature, YamlEnd};
-use dp_model::Place;
+use dp_base::Place;
 
 /// What begins at a point where a node or a key must begin.
 #[derive(Clone, Copy)]

@@ -10,7 +10,7 @@ use crate::line_below::LineBelow;
 use crate::points::{has_content, is_blank, is_marker, marker_end};
 use crate::reader::Reader;
 use crate::tree::{Tree, YamlEnd};
-use dp_model::Text;
+use dp_base::Text;
 use part::part_length;
 use std::alloc::{AllocError, Global};
 

@@ -8,7 +8,7 @@ ghost use Rattle.yaml_tree.specs.Lines.{has_content, from_content, is_marker, ma
 use crate::line_below::LineBelow;
 use crate::reader::Reader;
 use crate::tree::{Feature, YamlEnd};
-use dp_model::Place;
+use dp_base::Place;
 
 pub(crate) fn is_blank(byte: u8) -> bool
     ensures { result ≡ is_blank byte }

@@ -7,7 +7,7 @@ ghost use Rattle.yaml_tree.specs.declared.opening.Opening.TheVariants.{Quoted};
 use crate::reader::Reader;
 use crate::tree::{Feature, Tree, YamlEnd};
 use closing::{double_inside, single_inside};
-use dp_model::Text;
+use dp_base::Text;
 use inner::{double_text, single_text};
 use std::alloc::Global;
 

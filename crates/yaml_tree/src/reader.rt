@@ -3,7 +3,7 @@ ghost use Rattle.std.specs.Str.{IsUtf8};
 ghost use Rattle.yaml_tree.specs.Rest.{Row, IsSpan, rest_of, place, on, front};
 
 use crate::line_below::LineBelow;
-use dp_model::Place;
+use dp_base::Place;
 use std::marker::Model;
 use yaml_scan::Line;
 

@@ -4,7 +4,7 @@ mod refusals;
 mod trees;
 
 use crate::{Feature, Tree, YamlEnd, read};
-use dp_model::Place;
+use dp_base::Place;
 use refusals::REFUSALS;
 use std::alloc::{AllocError, Global};
 use std::test::Fail;

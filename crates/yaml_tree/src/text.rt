@@ -14,7 +14,7 @@ use crate::line_below::LineBelow;
 use crate::points::{is_marker, marker_end, pass_to_content};
 use crate::reader::Reader;
 use crate::tree::{Tree, YamlEnd};
-use dp_model::{Place, Text};
+use dp_base::{Place, Text};
 use std::alloc::Global;
 use yaml_scan::{Line, ScanEnd};
 

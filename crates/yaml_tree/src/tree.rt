@@ -2,7 +2,7 @@ ghost use Rattle.std.specs.Prelude.{◌≡◌, option_map};
 ghost use Rattle.yaml_tree.specs.Fields.{value_in};
 ghost use Rattle.yaml_tree.specs.declared.tree.YamlEnd.TheVariants.{Memory};
 
-use dp_model::{Place, Seq, Text};
+use dp_base::{Place, Seq, Text};
 use std::alloc::{AllocError, AllocFailed};
 use thiserror::Error;
 use yaml_scan::ScanEnd;

@@ -1,7 +1,7 @@
 ghost use Rattle.std.specs.Prelude.{◌≡◌, ◌+◌, ◌≤◌, ℕ, ℤ, pos, ◌+ℤ◌, length, List, [], Ok, All, slice_index_or};
 ghost use Rattle.dp_model.specs.Costs.{InRange};
 ghost use Rattle.dp_model.specs.Evaluation.{compares, num_value, cond_value};
-ghost use Rattle.dp_model.specs.States.{all_true};
+ghost use Rattle.dp_steps.specs.States.{all_true};
 ghost use Rattle.solve_top.specs.Plain.{IsLeaf, IsPlainCond, IsPlainNum, IsSmall, Within, reach, state_of};
 
 use dp_model::{Compare, Cond, Model, Num, NumOp};

@@ -1,5 +1,5 @@
 ghost use Rattle.std.specs.Prelude.{◌≡◌, ◌+◌, ◌∷◌, ◌++◌, ◌≤◌, ◌<◌, length, [], ℕ, ℤ, Some, All, IfOk, OnOk, vec_len, IsTrue, IfSome, HoldsAt, is_ok, if◌then◌else◌, ◌↔◌, Option};
-ghost use Rattle.dp_model.specs.Lists.{Solution};
+ghost use Rattle.dp_steps.specs.Lists.{Solution};
 ghost use Rattle.dp_model.specs.declared.parts.PlainState.{PlainState};
 ghost use Rattle.dp_model.specs.declared.whole.Model.{Model};
 ghost use Rattle.solve_top.specs.Search.{IsNode, Covers, NoWorse, HoldsAtMost, IsSolved, node_state};

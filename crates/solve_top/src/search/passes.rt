@@ -1,5 +1,5 @@
 ghost use Rattle.std.specs.Prelude.{◌≡◌, ◌+◌, ◌*◌, ◌≤◌, ◌<◌, ◌^◌, ℕ, ℤ, length, true, false, None, Option, All, OnOk, IfOk, IfSome, vec_len};
-ghost use Rattle.dp_model.specs.States.{Inner};
+ghost use Rattle.dp_steps.specs.States.{Inner};
 ghost use Rattle.dp_model.specs.declared.parts.PlainState.{PlainState};
 ghost use Rattle.dp_model.specs.declared.whole.Model.{Model};
 ghost use Rattle.solve_top.specs.Plain.{IsPlain};

@@ -1,6 +1,7 @@
 ghost use Rattle.std.specs.Prelude.{◌≡◌, ◌+◌, ◌+ℤ◌, ◌≤◌, ◌<◌, length, pos, [], Some, Ok, MatchBool, IfOk, IfSome};
 ghost use Rattle.dp_model.specs.Costs.{InRange, join};
-ghost use Rattle.dp_model.specs.States.{Base, Inner, ground_of, is_enabled};
+ghost use Rattle.dp_model.specs.StepTexts.{ground_of};
+ghost use Rattle.dp_steps.specs.States.{Base, Inner, is_enabled};
 ghost use Rattle.dp_model.specs.declared.trees.Num.TheVariants.{Fixed};
 ghost use Rattle.dp_model.specs.declared.parts.JoinOp.TheVariants.{Plus};
 ghost use Rattle.solve_top.specs.Plain.{IsPlain, IsTarget, IsPlainTransition, HasSmallWeight, IsSmall, Within, reach, state_of};
@@ -24,11 +25,11 @@ pub fn is_base(model: &Model, numbers: &[i64]) -> bool
 /// The transition of a ground transition, which has no parameters.
 pub fn transition_at(model: &Model, number: usize) -> &Transition
     requires plain { IsPlain model.now }
-    requires within { number < length model.now.ground }
+    requires within { number < length model.now.dp_ground }
     ensures value { ground_of model.now number ≡ Some (result.now, []) }
     ensures plain { IsPlainTransition (length model.now.variables) result.now }
 {
-    let ground = &model.ground.list()[number];
+    let ground = &model.dp_ground.list()[number];
     &model.transitions.list()[ground.transition as usize]
 }
 

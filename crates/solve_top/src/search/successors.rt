@@ -1,6 +1,6 @@
 ghost use Rattle.std.specs.Prelude.{◌≡◌, ◌+◌, ◌≤◌, ◌<◌, ℕ, length, List, [], Ok, All, IfOk};
 ghost use Rattle.dp_model.specs.Evaluation.{kind_of};
-ghost use Rattle.dp_model.specs.States.{effect_value};
+ghost use Rattle.dp_steps.specs.States.{effect_value};
 ghost use Rattle.dp_model.specs.declared.parts.VarKind.TheVariants.{Integer};
 ghost use Rattle.solve_top.specs.Plain.{IsPlainEffect, Within, reach, state_of, LeadsTo, Sets};
 

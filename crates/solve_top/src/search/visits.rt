@@ -22,7 +22,7 @@ fn expand(
     requires plain { IsPlain model.now }
     requires node { IsNode model.now (length node.now.steps.items) node.now }
     requires shallow { length node.now.steps.items ≤ 1000000000 }
-    requires within { number < length model.now.ground }
+    requires within { number < length model.now.dp_ground }
     requires nodes { All (IsNode model.now (length node.now.steps.items + 1)) next.old.items }
     requires solved { IsSolved model.now best.old }
     ensures nodes { OnOk result (All (IsNode model.now (length node.now.steps.items + 1)) next.new.items) }
@@ -74,7 +74,7 @@ pub fn visit(
     ensures covers { OnOk result ((s : PlainState) (cost : Option ℤ) → Covers next.old.items s cost → Covers next.new.items s cost) }
     ensures no_worse { OnOk result ((most : ℤ) → HoldsAtMost best.old most → HoldsAtMost best.new most) }
 {
-    for number in 0..model.ground.list().len() {
+    for number in 0..model.dp_ground.list().len() {
         expand(alloc, model, node, number, next, best)?;
     }
     Ok(())

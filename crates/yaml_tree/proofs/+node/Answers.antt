@@ -2,7 +2,7 @@
 use Rattle.std.proofs.Common.{◌≡◌, ◌-◌, ◌∙◌, ◌++◌, ◌∷◌, [], true, false, List, Ok, Err, is_ok, ap, sym, subst, arith}
 use Rattle.std.proofs.ResultArms.{chosen}
 use Rattle.std.proofs.lemmas.Result.{IfOk-weaker, IfErr-weaker, err_from_is_err_and}
-use Rattle.dp_model.specs.declared.places.Place.{Place}
+use Rattle.dp_base.specs.declared.place.Place.{Place}
 use Rattle.yaml_tree.specs.Rest.{Rest}
 use Rattle.yaml_tree.specs.Characters.{is_item}
 use Rattle.yaml_tree.specs.Flow.{entry}

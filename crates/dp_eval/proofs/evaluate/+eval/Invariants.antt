@@ -1,5 +1,6 @@
 use Rattle.std.proofs.Common.{◌≡◌, ◌∷◌, ◌++◌, [], map, drop, Ok}
-use Rattle.dp_model.specs.Evaluation.{◌>>=◌, in_turn, each_holds, num_value, cond_value, NumValue}
+use Rattle.dp_base.specs.Results.{◌>>=◌, in_turn}
+use Rattle.dp_model.specs.Evaluation.{each_holds, num_value, cond_value, NumValue}
 use Rattle.dp_eval.specs.Terms.{term_value, term_values}
 use Rattle.dp_eval.proofs.evaluate.+eval.Given as goal
 

@@ -1,4 +1,4 @@
-use Rattle.dp_model.specs.Records.{pass_line}
+use Rattle.solve_report.specs.Lines.{pass_line}
 use Rattle.solve_top.specs.Solving.{pass_of}
 use Rattle.solve_top.proofs.ReportPuts.{Puts-append, Puts-stop}
 use Rattle.solve_top.proofs.solving.put_pass_lines.Goals as goal

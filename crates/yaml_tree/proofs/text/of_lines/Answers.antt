@@ -1,7 +1,7 @@
 -- Lines of a text are spans between its characters.
 use Rattle.std.proofs.Common.{List, false, Ok, Err, sym, ap, ◌∙◌, subst, All}
 use Rattle.std.proofs.lemmas.Result.{IfOk-weaker, IfErr-weaker}
-use Rattle.dp_model.specs.declared.places.Place.{Place}
+use Rattle.dp_base.specs.declared.place.Place.{Place}
 use Rattle.yaml_scan.specs.declared.line.Line.{Line}
 use Rattle.yaml_tree.specs.Rest.{Rest, rest_of, IsSpan}
 use Rattle.yaml_tree.specs.Lines.{from_content}

@@ -1,5 +1,5 @@
 use Rattle.std.proofs.Common.{◌≡◌, [], drop}
-use Rattle.dp_model.specs.States.{all_true}
+use Rattle.dp_steps.specs.States.{all_true}
 use Rattle.solve_top.specs.Plain.{state_of}
 use Rattle.solve_top.proofs.search.expressions.all_hold.Given as goal
 

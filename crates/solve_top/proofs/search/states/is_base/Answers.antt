@@ -1,5 +1,5 @@
 use Rattle.std.proofs.Common.{◌≡◌, sym, ◌∙◌, ap, List, [], ◌∷◌, get_or}
-use Rattle.dp_model.specs.States.{all_true}
+use Rattle.dp_steps.specs.States.{all_true}
 use Rattle.dp_model.specs.declared.parts.BaseCase.{BaseCase}
 use Rattle.solve_top.specs.Plain.{state_of}
 use Rattle.solve_top.proofs.Values.{base_or_inner}

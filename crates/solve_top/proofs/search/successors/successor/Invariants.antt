@@ -1,5 +1,5 @@
 use Rattle.std.proofs.Common.{◌≡◌, ◌+◌, [], All, drop, length}
-use Rattle.dp_model.specs.States.{next_state}
+use Rattle.dp_steps.specs.States.{next_state}
 use Rattle.solve_top.specs.Plain.{state_of, Within, reach}
 use Rattle.solve_top.proofs.Values.{after_effects}
 use Rattle.solve_top.proofs.search.successors.successor.Given as goal

@@ -3,8 +3,8 @@ use Rattle.std.specs.Prelude.{MatchBool}
 use Rattle.std.specs.declared.alloc.AllocError.{AllocError}
 use Rattle.std.proofs.lemmas.Int.{ints, to_z-of_z}
 use Rattle.dp_model.specs.Costs.{join}
-use Rattle.dp_model.specs.States.{Base, Inner, is_enabled}
-use Rattle.dp_model.specs.Lists.{Solution}
+use Rattle.dp_steps.specs.States.{Base, Inner, is_enabled}
+use Rattle.dp_steps.specs.Lists.{Solution}
 use Rattle.dp_model.specs.declared.parts.JoinOp.TheVariants.{Plus}
 use Rattle.solve_top.specs.Plain.{LeadsTo, Within, reach, state_of}
 use Rattle.solve_top.specs.Search.{IsNode, Covers, Expanded, HoldsAtMost, node_state}

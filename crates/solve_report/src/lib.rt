@@ -1,0 +1,2 @@
+//! The lines that the program prints of solutions, passes, verdicts and refusals.
+#![tactic(auto)]

@@ -1,7 +1,0 @@
-use Rattle.dp_model.specs.Records.{line, step_text}
-use Rattle.solve_top.proofs.ReportPuts.{Puts-item_stop}
-use Rattle.solve_top.proofs.report.steps.put_steps.Goals as goal
-
-pub returns-in_err-put_step_line : goal.returns-in_err-put_step_line
-returns-in_err-put_step_line g c =
-    Puts-item_stop (λ s. line (step_text c.args.model.now s)) c.args.steps.now c.loop-step.step-index _ c.loop-step-test.true c.loop-step.invariant c.in_err-put_step_line.ensures c.from_residual.ensures.0
