@@ -42,6 +42,6 @@ IsIsotoneAfter minimize op =
 abbrev pub IsBetterByWord : Bool → JoinOp → Type 0
 IsBetterByWord minimize op = (a b : ℤ) → IsBetter minimize a b ↔ (order_word minimize op (Some a) <ℤ order_word minimize op (Some b))
 
--- the law with this order and this operator is the model's
-abbrev pub IsLawOf : Bool → JoinOp → Model → Type 0
-IsLawOf minimize operator m = (minimize ≡ m.minimize) × (operator ≡ m.join)
+-- the law with this order and this operator is that of the model
+abbrev pub IsLawOf : Model → Bool → JoinOp → Type 0
+IsLawOf m minimize operator = (minimize ≡ m.minimize) × (operator ≡ m.join)
