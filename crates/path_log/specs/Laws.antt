@@ -129,3 +129,12 @@ in_place_push logs i log e places here k at is =
       | inl new ↦ ap (λ (l : Log). l.shard) new.1 ∙ (places i log here ∙ sym new.0)
       | inr old ↦ places k at old
     ]
+
+-- the chain of a step that is pushed: it has no transitions where the step has no parent, and else prolongs that of its parent
+pub begins : (logs : List Log) (i : ℕ) (log : Log) (transition : ℕ) → slice_get logs i ≡ Some log → log.shard ≡ i → LeadsBack (slice_set logs i (with_step log (entry None transition))) (next_id log) []
+begins logs i log transition here shard = (transition, pushed logs i log (entry None transition) here shard)
+
+pub prolongs : (logs : List Log) (i : ℕ) (log : Log) (parent : StepId) (transition : ℕ) (back : List ℕ) → slice_get logs i ≡ Some log → log.shard ≡ i → LeadsBack logs parent back → LeadsBack (slice_set logs i (with_step log (entry (Some parent) transition))) (next_id log) (transition ∷ back)
+prolongs logs i log parent transition back here shard leads =
+    let e = entry (Some parent) transition in
+    (parent, pushed logs i log e here shard, stays logs (slice_set logs i (with_step log e)) (grown_push logs i log e here) parent back leads)
