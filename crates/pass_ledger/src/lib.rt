@@ -1,0 +1,9 @@
+//! Ledgers of passes: what each shard of a pass received, kept, dropped, pruned, visited and posted, when such a ledger is
+//! closed, and the laws that follow, whatever the order in which the shards took turns.
+#![tactic(auto)]
+
+mod nodes;
+mod records;
+
+pub use nodes::{Letter, Node, StepId};
+pub use records::{FaultHere, Held, LedgerRow, PrunedAt, ShardRecord, Unsent, Visit};
