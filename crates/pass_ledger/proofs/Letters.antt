@@ -1,5 +1,5 @@
 -- Lists of letters: groups in the order of their layers.
-use Rattle.std.proofs.Common.{◌≡◌, ◌≢◌, ◌⊎◌, inl, inr, ℕ, ◌+◌, ◌≤◌, ◌<◌, zero, suc, Bool, true, false, if◌then◌else◌, nat_eq, List, [], ◌∷◌, ◌++◌, slice_get, Option, Some, None, get_or, refl, sym, ap, subst, arith, eq-eqb}
+use Rattle.std.proofs.Common.{◌≡◌, ◌≢◌, ◌⊎◌, inl, inr, ℕ, ◌+◌, ◌≤◌, ◌<◌, zero, suc, Bool, true, false, if◌then◌else◌, nat_eq, List, [], ◌∷◌, ◌++◌, slice_get, length, Option, Some, None, get_or, refl, sym, ap, subst, arith, eq-eqb}
 use Rattle.std.specs.List.{sum_by}
 use Rattle.std.proofs.lemmas.List.Sums.{get_or-le-sum_by, sum_by-cons}
 use Rattle.std.proofs.lemmas.Bool.{cases_eq, cases_lt, ne_eqb}
@@ -69,52 +69,92 @@ none_at l m n (Mark f layer y t ∷ xs) lt h =
     let b = sum_by-cons (is_at l) (Mark f layer y t) xs in
     omega (arith, a, b)
 
--- a mark's own number, in a list that begins at its layer with n states
-mark_here : (l n : ℕ) (xs : List Letter) (f y t : ℕ) → InGroups l n xs → Has xs (Mark f l y t) → y ≡ n + states_at l xs
-mark_here l n [] f y t h k = absurd (has_none (Mark f l y t) k)
-mark_here l n (State f' layer node ∷ xs) f y t h k =
+-- ---- what marks tell is how many states of their layer stand in the list
+
+told_one : (b : Bool) (y : ℕ) → b ≡ true → ◌≡◌ {A = ℕ} (if b then y else 0) y
+told_one true y e = refl
+told_one false y e = absurd (cc)
+
+told_none : (b : Bool) (y : ℕ) → b ≡ false → ◌≡◌ {A = ℕ} (if b then y else 0) 0
+told_none true y e = absurd (cc)
+told_none false y e = refl
+
+none_told : (l m n : ℕ) (xs : List Letter) → l < m → InGroups m n xs → told_at l xs ≡ 0
+none_told l m n [] lt h = refl
+none_told l m n (State f layer node ∷ xs) lt h =
+    let a = none_told l m (n + 1) xs lt h.1 in
+    let b = sum_by-cons (tells_at l) (State f layer node) xs in
+    omega (arith, a, b)
+none_told l m n (Mark f layer y t ∷ xs) lt h =
+    let a = none_told l (m + 1) 0 xs (omega arith) h.2 in
+    let b = sum_by-cons (tells_at l) (Mark f layer y t) xs in
+    let same = h.0 in
+    let c = told_none (nat_eq layer l) y (ne_eqb layer l (λ e. omega arith)) in
+    omega (arith, a, b, c)
+
+-- a list that begins at the layer, of which n states have come
+told_here : (l n : ℕ) (xs : List Letter) (f y t : ℕ) → InGroups l n xs → Has xs (Mark f l y t) → told_at l xs ≡ n + states_at l xs
+told_here l n [] f y t h k = absurd (has_none (Mark f l y t) k)
+told_here l n (State f' layer node ∷ xs) f y t h k =
     elim (has_head (State f' layer node) xs (Mark f l y t) k) [
       | inl e ↦ absurd (let clash : State f' layer node ≡ Mark f l y t = e in cc)
-      | inr b ↦ (let a = mark_here l (n + 1) xs f y t h.1 b in
+      | inr b ↦ (let a = told_here l (n + 1) xs f y t h.1 b in
           let c = sum_by-cons (is_at l) (State f' layer node) xs in
+          let c' = sum_by-cons (tells_at l) (State f' layer node) xs in
           let d = is_one (nat_eq layer l) (eq-eqb layer l h.0) in
-          omega (arith, a, c, d))
+          omega (arith, a, c, c', d))
     ]
-mark_here l n (Mark f' layer y' t' ∷ xs) f y t h k =
+told_here l n (Mark f' layer y' t' ∷ xs) f y t h k =
+    let a = none_at l (l + 1) 0 xs (omega arith) h.2 in
+    let b = none_told l (l + 1) 0 xs (omega arith) h.2 in
+    let c = sum_by-cons (is_at l) (Mark f' layer y' t') xs in
+    let c' = sum_by-cons (tells_at l) (Mark f' layer y' t') xs in
+    let d = told_one (nat_eq layer l) y' (eq-eqb layer l h.0) in
+    omega (arith, a, b, c, c', d, h.1)
+
+told_later : (l m n : ℕ) (xs : List Letter) (f y t : ℕ) → m < l → InGroups m n xs → Has xs (Mark f l y t) → told_at l xs ≡ states_at l xs
+told_later l m n [] f y t lt h k = absurd (has_none (Mark f l y t) k)
+told_later l m n (State f' layer node ∷ xs) f y t lt h k =
+    elim (has_head (State f' layer node) xs (Mark f l y t) k) [
+      | inl e ↦ absurd (let clash : State f' layer node ≡ Mark f l y t = e in cc)
+      | inr b ↦ (let a = told_later l m (n + 1) xs f y t lt h.1 b in
+          let c = sum_by-cons (is_at l) (State f' layer node) xs in
+          let c' = sum_by-cons (tells_at l) (State f' layer node) xs in
+          let same = h.0 in
+          let d = is_zero (nat_eq layer l) (ne_eqb layer l (λ e. omega arith)) in
+          omega (arith, a, c, c', d))
+    ]
+told_later l m n (Mark f' layer y' t' ∷ xs) f y t lt h k =
+    let c = sum_by-cons (is_at l) (Mark f' layer y' t') xs in
+    let c' = sum_by-cons (tells_at l) (Mark f' layer y' t') xs in
+    let same = h.0 in
+    let d = told_none (nat_eq layer l) y' (ne_eqb layer l (λ e. omega arith)) in
     elim (has_head (Mark f' layer y' t') xs (Mark f l y t) k) [
-      | inl e ↦ (let is : Mark f' layer y' t' ≡ Mark f l y t = e in
-          let same : y' ≡ y = cc in
-          let a = none_at l (l + 1) 0 xs (omega arith) h.2 in
-          let c = sum_by-cons (is_at l) (Mark f' layer y' t') xs in
-          omega (arith, a, c, same, h.1))
-      | inr b ↦ (let a = low (l + 1) 0 xs (Mark f l y t) h.2 b in absurd (omega arith))
+      | inl e ↦ (let is = ap layer_of e in absurd (omega arith))
+      | inr b ↦ elim (cases_eq (m + 1) l) [
+        | inl e ↦ (let a = told_here l 0 xs f y t (subst (λ (x : ℕ). InGroups x 0 xs) e h.2) b in omega (arith, a, c, c', d))
+        | inr ne ↦ (let a = told_later l (m + 1) 0 xs f y t (omega arith) h.2 b in omega (arith, a, c, c', d))
+      ]
     ]
 
--- what a mark says to its receiver is how many states of its layer stand in the list
-pub mark_counts : (l m n : ℕ) (xs : List Letter) (f y t : ℕ) → n ≡ 0 → InGroups m n xs → Has xs (Mark f l y t) → y ≡ states_at l xs
-mark_counts l m n xs f y t z h k =
-    elim (cases_eq m l) [
-      | inl e ↦ (let a = mark_here l n xs f y t (subst (λ (x : ℕ). InGroups x n xs) e h) k in omega (arith, a, z))
-      | inr ne ↦ (let le = low m n xs (Mark f l y t) h k in later l m n xs f y t (omega arith) h k)
+-- what the marks of a layer tell is how many of its states stand in the list, where it has a mark of the layer
+pub told_is : (l : ℕ) (xs : List Letter) (f y t : ℕ) → InGroups 1 0 xs → Has xs (Mark f l y t) → told_at l xs ≡ states_at l xs
+told_is l xs f y t h k =
+    let le = low 1 0 xs (Mark f l y t) h k in
+    elim (cases_eq 1 l) [
+      | inl e ↦ (let a = told_here l 0 xs f y t (subst (λ (x : ℕ). InGroups x 0 xs) e h) k in omega (arith, a))
+      | inr ne ↦ told_later l 1 0 xs f y t (omega arith) h k
     ]
-  where
-    later : (l m n : ℕ) (xs : List Letter) (f y t : ℕ) → m < l → InGroups m n xs → Has xs (Mark f l y t) → y ≡ states_at l xs
-    later l m n [] f y t lt h k = absurd (has_none (Mark f l y t) k)
-    later l m n (State f' layer node ∷ xs) f y t lt h k =
-        elim (has_head (State f' layer node) xs (Mark f l y t) k) [
-          | inl e ↦ absurd (let clash : State f' layer node ≡ Mark f l y t = e in cc)
-          | inr b ↦ (let a = later l m (n + 1) xs f y t lt h.1 b in
-              let c = sum_by-cons (is_at l) (State f' layer node) xs in
-              let same = h.0 in
-              let d = is_zero (nat_eq layer l) (ne_eqb layer l (λ e. omega arith)) in
-              omega (arith, a, c, d))
-        ]
-    later l m n (Mark f' layer y' t' ∷ xs) f y t lt h k =
-        elim (has_head (Mark f' layer y' t') xs (Mark f l y t) k) [
-          | inl e ↦ (let is = ap layer_of e in let same = h.0 in absurd (omega arith))
-          | inr b ↦ (let c = sum_by-cons (is_at l) (Mark f' layer y' t') xs in
-              elim (cases_eq (m + 1) l) [
-                | inl e ↦ (let a = mark_here l 0 xs f y t (subst (λ (x : ℕ). InGroups x 0 xs) e h.2) b in omega (arith, a, c))
-                | inr ne ↦ (let a = later l (m + 1) 0 xs f y t (omega arith) h.2 b in omega (arith, a, c))
-              ])
-        ]
+
+-- the first layer of letters is 1
+pub from_one : (xs : List Letter) (x : Letter) → InGroups 1 0 xs → Has xs x → 1 ≤ layer_of x
+from_one xs x h k = low 1 0 xs x h k
+
+pub sums_same : {A : Type 0} (f g : A → ℕ) (xs : List A) (d : A) → ((j : ℕ) → j < length xs → f (get_or xs j d) ≡ g (get_or xs j d)) → sum_by f xs ≡ sum_by g xs
+sums_same f g [] d each = refl
+sums_same f g (x ∷ xs) d each =
+    let a = sum_by-cons f x xs in
+    let b = sum_by-cons g x xs in
+    let c = sums_same f g xs d (λ j lt. each (suc j) (omega arith)) in
+    let h = each 0 (omega arith) in
+    omega (arith, a, b, c, h)

@@ -6,3 +6,4 @@ pub mod Trust
 pub mod Moves
 pub mod Paths
 pub mod Backwards
+pub mod Done
