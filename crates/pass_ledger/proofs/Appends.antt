@@ -60,6 +60,13 @@ zero_if false e = refl
 pub not_at : (l m f : ℕ) (n : Node) → m ≢ l → is_at l (State f m n) ≡ 0
 not_at l m f n ne = zero_if (nat_eq m l) (ne_eqb m l ne)
 
+one_if : (b : Bool) → b ≡ true → ◌≡◌ {A = ℕ} (if b then 1 else 0) 1
+one_if true e = refl
+one_if false e = absurd (cc)
+
+pub at_one : (l m f : ℕ) (n : Node) → m ≡ l → is_at l (State f m n) ≡ 1
+at_one l m f n e = one_if (nat_eq m l) (eq-eqb m l e)
+
 -- what holds of each row, and of a new one behind them, holds of all
 pub row_each : (P : ℕ → LedgerRow → Type 0) (rows : List LedgerRow) (new : LedgerRow) → ((l : ℕ) → l < length rows → P l (row rows l)) → P (length rows) new → ((l : ℕ) → length rows < l → P l (record { kept = []; dropped = [] })) → (l : ℕ) → P l (row (rows ++ new ∷ []) l)
 row_each P rows new old here past l =

@@ -7,3 +7,4 @@ pub mod Moves
 pub mod Paths
 pub mod Backwards
 pub mod Done
+pub mod Steps
