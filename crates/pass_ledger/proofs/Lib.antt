@@ -8,3 +8,4 @@ pub mod Paths
 pub mod Backwards
 pub mod Done
 pub mod Steps
+pub mod Worlds
