@@ -9,3 +9,4 @@ pub mod Backwards
 pub mod Done
 pub mod Steps
 pub mod Worlds
+pub mod Runs

@@ -99,7 +99,7 @@ own_take p i r own x can =
 
 -- ---- a layer is closed
 
-empty_row : (p : Pass) (start : Option Node) (received : List (List Letter)) (l : ℕ) → IsRow p start received l (record { kept = []; dropped = [] })
+pub empty_row : (p : Pass) (start : Option Node) (received : List (List Letter)) (l : ℕ) → IsRow p start received l (record { kept = []; dropped = [] })
 empty_row p start received l =
     record { kept = λ n h. absurd (has_none n h); dropped = λ n h. absurd (has_none n h); apart = tt; few = least p.share; full = λ n h. absurd (has_none n h) }
   where

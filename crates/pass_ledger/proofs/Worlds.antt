@@ -367,7 +367,7 @@ good_visit p opening w good i l n rest made prunes held fault li can by_looked =
 
 -- ---- each event keeps it
 
-abbrev drew : World → ℕ → Seat
+abbrev pub drew : World → ℕ → Seat
 drew w i = record (seat w i) { turn = Turn.Drew w.drawn; late = (seat w i).late + (if nat_lt w.drawn w.budget then 0 else 1) }
 
 pub kept : (p : Pass) (opening : ℕ) (w : World) → Good p opening w → (e : Event) → Allowed p w e → Good p opening (happens w e)
