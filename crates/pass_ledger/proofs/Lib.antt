@@ -10,3 +10,4 @@ pub mod Done
 pub mod Steps
 pub mod Worlds
 pub mod Runs
+pub mod Pairs
