@@ -1,21 +1,20 @@
 -- The law of closed ledgers, by an induction over the layers that are left: no completion of a received node is better than
 -- the best word.
-use Rattle.std.proofs.Common.{◌≡◌, ℕ, ◌+◌, ◌≤◌, ◌<◌, ◌⊎◌, inl, inr, zero, suc, List, [], ◌∷◌, ◌++◌, length, reverse, slice_get, get_or, Option, Some, None, sym, subst, ◌∙◌, ap, refl, arith, add-one}
+use Rattle.std.proofs.Common.{◌≡◌, ℕ, ◌+◌, ◌≤◌, ◌<◌, inl, inr, zero, suc, List, [], ◌∷◌, length, reverse, slice_get, Option, Some, None, sym, subst, ◌∙◌, ap, refl, arith}
 use Rattle.std.specs.Prelude.{ℤ, pos, ◌≤ℤ◌, ◌<ℤ◌, IfSome}
 use Rattle.std.specs.Int.{int_min}
 use Rattle.std.proofs.lemmas.Int.{ints, clamps}
 use Rattle.std.proofs.lemmas.List.{get_or_past}
 use Rattle.dp_model.specs.Costs.{InRange, join, join_onto}
 use Rattle.dp_steps.specs.Bounds.{IsFloor}
-use Rattle.dp_steps.specs.Lists.{Completion, Solution}
-use Rattle.dp_steps.specs.States.{Base, Considered, Enabled, Inner, Step}
+use Rattle.dp_steps.specs.Lists.{Completion}
+use Rattle.dp_steps.specs.States.{Base, Inner, Step}
 use Rattle.dp_claims.specs.Enough.{Has}
 use Rattle.dp_model.specs.declared.parts.PlainState.{PlainState}
-use Rattle.pass_ledger.specs.Letters.{of}
-use Rattle.pass_ledger.specs.Passes.{Pass, word_of, StartsInner, IsTrusted, CoversNode}
+use Rattle.pass_ledger.specs.Passes.{Pass, word_of, StartsInner, CoversNode}
 use Rattle.pass_ledger.specs.Rows.{row, Received, IsCovered}
-use Rattle.pass_ledger.specs.Records.{IsSuccessor, IsTotal, Reaches, LeadsOut, LeadsToBase, LeadsOn, Accounted, IsPruned, IsSent, visit_of, Starts, rec}
-use Rattle.pass_ledger.specs.Ledgers.{Ledger, Closed, DropsNone, IsFloorOfDropped, NoneBelow, NoneBelowBoth, LawClosed}
+use Rattle.pass_ledger.specs.Records.{IsTotal, Reaches, LeadsOut, IsPruned, visit_of, Starts, rec}
+use Rattle.pass_ledger.specs.Ledgers.{Ledger, Closed, NoneBelow, LawClosed}
 use Rattle.pass_ledger.specs.declared.nodes.Node.{Node}
 use Rattle.pass_ledger.specs.declared.nodes.Letter.{Letter}
 use Rattle.pass_ledger.specs.declared.nodes.Letter.TheVariants.{State}
@@ -236,7 +235,7 @@ law p recs opening best inner trusted ledger closed =
     } in (
       λ none. none_below p recs opening best (pos best) shut (self (pos best)) (λ i l n li d. absurd (none i l n li d)),
       λ floor floors steps cost solution x y.
-        both (pos best) (word_of p floor) (word_of p cost)
-        (none_below p recs opening best (int_min (pos best) (word_of p floor)) shut (min_left (pos best) (word_of p floor))
-        (λ i l n li d. (let f = floors i l n li d in (f.0, f.1, min_right (pos best) (word_of p floor) (word_of p f.0) f.2))) steps cost solution) x y,
+          both (pos best) (word_of p floor) (word_of p cost)
+          (none_below p recs opening best (int_min (pos best) (word_of p floor)) shut (min_left (pos best) (word_of p floor))
+          (λ i l n li d. (let f = floors i l n li d in (f.0, f.1, min_right (pos best) (word_of p floor) (word_of p f.0) f.2))) steps cost solution) x y,
     )

@@ -1,5 +1,5 @@
 -- The laws of costs that the proofs need.
-use Rattle.std.specs.Prelude.{◌≡◌, ◌⊎◌, Bool, true, false, Option, Some, None, ℤ, pos, ◌≤ℤ◌, IfSome, refl}
+use Rattle.std.specs.Prelude.{◌≡◌, ◌⊎◌, Bool, true, false, Option, Some, None, ℤ, ◌≤ℤ◌, IfSome, refl}
 use Rattle.std.proofs.Common.{arith, inl, inr}
 use Rattle.std.proofs.lemmas.Int.{ints, clamps, by_lt_z}
 use Rattle.dp_model.specs.Costs.{InRange, IsBetter, order_word, join, join_onto, operation}

@@ -1,12 +1,11 @@
 -- Where the records of all shards are done, the ledger is closed.
-use Rattle.std.proofs.Common.{◌≡◌, ℕ, ◌+◌, ◌≤◌, ◌<◌, ◌⊎◌, zero, suc, List, [], ◌∷◌, ◌++◌, length, get_or, slice_get, Option, Some, None, inl, inr, refl, sym, subst, ◌∙◌, ap, arith, add-one}
-use Rattle.std.specs.List.{sum_by}
+use Rattle.std.proofs.Common.{◌≡◌, ℕ, ◌+◌, ◌≤◌, ◌<◌, ◌⊎◌, zero, suc, List, [], ◌∷◌, ◌++◌, length, slice_get, Option, Some, None, inl, inr, refl, sym, subst, ◌∙◌, ap, arith, add-one}
 use Rattle.std.proofs.lemmas.List.{append-nil}
 use Rattle.std.proofs.lemmas.Bool.{cases_lt, cases_eq}
 use Rattle.dp_claims.specs.Enough.{Has}
-use Rattle.pass_ledger.specs.Letters.{of, sender, layer_of, InGroups, states_at, all_states_at, told_at, all_told_at}
+use Rattle.pass_ledger.specs.Letters.{of, layer_of, InGroups, states_at, all_states_at, told_at}
 use Rattle.pass_ledger.specs.Passes.{Pass, StartsInner}
-use Rattle.pass_ledger.specs.Rows.{row, Received, IsCovered}
+use Rattle.pass_ledger.specs.Rows.{row, Received}
 use Rattle.pass_ledger.specs.Records.{Accounted, IsPruned, IsFaultAt, visit_of, rec, Own, Done, Together}
 use Rattle.pass_ledger.specs.Ledgers.{Ledger, Closed, Totals, IsBest, PrunesAbove, AllDone, IsSound, LawRecords}
 use Rattle.pass_ledger.specs.declared.nodes.Node.{Node}
@@ -181,9 +180,9 @@ totals p recs s done i li j f l y t h =
     let high = own.marks.layer j f l y t h in
     total_is p i (rec recs i) own (done i li) j f l y t h
     ∙ sym (sums_same (told_at l) (states_at l) (rec recs i).posted [] (λ k lk.
-        (let lk' = subst (λ (n : ℕ). k < n) own.sizes.1 lk in
-        let m = mark_to p recs s done i k l li lk' low high in
-        told_is l (of (rec recs i).posted k) i m.0 m.1 (own.sends.lawful k).groups m.2)))
+    (let lk' = subst (λ (n : ℕ). k < n) own.sizes.1 lk in
+    let m = mark_to p recs s done i k l li lk' low high in
+    told_is l (of (rec recs i).posted k) i m.0 m.1 (own.sends.lawful k).groups m.2)))
 
 done_ledger : (p : Pass) (recs : List ShardRecord) → length recs ≡ p.shards → Together p recs → Ledger p recs
 done_ledger p recs long s =

@@ -1,9 +1,9 @@
 -- Lists of letters: groups in the order of their layers.
-use Rattle.std.proofs.Common.{◌≡◌, ◌≢◌, ◌⊎◌, inl, inr, ℕ, ◌+◌, ◌≤◌, ◌<◌, zero, suc, Bool, true, false, if◌then◌else◌, nat_eq, List, [], ◌∷◌, ◌++◌, slice_get, length, Option, Some, None, get_or, refl, sym, ap, subst, arith, eq-eqb}
+use Rattle.std.proofs.Common.{◌≡◌, inl, inr, ℕ, ◌+◌, ◌≤◌, ◌<◌, zero, suc, Bool, true, false, if◌then◌else◌, nat_eq, List, [], ◌∷◌, ◌++◌, slice_get, length, Some, None, get_or, refl, ap, subst, arith, eq-eqb}
 use Rattle.std.specs.List.{sum_by}
 use Rattle.std.proofs.lemmas.List.Sums.{get_or-le-sum_by, sum_by-cons}
-use Rattle.std.proofs.lemmas.Bool.{cases_eq, cases_lt, ne_eqb}
-use Rattle.pass_ledger.specs.Letters.{of, layer_of, InGroups, is_at, states_at, all_states_at, tells_at, told_at, all_told_at}
+use Rattle.std.proofs.lemmas.Bool.{cases_eq, ne_eqb}
+use Rattle.pass_ledger.specs.Letters.{of, layer_of, InGroups, is_at, states_at, all_states_at, tells_at, told_at}
 use Rattle.dp_claims.specs.Enough.{Has}
 use Rattle.pass_ledger.specs.declared.nodes.Node.{Node}
 use Rattle.pass_ledger.specs.declared.nodes.Letter.{Letter}

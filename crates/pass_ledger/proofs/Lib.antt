@@ -11,3 +11,4 @@ pub mod Steps
 pub mod Worlds
 pub mod Runs
 pub mod Pairs
+pub mod Groups

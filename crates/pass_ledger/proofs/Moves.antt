@@ -1,13 +1,11 @@
 -- Steps of a model: where a transition leads is determined, and paths and completions go on.
-use Rattle.std.proofs.Common.{◌≡◌, ℕ, Bool, true, false, List, [], ◌∷◌, ◌++◌, Option, Some, None, Result, Ok, Err, refl, sym, subst, ◌∙◌, ap}
+use Rattle.std.proofs.Common.{◌≡◌, ℕ, Bool, true, false, List, [], ◌∷◌, ◌++◌, Option, Some, None, Result, Ok, refl, sym, subst, ◌∙◌, ap}
 use Rattle.std.specs.Prelude.{ℤ, IfSome}
 use Rattle.std.specs.List.{fold}
 use Rattle.dp_model.specs.Costs.{InRange, better_of, join, join_onto}
-use Rattle.dp_model.specs.StepTexts.{ground_of}
-use Rattle.dp_steps.specs.Lists.{Leads, Path, Completion, ReachesBase, Solution}
-use Rattle.dp_steps.specs.States.{Allowed, Base, Considered, Enabled, Forbidden, Inner, Step, case_costs, all_true, weight_of, next_state, is_enabled}
+use Rattle.dp_steps.specs.Lists.{Leads, Path, Completion, Solution}
+use Rattle.dp_steps.specs.States.{Allowed, Base, Enabled, Forbidden, Inner, Step, weight_of, next_state}
 use Rattle.dp_model.specs.declared.answers.FaultKind.{FaultKind}
-use Rattle.dp_model.specs.declared.parts.Transition.{Transition}
 use Rattle.dp_model.specs.declared.parts.PlainState.{PlainState}
 use Rattle.dp_model.specs.declared.whole.Model.{Model}
 use Rattle.pass_ledger.proofs.Costs.{assoc}

@@ -1,15 +1,13 @@
 -- The kept nodes of several shards are different pairs of a layer and a state, and so are the visited ones.
-use Rattle.std.proofs.Common.{◌≡◌, ℕ, ◌+◌, ◌≤◌, ◌<◌, ◌⊎◌, inl, inr, zero, suc, List, [], ◌∷◌, ◌++◌, length, map, reverse, slice_get, Option, Some, None, refl, sym, subst, ◌∙◌, ap, arith, length-append}
+use Rattle.std.proofs.Common.{◌≡◌, ℕ, ◌+◌, ◌≤◌, ◌<◌, ◌⊎◌, inl, inr, zero, suc, List, [], ◌∷◌, ◌++◌, length, map, reverse, refl, sym, subst, ◌∙◌, ap, arith, length-append}
 use Rattle.std.proofs.lemmas.List.{length-map, length-reverse}
-use Rattle.std.specs.Prelude.{ℤ, ◌≤ℤ◌}
 use Rattle.dp_steps.specs.Lists.{Prefix}
 use Rattle.dp_claims.specs.Dominance.{Covers}
-use Rattle.dp_claims.specs.Enough.{Has, Different, IsPair, ArePairs, AreOf, IsAtMostReached, IsWidthAtMost}
+use Rattle.dp_claims.specs.Enough.{Has, Different, IsPair, ArePairs, IsAtMostReached}
 use Rattle.dp_model.specs.declared.parts.PlainState.{PlainState}
 use Rattle.pass_ledger.specs.Passes.{Pass, word, StartsInner, CoversNode}
 use Rattle.pass_ledger.specs.Rows.{row, Received, Apart}
 use Rattle.pass_ledger.specs.Records.{visit_of, rec, Together}
-use Rattle.pass_ledger.specs.Ledgers.{DropsNone}
 use Rattle.pass_ledger.specs.Counts.{pair, row_pairs, kept_pairs, visits_of, LeavesOne, DropsOne, IsWider, LawEnough}
 use Rattle.pass_ledger.specs.declared.nodes.Node.{Node}
 use Rattle.pass_ledger.specs.declared.records.LedgerRow.{LedgerRow}
@@ -17,8 +15,8 @@ use Rattle.pass_ledger.specs.declared.records.Visit.{Visit}
 use Rattle.pass_ledger.specs.declared.records.ShardRecord.{ShardRecord}
 use Rattle.dp_claims.proofs.Covering.{reflexive}
 use Rattle.pass_ledger.proofs.Costs.{either}
-use Rattle.pass_ledger.proofs.Lists.{has_none, has_left, has_cases, has_head, has_map, different_append, different_one}
-use Rattle.pass_ledger.proofs.Paths.{Known, known, paths}
+use Rattle.pass_ledger.proofs.Lists.{has_none, has_left, has_cases, has_head, has_map, different_append}
+use Rattle.pass_ledger.proofs.Paths.{known, paths}
 use Rattle.pass_ledger.proofs.Done.{rooted}
 
 -- ---- nodes of one row
@@ -95,8 +93,8 @@ rows_different p l [] a = tt
 rows_different p l (r ∷ rows) a =
     different_append (map (pair l) r.kept) (row_pairs (l + 1) rows) (nodes_different p l r.kept (apart_front p r.kept r.dropped (a 0))) (rows_different p (l + 1) rows (λ k. a (suc k)))
     (λ q x y. (let m = has_map (pair l) r.kept q x in
-        let k = row_of (l + 1) rows q y in
-        later l k.0 (pair_layer l (l + 1 + k.0) m.0 k.1 (m.2 ∙ k.3))))
+    let k = row_of (l + 1) rows q y in
+    later l k.0 (pair_layer l (l + 1 + k.0) m.0 k.1 (m.2 ∙ k.3))))
   where
     later : (l k : ℕ) → l ≡ l + 1 + k → ⊥
     later l k e = absurd (omega arith)
@@ -159,7 +157,7 @@ kept_different p recs inner s (suc i) le =
     let li = last i p.shards le in
     different_append (kept_pairs recs i) (row_pairs 0 (rec recs i).rows) (kept_different p recs inner s i (before i p.shards le)) (rows_different p 0 (rec recs i).rows (λ k. ((s.own i li).rows k).apart))
     (λ q a b. (let r = kept_received p recs s i li q b in
-        pairs_apart p recs inner s i (before i p.shards le) i li (same i) q r.0 (kept_comes p recs s i (before i p.shards le) q a) r.1 r.2))
+    pairs_apart p recs inner s i (before i p.shards le) i li (same i) q r.0 (kept_comes p recs s i (before i p.shards le) q a) r.1 r.2))
   where
     before : (i n : ℕ) → suc i ≤ n → i ≤ n
     before i n h = omega arith
@@ -254,7 +252,7 @@ all_different p recs inner s (suc i) le =
     different_append (visited_pairs recs i) (map visit_pair (rec recs i).visits) (all_different p recs inner s i (before i p.shards le))
     (visits_different p (rec recs i).rows (λ k. (own.rows k).apart) (rec recs i).visits own.turns.visited own.turns.once)
     (λ q a b. (let r = visit_received p recs s i li q b in
-        pairs_apart p recs inner s i (before i p.shards le) i li (same_bound i) q r.0 (visits_come p recs s i (before i p.shards le) q a) r.1 r.2))
+    pairs_apart p recs inner s i (before i p.shards le) i li (same_bound i) q r.0 (visits_come p recs s i (before i p.shards le) q a) r.1 r.2))
   where
     before : (i n : ℕ) → suc i ≤ n → i ≤ n
     before i n h = omega arith

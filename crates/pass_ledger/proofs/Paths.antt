@@ -1,19 +1,18 @@
 -- The nodes that shards received: in a closed ledger, and in records that are together, their parents lead back to the target.
-use Rattle.std.proofs.Common.{◌≡◌, ℕ, ◌+◌, ◌<◌, zero, suc, List, [], ◌∷◌, ◌++◌, length, reverse, slice_get, Option, Some, None, refl, sym, subst, ◌∙◌, ap, arith, add-one}
+use Rattle.std.proofs.Common.{◌≡◌, ℕ, ◌+◌, ◌<◌, zero, suc, List, [], ◌∷◌, ◌++◌, reverse, slice_get, Option, Some, None, refl, sym, subst, ◌∙◌, ap, arith}
 use Rattle.std.specs.Prelude.{ℤ, IfSome, option_to_list}
 use Rattle.std.proofs.lemmas.Grind.{reverse_onto}
 use Rattle.std.proofs.lemmas.List.{append-nil}
 use Rattle.dp_model.specs.Costs.{InRange, join}
 use Rattle.dp_steps.specs.Bounds.{IsFloor}
-use Rattle.dp_steps.specs.Faults.{MeetsIn, Meets}
+use Rattle.dp_steps.specs.Faults.{Meets}
 use Rattle.dp_steps.specs.Lists.{Path}
-use Rattle.dp_steps.specs.States.{Inner, Step}
+use Rattle.dp_steps.specs.States.{Inner}
 use Rattle.dp_claims.specs.Enough.{Has}
-use Rattle.dp_model.specs.declared.parts.PlainState.{PlainState}
 use Rattle.pass_ledger.specs.Letters.{of}
 use Rattle.pass_ledger.specs.Passes.{Pass, StartsInner, IsStart}
 use Rattle.pass_ledger.specs.Rows.{row, Received}
-use Rattle.pass_ledger.specs.Records.{step_id, IsSuccessor, Made, Starts, IsHeld, MeetsAfter, rec, visit_at, LeadsBack, IsRooted, IsFound, IsMet, IsFault}
+use Rattle.pass_ledger.specs.Records.{step_id, IsSuccessor, Made, Starts, IsHeld, MeetsAfter, rec, visit_at, IsRooted, IsFound, IsMet, IsFault}
 use Rattle.pass_ledger.specs.declared.nodes.StepId.{StepId}
 use Rattle.pass_ledger.specs.declared.nodes.Node.{Node}
 use Rattle.pass_ledger.specs.declared.nodes.Letter.{Letter}

@@ -1,33 +1,29 @@
 -- What holds after every run of the world.
-use Rattle.std.proofs.Common.{◌≡◌, ◌≢◌, ℕ, ◌+◌, ◌≤◌, ◌<◌, ◌⊎◌, inl, inr, zero, suc, Bool, true, false, nat_eq, nat_lt, if◌then◌else◌, List, [], ◌∷◌, ◌++◌, length, map, get_or, slice_get, slice_set, replicate, min, max, Option, Some, None, refl, sym, subst, ◌∙◌, ap, arith, eq-eqb}
-use Rattle.std.specs.List.{filter, range_with_len}
-use Rattle.std.proofs.lemmas.Bool.{cases_eq, cases_lt, ne_eqb, eqb-true, lt-ltb}
+use Rattle.std.proofs.Common.{◌≡◌, ℕ, ◌+◌, ◌≤◌, ◌<◌, ◌⊎◌, inl, inr, Bool, true, false, nat_eq, nat_lt, if◌then◌else◌, List, [], ◌∷◌, ◌++◌, length, slice_get, slice_set, replicate, min, max, Option, Some, None, refl, sym, subst, ◌∙◌, ap, arith, eq-eqb}
+use Rattle.std.specs.List.{filter}
+use Rattle.std.proofs.lemmas.Bool.{cases_lt, eqb-true, lt-ltb}
 use Rattle.std.proofs.lemmas.List.{get_or-replicate, length-replicate, get_or_past}
 use Rattle.std.proofs.lemmas.List.FromFn.{length-map-range_with_len, get_or-map-range_with_len}
 use Rattle.std.specs.Prelude.{ℤ, pos, ◌≤ℤ◌}
 use Rattle.std.proofs.lemmas.Int.{ints}
 use Rattle.dp_claims.specs.Enough.{Has}
 use Rattle.dp_model.specs.declared.whole.Model.{Model}
-use Rattle.pass_ledger.specs.Letters.{of, InGroups, Posted}
-use Rattle.pass_ledger.specs.Passes.{Pass, word_of, StartsInner, IsStart}
-use Rattle.pass_ledger.specs.Rows.{row}
-use Rattle.pass_ledger.specs.Records.{rec, Starts, Turns, Sends, Marks, Own, Done, Together}
+use Rattle.pass_ledger.specs.Letters.{of, Posted}
+use Rattle.pass_ledger.specs.Passes.{Pass, word_of, IsStart}
+use Rattle.pass_ledger.specs.Records.{rec, Starts, Own, Together}
 use Rattle.pass_ledger.specs.Events.{take, close, prune, visit, post}
-use Rattle.pass_ledger.specs.Ledgers.{IsBest, AllDone, Ledger, Closed}
-use Rattle.pass_ledger.specs.Worlds.{World, Seat, Turn, Event, seat, happens, IsOffered, IsFree, Raises, Allowed, Runs, after, start_of, fresh, opened, offers, least_offer, is_draw, draws, IsRaised, Holds, LawRuns}
+use Rattle.pass_ledger.specs.Ledgers.{IsBest, AllDone}
+use Rattle.pass_ledger.specs.Worlds.{World, Seat, Turn, Event, seat, happens, IsOffered, IsFree, Raises, Allowed, Runs, after, start_of, fresh, opened, offers, least_offer, is_draw, draws, IsRaised, LawRuns}
 use Rattle.pass_ledger.specs.declared.nodes.Node.{Node}
 use Rattle.pass_ledger.specs.declared.nodes.Letter.{Letter}
 use Rattle.pass_ledger.specs.declared.nodes.Letter.TheVariants.{State, Mark}
-use Rattle.pass_ledger.specs.declared.records.PrunedAt.{PrunedAt}
-use Rattle.pass_ledger.specs.declared.records.Visit.{Visit}
-use Rattle.pass_ledger.specs.declared.records.Unsent.{Unsent}
 use Rattle.pass_ledger.specs.declared.records.Held.{Held}
 use Rattle.pass_ledger.specs.declared.records.FaultHere.{FaultHere}
 use Rattle.pass_ledger.specs.declared.records.ShardRecord.{ShardRecord}
 use Rattle.pass_ledger.proofs.Lists.{has_none}
 use Rattle.pass_ledger.proofs.Steps.{empty_row}
 use Rattle.pass_ledger.proofs.Done.{sound, records_law}
-use Rattle.pass_ledger.proofs.Worlds.{Good, IsKept, set_each, same_part, from_is, kept, drew}
+use Rattle.pass_ledger.proofs.Worlds.{Good, set_each, same_part, from_is, kept, drew}
 
 all_kept : (p : Pass) (opening : ℕ) (w : World) (events : List Event) → Good p opening w → Runs p w events → Good p opening (after w events)
 all_kept p opening w [] good runs = good
@@ -370,13 +366,17 @@ raised : (p : Pass) (opening : ℕ) (w : World) → Good p opening w → Caused 
 raised p opening w good c =
     elim c.causes [
       | inl z ↦ inl z
-      | inr h ↦ inr (h.0, h.1, elim h.2 [
-        | inl b ↦ inl (b.0, b.1, c.lates h.0 h.1 b.1)
-        | inr other ↦ elim other [
-          | inl m ↦ inr (inl m)
-          | inr f ↦ inr (inr (f.0, f.1, f.2, (sound p w.records (good_together p opening w good)).fault h.0 f.1 h.1 f.2))
-        ]
-      ])
+      | inr h ↦ inr (
+        h.0,
+        h.1,
+        elim h.2 [
+          | inl b ↦ inl (b.0, b.1, c.lates h.0 h.1 b.1)
+          | inr other ↦ elim other [
+            | inl m ↦ inr (inl m)
+            | inr f ↦ inr (inr (f.0, f.1, f.2, (sound p w.records (good_together p opening w good)).fault h.0 f.1 h.1 f.2))
+          ]
+        ],
+      )
     ]
 
 pub runs_law : LawRuns

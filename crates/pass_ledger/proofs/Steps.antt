@@ -1,15 +1,14 @@
 -- A record stays its shard's own, whatever the shard does next.
-use Rattle.std.proofs.Common.{◌≡◌, ◌≢◌, ℕ, ◌+◌, ◌≤◌, ◌<◌, ◌⊎◌, inl, inr, zero, suc, List, [], ◌∷◌, ◌++◌, length, slice_get, Option, Some, None, refl, sym, subst, ◌∙◌, ap, arith, add-one, length-append}
-use Rattle.std.specs.List.{sum_by}
+use Rattle.std.proofs.Common.{◌≡◌, ◌≢◌, ℕ, ◌+◌, ◌≤◌, ◌<◌, ◌⊎◌, inl, inr, zero, suc, List, [], ◌∷◌, ◌++◌, length, slice_get, Option, Some, None, refl, sym, subst, ◌∙◌, ap, arith, length-append}
 use Rattle.std.proofs.lemmas.Bool.{cases_eq, cases_lt}
 use Rattle.std.proofs.lemmas.List.{length-set, length_push}
-use Rattle.std.specs.Prelude.{ℤ, ◌≤ℤ◌, IfSome}
+use Rattle.std.specs.Prelude.{ℤ}
 use Rattle.dp_claims.specs.Enough.{Has, Different}
 use Rattle.pass_ledger.specs.Letters.{of, sender, layer_of, InGroups, InOrder, Posted, is_at, all_states_at}
 use Rattle.pass_ledger.specs.Passes.{Pass, Prunes}
 use Rattle.pass_ledger.specs.Rows.{row, Received, IsCovered, Apart, IsRow}
-use Rattle.pass_ledger.specs.Records.{step_id, unsent, visit_of, IsSuccessor, IsTotal, Reaches, LeadsOut, LeadsToBase, LeadsOn, IsPruned, IsSent, Accounted, Made, IsHeld, IsFaultAt, IsFault, HasFate, Turns, Sends, Marks, Own}
-use Rattle.pass_ledger.specs.Events.{append_at, take, CanTake, close, CanClose, prune, CanPrune, visit, CanVisit, post, CanPost, CanPostState, CanPostMark}
+use Rattle.pass_ledger.specs.Records.{step_id, unsent, visit_of, IsSuccessor, Reaches, IsPruned, IsSent, Accounted, Made, IsHeld, IsFaultAt, HasFate, Turns, Sends, Marks, Own}
+use Rattle.pass_ledger.specs.Events.{append_at, take, CanTake, close, CanClose, prune, CanPrune, visit, CanVisit, post, CanPost, CanPostMark}
 use Rattle.pass_ledger.specs.declared.nodes.StepId.{StepId}
 use Rattle.pass_ledger.specs.declared.nodes.Node.{Node}
 use Rattle.pass_ledger.specs.declared.nodes.Letter.{Letter}
@@ -285,10 +284,14 @@ accounted_more p i held held' posted ready made pruned prunes place v no_worse a
       | inl out ↦ inl out
       | inr other ↦ elim other [
         | inl base ↦ inr (inl (base.0, base.1, no_worse base.0 base.2))
-        | inr next ↦ inr (inr (next.0, next.1, elim next.2 [
-          | inl q ↦ inl (pruned_more pruned prunes next.0 q)
-          | inr s ↦ inr (sent_more p i posted ready made (v.layer + 1) next.0 s)
-        ]))
+        | inr next ↦ inr (inr (
+          next.0,
+          next.1,
+          elim next.2 [
+            | inl q ↦ inl (pruned_more pruned prunes next.0 q)
+            | inr s ↦ inr (sent_more p i posted ready made (v.layer + 1) next.0 s)
+          ],
+        ))
       ]
     ]
 
@@ -434,10 +437,14 @@ accounted_new p i held posted ready made pruned prunes place v a t considered en
       | inl out ↦ inl out
       | inr other ↦ elim other [
         | inl base ↦ inr (inl base)
-        | inr next ↦ inr (inr (next.0, next.1, elim next.2 [
-          | inl q ↦ inl (pruned_new pruned prunes next.0 q)
-          | inr s ↦ inr (sent_new p i posted ready made (v.layer + 1) next.0 s)
-        ]))
+        | inr next ↦ inr (inr (
+          next.0,
+          next.1,
+          elim next.2 [
+            | inl q ↦ inl (pruned_new pruned prunes next.0 q)
+            | inr s ↦ inr (sent_new p i posted ready made (v.layer + 1) next.0 s)
+          ],
+        ))
       ]
     ]
 

@@ -1,5 +1,5 @@
 -- What the honesty of a model says of floors and covering in a pass.
-use Rattle.std.proofs.Common.{◌≡◌, ℕ, ◌⊎◌, inl, inr, Bool, true, false, zero, suc, List, [], ◌∷◌, slice_get, length, Option, Some, None, Result, Ok, Err, refl, sym, subst, ◌∙◌, ap, arith}
+use Rattle.std.proofs.Common.{◌≡◌, ℕ, ◌⊎◌, inl, inr, Bool, true, false, suc, List, [], ◌∷◌, slice_get, length, Option, Some, Result, Ok, Err, refl, sym, subst, ◌∙◌, ap, arith}
 use Rattle.std.specs.Prelude.{ℤ, ◌≤ℤ◌, not, ◌&&◌, ◌==◌, IfSome}
 use Rattle.std.specs.List.{fold}
 use Rattle.std.specs.Int.{int_min, int_max}
@@ -7,7 +7,7 @@ use Rattle.std.proofs.lemmas.Int.{ints, clamps}
 use Rattle.dp_base.specs.Results.{◌>>=◌, in_turn}
 use Rattle.dp_model.specs.Costs.{InRange, better_of, join_onto, order_word}
 use Rattle.dp_model.specs.Evaluation.{num_value}
-use Rattle.dp_steps.specs.Bounds.{values_of, IsTightest, has_floors, IsFloor}
+use Rattle.dp_steps.specs.Bounds.{IsTightest, has_floors, IsFloor}
 use Rattle.dp_steps.specs.Lists.{Prefix, Completion}
 use Rattle.dp_claims.specs.Dominance.{Replaces}
 use Rattle.dp_claims.specs.Enough.{Has}

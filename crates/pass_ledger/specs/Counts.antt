@@ -1,5 +1,5 @@
 -- How many nodes a pass can keep and visit, and which shares drop none.
-use Rattle.std.specs.Prelude.{◌≡◌, ℕ, ◌+◌, ◌<◌, zero, suc, List, [], ◌∷◌, ◌++◌, length, map}
+use Rattle.std.specs.Prelude.{ℕ, ◌+◌, ◌<◌, zero, suc, List, [], ◌∷◌, ◌++◌, length, map}
 use Rattle.dp_claims.specs.Enough.{Has, ArePairs, AreOf, IsAtMostReached, IsWidthAtMost}
 use Rattle.dp_model.specs.declared.parts.PlainState.{PlainState}
 use Rattle.pass_ledger.specs.Passes.{Pass, StartsInner}

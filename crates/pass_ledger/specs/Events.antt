@@ -1,5 +1,5 @@
 -- What a shard may do next, and its record afterwards.
-use Rattle.std.specs.Prelude.{◌≡◌, ℕ, ◌+◌, ◌≤◌, ◌<◌, ◌⊎◌, List, [], ◌∷◌, ◌++◌, length, slice_set, Option, Some, None, ℤ}
+use Rattle.std.specs.Prelude.{◌≡◌, ℕ, ◌+◌, ◌<◌, ◌⊎◌, List, [], ◌∷◌, ◌++◌, length, slice_set, Option, Some, None, ℤ}
 use Rattle.dp_claims.specs.Enough.{Has, Different}
 use Rattle.pass_ledger.specs.Letters.{of, sender, InGroups, InOrder, Posted, all_states_at}
 use Rattle.pass_ledger.specs.Passes.{Pass, Prunes}
@@ -10,7 +10,6 @@ use Rattle.pass_ledger.specs.declared.nodes.Letter.{Letter}
 use Rattle.pass_ledger.specs.declared.nodes.Letter.TheVariants.{State, Mark}
 use Rattle.pass_ledger.specs.declared.records.PrunedAt.{PrunedAt}
 use Rattle.pass_ledger.specs.declared.records.LedgerRow.{LedgerRow}
-use Rattle.pass_ledger.specs.declared.records.Visit.{Visit}
 use Rattle.pass_ledger.specs.declared.records.Unsent.{Unsent}
 use Rattle.pass_ledger.specs.declared.records.Held.{Held}
 use Rattle.pass_ledger.specs.declared.records.FaultHere.{FaultHere}

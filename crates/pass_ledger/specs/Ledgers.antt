@@ -1,8 +1,7 @@
 -- When the ledger of a pass is closed, and the laws of closed ledgers and of the records of all shards.
-use Rattle.std.specs.Prelude.{◌≡◌, ℕ, ◌+◌, ◌≤◌, ◌<◌, ◌⊎◌, List, [], slice_get, length, Option, Some, None, ℤ, pos, ◌≤ℤ◌, ◌<ℤ◌}
+use Rattle.std.specs.Prelude.{◌≡◌, ℕ, ◌≤◌, ◌<◌, ◌⊎◌, List, [], slice_get, length, Some, None, ℤ, pos, ◌≤ℤ◌, ◌<ℤ◌}
 use Rattle.dp_steps.specs.Lists.{Solution}
 use Rattle.dp_claims.specs.Enough.{Has, Different}
-use Rattle.dp_model.specs.declared.whole.Model.{Model}
 use Rattle.pass_ledger.specs.Letters.{of, Posted, all_told_at}
 use Rattle.pass_ledger.specs.Passes.{Pass, word_of, StartsInner, IsTrusted, Prunes}
 use Rattle.pass_ledger.specs.Rows.{row, Received, IsCovered, IsRow}

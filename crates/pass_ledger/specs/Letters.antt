@@ -1,5 +1,5 @@
 -- Letters between shards: which lists of them a sender posts to a receiver.
-use Rattle.std.specs.Prelude.{◌≡◌, ℕ, ◌+◌, true, nat_eq, if◌then◌else◌, sum_by, List, [], ◌∷◌, get_or, Option, IfSome, ℤ, pos, neg_ℤ, ◌≤ℤ◌}
+use Rattle.std.specs.Prelude.{◌≡◌, ℕ, ◌+◌, true, nat_eq, if◌then◌else◌, sum_by, List, [], ◌∷◌, get_or, IfSome, ℤ, pos, neg_ℤ, ◌≤ℤ◌}
 use Rattle.dp_model.specs.Costs.{InRange}
 use Rattle.dp_model.specs.Typing.{is_state}
 use Rattle.dp_steps.specs.Bounds.{IsBounded}

@@ -5,4 +5,5 @@ pub mod Records
 pub mod Events
 pub mod Ledgers
 pub mod Counts
+pub mod Groups
 pub mod Worlds

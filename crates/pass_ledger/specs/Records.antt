@@ -1,5 +1,5 @@
 -- What a shard's record keeps by itself, when it is done, and what holds of the records of all shards together.
-use Rattle.std.specs.Prelude.{◌≡◌, ℕ, ◌+◌, ◌≤◌, ◌<◌, ◌⊎◌, List, [], ◌∷◌, ◌++◌, length, slice_get, get_or, reverse, option_to_list, Option, Some, None, IfSome, ℤ, pos, ◌≤ℤ◌}
+use Rattle.std.specs.Prelude.{◌≡◌, ℕ, ◌+◌, ◌≤◌, ◌<◌, ◌⊎◌, List, [], ◌∷◌, ◌++◌, length, slice_get, get_or, reverse, option_to_list, Option, Some, None, IfSome, ℤ, ◌≤ℤ◌}
 use Rattle.dp_model.specs.Costs.{InRange, join, join_onto}
 use Rattle.dp_steps.specs.Bounds.{IsFloor}
 use Rattle.dp_steps.specs.Faults.{MeetsIn, Meets}

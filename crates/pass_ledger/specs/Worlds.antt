@@ -1,12 +1,12 @@
 -- The shards of a pass together: their records, their mailboxes and the shared words, and what may happen next.
-use Rattle.std.specs.Prelude.{◌≡◌, ℕ, ◌+◌, ◌≤◌, ◌<◌, Bool, true, false, List, [], ◌∷◌, map, length, slice_set, get_or, replicate, Option, Some, None, min, max, nat_lt, nat_eq, if◌then◌else◌, ◌⊎◌, ℤ, pos}
+use Rattle.std.specs.Prelude.{◌≡◌, ℕ, ◌+◌, ◌≤◌, ◌<◌, Bool, true, false, List, [], ◌∷◌, map, length, slice_set, get_or, replicate, Option, Some, None, min, max, nat_lt, nat_eq, if◌then◌else◌, ◌⊎◌, pos}
 use Rattle.std.specs.List.{range_with_len}
 use Rattle.dp_claims.specs.Enough.{Has}
-use Rattle.pass_ledger.specs.Letters.{of, sender}
+use Rattle.pass_ledger.specs.Letters.{of}
 use Rattle.pass_ledger.specs.Passes.{Pass, word_of, StartsInner, IsStart, Prunes}
 use Rattle.pass_ledger.specs.Records.{rec, Together, IsMet}
-use Rattle.pass_ledger.specs.Events.{append_at, take, close, CanClose, prune, CanPrune, visit, CanVisit, post, CanPost}
-use Rattle.pass_ledger.specs.Ledgers.{Ledger, Closed, AllDone, LawRecords}
+use Rattle.pass_ledger.specs.Events.{append_at, take, close, CanClose, prune, visit, CanVisit, post, CanPost}
+use Rattle.pass_ledger.specs.Ledgers.{Ledger, Closed, AllDone}
 use Rattle.pass_ledger.specs.declared.nodes.Node.{Node}
 use Rattle.pass_ledger.specs.declared.nodes.Letter.{Letter}
 use Rattle.pass_ledger.specs.declared.records.PrunedAt.{PrunedAt}

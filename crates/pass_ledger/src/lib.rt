@@ -2,8 +2,10 @@
 //! closed, and the laws that follow, whatever the order in which the shards took turns.
 #![tactic(auto)]
 
+mod laws;
 mod nodes;
 mod records;
 
+pub use laws::{law_closed, law_enough, law_letters, law_world};
 pub use nodes::{Letter, Node, StepId};
 pub use records::{FaultHere, Held, LedgerRow, PrunedAt, ShardRecord, Unsent, Visit};
