@@ -12,3 +12,5 @@ pub mod Worlds
 pub mod Runs
 pub mod Pairs
 pub mod Groups
+pub mod TwoWays
+pub mod Worked

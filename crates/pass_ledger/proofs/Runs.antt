@@ -390,6 +390,7 @@ runs_law p start budget opening drawn events inner is runs =
       sizes = good.sizes.0;
       together = good_together p opening w good;
       looks = good.looks;
+      prunes = good.prunes;
       best_is = best_after w0 events;
       drawn_is = drawn_after w0 events;
       cause_is = raised p opening w good caused;

@@ -7,3 +7,5 @@ pub mod Ledgers
 pub mod Counts
 pub mod Groups
 pub mod Worlds
+pub mod TwoWays
+pub mod Worked

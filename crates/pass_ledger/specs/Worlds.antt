@@ -6,7 +6,7 @@ use Rattle.pass_ledger.specs.Letters.{of}
 use Rattle.pass_ledger.specs.Passes.{Pass, word_of, StartsInner, IsStart, Prunes}
 use Rattle.pass_ledger.specs.Records.{rec, Together, IsMet}
 use Rattle.pass_ledger.specs.Events.{append_at, take, close, CanClose, prune, visit, CanVisit, post, CanPost}
-use Rattle.pass_ledger.specs.Ledgers.{Ledger, Closed, AllDone}
+use Rattle.pass_ledger.specs.Ledgers.{Ledger, Closed, AllDone, PrunesAbove}
 use Rattle.pass_ledger.specs.declared.nodes.Node.{Node}
 use Rattle.pass_ledger.specs.declared.nodes.Letter.{Letter}
 use Rattle.pass_ledger.specs.declared.records.PrunedAt.{PrunedAt}
@@ -186,14 +186,15 @@ IsRaised p w =
     (i : ℕ) × (i < p.shards)
     × (((w.cause ≡ 1) × (0 < (seat w i).late) × (w.budget < w.drawn)) ⊎ ((w.cause ≡ 2) ⊎ ((w.cause ≡ 3) × (f : FaultHere) × ((rec w.records i).fault ≡ Some f) × IsMet p w.records f)))
 
--- What holds after a run: the records are together, so each received list is a prefix of the posted one; what a shard looked
--- at is not less than the best word; that is the least of the opening word and the offers; the numbers drawn are those
--- before and one for each draw; a halt was raised by a shard that has the cause; and where all shards are done, the ledger is
--- closed.
+-- What holds after a run: the records are together, so each received list is a prefix of the posted one; no shard looked at a
+-- value less than the best word, or pruned by one; the best word is the least of the opening word and the offers; the numbers
+-- drawn are those before and one for each draw; a halt was raised by a shard that has the cause; and where all shards are
+-- done, the ledger is closed.
 pub record Holds (p : Pass) (opening drawn : ℕ) (events : List Event) (w : World) : Type 0 where
   pub sizes : length w.records ≡ p.shards
   pub together : Together p w.records
   pub looks : (i : ℕ) → i < p.shards → w.best ≤ (seat w i).looked
+  pub prunes : PrunesAbove p w.records w.best
   pub best_is : w.best ≡ least_offer opening events
   pub drawn_is : w.drawn ≡ drawn + draws events
   pub cause_is : (w.cause ≡ 0) ⊎ IsRaised p w
