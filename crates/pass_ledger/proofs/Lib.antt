@@ -14,3 +14,4 @@ pub mod Pairs
 pub mod Groups
 pub mod TwoWays
 pub mod Worked
+pub mod WorkedRun

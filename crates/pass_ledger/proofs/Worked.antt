@@ -94,10 +94,10 @@ at_apart e = let values : Number (pos 1) ∷ [] ≡ Number (pos 2) ∷ [] = ap (
 
 -- ---- nodes and steps
 
-in_range : (n : ℕ) → n ≤ 4611686018427387903 → InRange (pos n)
+pub in_range : (n : ℕ) → n ≤ 4611686018427387903 → InRange (pos n)
 in_range n le = (omega (arith, ints, le), omega (arith, ints, le))
 
-small : (n : ℕ) → n ≤ 20 → n ≤ 4611686018427387903
+pub small : (n : ℕ) → n ≤ 20 → n ≤ 4611686018427387903
 small n le = omega arith
 
 start_is : (share : ℕ) → IsStart (alone share) n0
@@ -119,10 +119,10 @@ total_3 : (share : ℕ) → IsTotal (alone share) n2 3 (pos 3)
 total_3 share =
     record { weight = Some (pos 1); next = at 3; base = pos 0; step = d_step [] refl refl; is_base = base_at [] refl refl; cost_in_range = in_range 3 (small 3 (omega arith)); in_range = in_range 3 (small 3 (omega arith)); is = refl }
 
-n1_in_order : InOrder plain n1
+pub n1_in_order : InOrder plain n1
 n1_in_order = record { state = refl; inner = inner_at [] refl refl 1 refl; cost = in_range 1 (small 1 (omega arith)); floor = tt }
 
-n2_in_order : InOrder plain n2
+pub n2_in_order : InOrder plain n2
 n2_in_order = record { state = refl; inner = inner_at [] refl refl 2 refl; cost = in_range 2 (small 2 (omega arith)); floor = tt }
 
 -- ---- rows

@@ -9,3 +9,4 @@ pub mod Groups
 pub mod Worlds
 pub mod TwoWays
 pub mod Worked
+pub mod WorkedRun
