@@ -15,3 +15,4 @@ pub mod Groups
 pub mod TwoWays
 pub mod Worked
 pub mod WorkedRun
+pub mod WorkedFloors

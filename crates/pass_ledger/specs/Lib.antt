@@ -10,3 +10,4 @@ pub mod Worlds
 pub mod TwoWays
 pub mod Worked
 pub mod WorkedRun
+pub mod WorkedFloors
