@@ -74,7 +74,7 @@ is_mark f l y t h =
       ]
     ]
 
-one_shard : (i : ℕ) → suc i < 1 → ⊥
+pub one_shard : (i : ℕ) → suc i < 1 → ⊥
 one_shard i lt = absurd (omega arith)
 
 -- what the shard received
@@ -89,7 +89,7 @@ received_is share (suc l) n (suc j, lj, h) = absurd (one_shard j lj)
 got_1 : (share : ℕ) (n : Node) → Has letters (State 0 1 n) → Received (alone share) (Some n0) (letters ∷ []) 1 n
 got_1 share n h = (0, (alone share).owned (at 0), h)
 
-at_apart : at 1 ≡ at 2 → ⊥
+pub at_apart : at 1 ≡ at 2 → ⊥
 at_apart e = let values : Number (pos 1) ∷ [] ≡ Number (pos 2) ∷ [] = ap (λ (s : PlainState). s.values) e in cc
 
 -- ---- nodes and steps
@@ -269,7 +269,7 @@ first_accounted zero v e = subst (Accounted (alone 1) 0 first_pass.held (letters
 first_accounted (suc zero) v e = subst (Accounted (alone 1) 0 first_pass.held (letters ∷ []) [] [] 1) (some_is (visit_of 1 n1) v e) (accounted_1 1 (held (pos 11) 1 2) 1 (omega (arith, ints)))
 first_accounted (suc (suc place)) v e = absurd (none_is v e)
 
-layers_differ : (n m : Node) → visit_of 0 n ≡ visit_of 1 m → ⊥
+pub layers_differ : (n m : Node) → visit_of 0 n ≡ visit_of 1 m → ⊥
 layers_differ n m e = zero_one (ap (λ (v : Visit). v.layer) e)
   where
     zero_one : ◌≡◌ {A = ℕ} 0 1 → ⊥
@@ -293,7 +293,7 @@ first_ledger = record { shards = refl; rows = rows; visits = visits; once = once
     once_only zero li = first_once
     once_only (suc i) li = absurd (one_shard i li)
 
-only_one : (P : ℕ → Type 0) → P 0 → (i : ℕ) → i < 1 → P i
+pub only_one : (P : ℕ → Type 0) → P 0 → (i : ℕ) → i < 1 → P i
 only_one P h zero li = h
 only_one P h (suc i) li = absurd (one_shard i li)
 
