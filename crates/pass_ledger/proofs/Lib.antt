@@ -16,3 +16,4 @@ pub mod TwoWays
 pub mod Worked
 pub mod WorkedRun
 pub mod WorkedFloors
+pub mod WorkedPruning

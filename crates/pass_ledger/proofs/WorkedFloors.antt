@@ -48,7 +48,7 @@ use Rattle.pass_ledger.proofs.Worked.{state_parts, mark_parts, not_both, has_one
 abbrev IsAt : PlainState → Type 0
 IsAt s = ((s ≡ at 0) ⊎ (s ≡ at 1)) ⊎ ((s ≡ at 2) ⊎ (s ≡ at 3))
 
-inner : (a : ℕ) → Rattle.std.specs.Ordering.int_eq (pos a) (pos 3) ≡ false → Inner bounded (at a)
+pub inner : (a : ℕ) → Rattle.std.specs.Ordering.int_eq (pos a) (pos 3) ≡ false → Inner bounded (at a)
 inner a e = inner_at one one_typed refl a e
 
 base : Base bounded (at 3) (pos 0)
@@ -207,22 +207,22 @@ floor_2 = (refl, (pos 1, tightest (at 2), refl))
 start_is : IsStart pruning f0
 start_is = record { state = refl; cost = refl; floor = floor_0; parent = refl }
 
-f1_from : IsSuccessor pruning 0 0 f0 0 f1
+pub f1_from : IsSuccessor pruning 0 0 f0 0 f1
 f1_from =
     record { weight = Some (pos 1); step = p_step one one_typed refl; inner = inner 1 refl; cost = refl; in_range = in_range 1 (small 1 (omega arith)); floor = floor_1; parent = refl; transition = refl }
 
-f2_from : IsSuccessor pruning 0 0 f0 1 f2
+pub f2_from : IsSuccessor pruning 0 0 f0 1 f2
 f2_from =
     record { weight = Some (pos 2); step = q_step one one_typed refl; inner = inner 2 refl; cost = refl; in_range = in_range 2 (small 2 (omega arith)); floor = floor_2; parent = refl; transition = refl }
 
-total_11 : IsTotal pruning f1 2 (pos 11)
+pub total_11 : IsTotal pruning f1 2 (pos 11)
 total_11 =
     record { weight = Some (pos 10); next = at 3; base = pos 0; step = e_step one one_typed refl; is_base = base; cost_in_range = in_range 11 (small 11 (omega arith)); in_range = in_range 11 (small 11 (omega arith)); is = refl }
 
 has_word : (n : ℕ) → n ≤ 20 → HasWord (pos n)
 has_word n le = (omega (arith, ints, le), omega (arith, ints, le))
 
-f1_in_order : InOrder bounded f1
+pub f1_in_order : InOrder bounded f1
 f1_in_order = record { state = refl; inner = inner 1 refl; cost = in_range 1 (small 1 (omega arith)); floor = (floor_1.1, has_word 2 (omega arith)) }
 
 f2_in_order : InOrder bounded f2
@@ -264,7 +264,7 @@ row_1 =
       full = λ n h. refl;
     }
 
-covered_self : (w : LedgerRow) (m n : Node) → Has w.kept m ⊎ Has w.dropped m → m ≡ n → IsCovered pruning w n
+pub covered_self : (w : LedgerRow) (m n : Node) → Has w.kept m ⊎ Has w.dropped m → m ≡ n → IsCovered pruning w n
 covered_self w m n h e = (m, h, subst (CoversNode pruning m) e (reflexive bounded true m.state m.cost))
 
 -- ---- the letters
@@ -381,7 +381,7 @@ dropping_ledger = record { shards = refl; rows = rows; visits = visits; once = o
     once_only zero li = dropping_once
     once_only (suc i) li = absurd (one_shard i li)
 
-starts : Starts pruning 0 (Some f0)
+pub starts : Starts pruning 0 (Some f0)
 starts = (start_is, refl)
 
 held_11 : IsHeld pruning 0 dropping.visits (held (pos 11) 1 2)
