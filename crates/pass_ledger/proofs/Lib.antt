@@ -8,6 +8,8 @@ pub mod Paths
 pub mod Backwards
 pub mod Done
 pub mod Steps
+pub mod Visits
+pub mod Posts
 pub mod Worlds
 pub mod Runs
 pub mod Pairs
@@ -17,3 +19,4 @@ pub mod Worked
 pub mod WorkedRun
 pub mod WorkedFloors
 pub mod WorkedPruning
+pub mod WorkedWrong

@@ -1,27 +1,24 @@
 -- The worked ledgers are closed.
-use Rattle.std.proofs.Common.{◌≡◌, ℕ, ◌+◌, ◌<◌, ◌≤◌, zero, suc, false, ◌⊎◌, inl, inr, List, [], ◌∷◌, ◌++◌, slice_get, length, Option, Some, None, refl, sym, ap, subst, ◌∙◌, arith}
-use Rattle.std.specs.Prelude.{ℤ, pos, ◌≤ℤ◌, IfSome}
+use Rattle.std.proofs.Common.{◌≡◌, ℕ, ◌+◌, ◌<◌, ◌≤◌, zero, suc, false, ◌⊎◌, inl, inr, List, [], ◌∷◌, slice_get, length, Option, Some, None, refl, sym, ap, subst, ◌∙◌, arith}
+use Rattle.std.specs.Prelude.{pos, ◌≤ℤ◌}
 use Rattle.std.proofs.lemmas.Int.{ints}
 use Rattle.dp_model.specs.Costs.{InRange}
-use Rattle.dp_steps.specs.States.{Enabled, Considered, Step}
 use Rattle.dp_claims.specs.Enough.{Has, Different}
 use Rattle.dp_model.specs.declared.parts.PlainValue.TheVariants.{Number}
 use Rattle.dp_model.specs.declared.parts.PlainState.{PlainState}
 use Rattle.pass_ledger.specs.Letters.{of, InOrder, Posted, all_told_at}
-use Rattle.pass_ledger.specs.Passes.{Pass, word_of, CoversNode, IsStart, Prunes}
+use Rattle.pass_ledger.specs.Passes.{word_of, CoversNode, IsStart, Prunes}
 use Rattle.pass_ledger.specs.Rows.{row, Received, IsCovered, Apart, IsRow}
-use Rattle.pass_ledger.specs.Records.{step_id, visit_of, IsSuccessor, IsTotal, Accounted, IsPruned, Made, IsHeld, Starts, rec}
-use Rattle.pass_ledger.specs.Ledgers.{Ledger, Closed, Totals, IsBest, NoneBelow}
+use Rattle.pass_ledger.specs.Records.{visit_of, IsSuccessor, IsTotal, Accounted, IsPruned, Made, IsHeld, Starts, rec}
+use Rattle.pass_ledger.specs.Ledgers.{Ledger, Closed, Totals, IsBest}
 use Rattle.pass_ledger.specs.TwoWays.{at}
-use Rattle.pass_ledger.specs.Worked.{plain, alone, node, n0, n1, n2, letters, held, row_of, first_pass, second_pass, word_11, word_3, no_word, LawFirstPass, LawSecondPass, LawBestWay}
+use Rattle.pass_ledger.specs.Worked.{plain, alone, n0, n1, n2, letters, held, row_of, first_pass, second_pass, word_11, word_3, no_word, LawFirstPass, LawSecondPass, LawBestWay}
 use Rattle.pass_ledger.specs.declared.nodes.Node.{Node}
-use Rattle.pass_ledger.specs.declared.nodes.Letter.{Letter}
 use Rattle.pass_ledger.specs.declared.nodes.Letter.TheVariants.{State, Mark}
 use Rattle.pass_ledger.specs.declared.records.PrunedAt.{PrunedAt}
 use Rattle.pass_ledger.specs.declared.records.Visit.{Visit}
 use Rattle.pass_ledger.specs.declared.records.Held.{Held}
 use Rattle.pass_ledger.specs.declared.records.LedgerRow.{LedgerRow}
-use Rattle.pass_ledger.specs.declared.records.ShardRecord.{ShardRecord}
 use Rattle.dp_claims.proofs.Covering.{reflexive}
 use Rattle.pass_ledger.proofs.Lists.{has_none, has_head}
 use Rattle.pass_ledger.proofs.Steps.{empty_row}

@@ -1,15 +1,13 @@
 -- The worked ledgers with floors are closed, and their model is honest.
-use Rattle.std.proofs.Common.{◌≡◌, ℕ, ◌+◌, ◌<◌, ◌≤◌, zero, suc, true, false, ◌⊎◌, inl, inr, List, [], ◌∷◌, ◌++◌, slice_get, length, Option, Some, None, Result, Ok, refl, sym, ap, subst, ◌∙◌, arith}
-use Rattle.std.specs.Prelude.{ℤ, pos, ◌≤ℤ◌, ◌+ℤ◌, IfSome, IsTrue}
+use Rattle.std.proofs.Common.{◌≡◌, ℕ, ◌+◌, ◌<◌, ◌≤◌, zero, suc, true, false, ◌⊎◌, inl, inr, List, [], ◌∷◌, slice_get, length, Option, Some, None, Result, Ok, refl, sym, ap, subst, ◌∙◌, arith}
+use Rattle.std.specs.Prelude.{ℤ, pos, ◌≤ℤ◌, ◌+ℤ◌}
 use Rattle.std.proofs.lemmas.Int.{ints}
-use Rattle.dp_model.specs.Costs.{InRange, IsBetter, join, join_onto}
+use Rattle.dp_model.specs.Costs.{IsBetter, join, join_onto}
 use Rattle.dp_model.specs.Evaluation.{num_value}
-use Rattle.dp_steps.specs.Bounds.{values_of, IsTightest, IsFloor}
-use Rattle.dp_steps.specs.Lists.{Leads, Path, Completion, Prefix}
-use Rattle.dp_steps.specs.States.{Base, Inner, Step, Enabled}
-use Rattle.dp_claims.specs.Dominance.{Dominates}
+use Rattle.dp_steps.specs.Bounds.{IsTightest, IsFloor}
+use Rattle.dp_steps.specs.Lists.{Leads, Completion}
+use Rattle.dp_steps.specs.States.{Base, Inner, Step}
 use Rattle.dp_claims.specs.Enough.{Has, Different}
-use Rattle.dp_claims.specs.Honest.{Honest}
 use Rattle.dp_model.specs.declared.answers.FaultKind.{FaultKind}
 use Rattle.dp_model.specs.declared.trees.Num.{Num}
 use Rattle.dp_model.specs.declared.trees.Num as nums
@@ -19,21 +17,19 @@ use Rattle.dp_model.specs.declared.parts.PlainValue.TheVariants.{Number}
 use Rattle.dp_model.specs.declared.parts.PlainState.{PlainState}
 use Rattle.dp_claims.proofs.Plain.{same_values, same_state, not_better_self}
 use Rattle.pass_ledger.specs.Letters.{of, InOrder, Posted, HasWord, all_told_at}
-use Rattle.pass_ledger.specs.Passes.{Pass, word_of, CoversNode, IsStart, Prunes}
+use Rattle.pass_ledger.specs.Passes.{word_of, CoversNode, IsStart, Prunes}
 use Rattle.pass_ledger.specs.Rows.{row, Received, IsCovered, Apart, IsRow}
-use Rattle.pass_ledger.specs.Records.{step_id, visit_of, IsSuccessor, IsTotal, Accounted, IsPruned, Made, IsHeld, Starts, rec}
-use Rattle.pass_ledger.specs.Ledgers.{Ledger, Closed, Totals, IsBest, DropsNone, IsFloorOfDropped}
+use Rattle.pass_ledger.specs.Records.{visit_of, IsSuccessor, IsTotal, Accounted, IsPruned, Made, IsHeld, Starts, rec}
+use Rattle.pass_ledger.specs.Ledgers.{Ledger, Closed, Totals, IsBest, IsFloorOfDropped}
 use Rattle.pass_ledger.specs.TwoWays.{at, variables}
-use Rattle.pass_ledger.specs.Worked.{held, row_of, word_11, word_3, no_word}
-use Rattle.pass_ledger.specs.WorkedFloors.{one, one_typed, bounded, pruning, f0, f1, f2, two_letters, dropping, one_letter, pruned_one, LawHonest, LawDropping, LawPruning}
+use Rattle.pass_ledger.specs.Worked.{held, row_of, word_11, no_word}
+use Rattle.pass_ledger.specs.WorkedFloors.{one, one_typed, bounded, pruning, f0, f1, f2, two_letters, dropping, LawHonest, LawDropping}
 use Rattle.pass_ledger.specs.declared.nodes.Node.{Node}
-use Rattle.pass_ledger.specs.declared.nodes.Letter.{Letter}
 use Rattle.pass_ledger.specs.declared.nodes.Letter.TheVariants.{State, Mark}
 use Rattle.pass_ledger.specs.declared.records.PrunedAt.{PrunedAt}
 use Rattle.pass_ledger.specs.declared.records.Visit.{Visit}
 use Rattle.pass_ledger.specs.declared.records.Held.{Held}
 use Rattle.pass_ledger.specs.declared.records.LedgerRow.{LedgerRow}
-use Rattle.pass_ledger.specs.declared.records.ShardRecord.{ShardRecord}
 use Rattle.dp_claims.proofs.Covering.{reflexive}
 use Rattle.pass_ledger.proofs.Lists.{has_none, has_head}
 use Rattle.pass_ledger.proofs.Steps.{empty_row}
@@ -424,8 +420,6 @@ dropping_closed =
     arrived zero zero li lj = refl
     arrived (suc i) j li lj = absurd (one_shard i li)
     arrived zero (suc j) li lj = absurd (one_shard j lj)
-
-
 
 floor_of_dropped : IsFloorOfDropped pruning (dropping ∷ []) (pos 3)
 floor_of_dropped zero zero n li h = absurd (has_none n h)

@@ -1,6 +1,6 @@
 -- The worked ledger that prunes a successor is closed.
-use Rattle.std.proofs.Common.{◌≡◌, ℕ, ◌+◌, ◌<◌, ◌≤◌, zero, suc, true, ◌⊎◌, inl, inr, List, [], ◌∷◌, slice_get, length, Option, Some, None, refl, sym, ap, subst, ◌∙◌, arith}
-use Rattle.std.specs.Prelude.{ℤ, pos, ◌≤ℤ◌}
+use Rattle.std.proofs.Common.{◌≡◌, ℕ, ◌+◌, ◌<◌, ◌≤◌, zero, suc, ◌⊎◌, inl, inr, [], ◌∷◌, slice_get, length, Some, None, refl, sym, ap, subst, ◌∙◌, arith}
+use Rattle.std.specs.Prelude.{pos, ◌≤ℤ◌}
 use Rattle.std.proofs.lemmas.Int.{ints}
 use Rattle.dp_claims.specs.Enough.{Has, Different}
 use Rattle.pass_ledger.specs.Letters.{of, InOrder, Posted, all_told_at}
@@ -8,10 +8,9 @@ use Rattle.pass_ledger.specs.Passes.{word_of, Prunes}
 use Rattle.pass_ledger.specs.Rows.{row, Received, IsCovered, IsRow}
 use Rattle.pass_ledger.specs.Records.{visit_of, IsSuccessor, IsTotal, Accounted, IsPruned, Made, IsHeld, Starts, rec}
 use Rattle.pass_ledger.specs.Ledgers.{Ledger, Closed, Totals, IsBest, DropsNone}
-use Rattle.pass_ledger.specs.Worked.{held, row_of, word_11, word_3}
+use Rattle.pass_ledger.specs.Worked.{held, row_of, word_3}
 use Rattle.pass_ledger.specs.WorkedFloors.{one, one_typed, bounded, pruning, f0, f1, f2, one_letter, pruned_one, LawPruning}
 use Rattle.pass_ledger.specs.declared.nodes.Node.{Node}
-use Rattle.pass_ledger.specs.declared.nodes.Letter.{Letter}
 use Rattle.pass_ledger.specs.declared.nodes.Letter.TheVariants.{State, Mark}
 use Rattle.pass_ledger.specs.declared.records.PrunedAt.{PrunedAt}
 use Rattle.pass_ledger.specs.declared.records.Visit.{Visit}

@@ -1,30 +1,26 @@
 -- The worked run of two shards.
-use Rattle.std.proofs.Common.{◌≡◌, ℕ, ◌+◌, ◌<◌, ◌≤◌, zero, suc, false, ◌⊎◌, inl, inr, List, [], ◌∷◌, ◌++◌, slice_get, length, Option, Some, None, refl, sym, ap, subst, ◌∙◌, arith}
-use Rattle.std.specs.Prelude.{ℤ, pos, ◌≤ℤ◌, IfSome}
+use Rattle.std.proofs.Common.{◌≡◌, ℕ, ◌+◌, ◌<◌, zero, suc, false, inl, inr, List, [], ◌∷◌, Option, Some, None, refl, sym, ap, subst, ◌∙◌, arith}
+use Rattle.std.specs.Prelude.{pos}
 use Rattle.std.proofs.lemmas.Int.{ints}
 use Rattle.std.proofs.Math.Nat.{zero-lt-suc, lt-suc_self}
-use Rattle.dp_model.specs.Costs.{InRange}
-use Rattle.dp_claims.specs.Enough.{Has, Different}
+use Rattle.dp_claims.specs.Enough.{Has}
 use Rattle.pass_ledger.specs.Letters.{of, InOrder}
-use Rattle.pass_ledger.specs.Passes.{Pass, word_of, CoversNode, Prunes}
+use Rattle.pass_ledger.specs.Passes.{CoversNode, Prunes}
 use Rattle.pass_ledger.specs.Rows.{Received, IsCovered, IsRow}
 use Rattle.pass_ledger.specs.Records.{step_id, unsent, visit_of, IsSuccessor, IsTotal, Accounted, Done, rec}
-use Rattle.pass_ledger.specs.Events.{CanClose, CanVisit, CanPost}
-use Rattle.pass_ledger.specs.Worlds.{World, Event, Runs, Allowed, after}
+use Rattle.pass_ledger.specs.Events.{CanClose, CanVisit}
+use Rattle.pass_ledger.specs.Worlds.{World, Event, Runs, after}
 use Rattle.pass_ledger.specs.TwoWays.{at}
-use Rattle.pass_ledger.specs.Worked.{plain, n0, n1, n2, row_of, word_11, word_3}
+use Rattle.pass_ledger.specs.Worked.{plain, n0, n1, n2, row_of, word_11}
 use Rattle.pass_ledger.specs.WorkedRun.{both, held_by, layer_0, layer_1, layer_2, world_0, world_1, world_2, world_3, LawTwoShards}
 use Rattle.pass_ledger.specs.declared.nodes.Node.{Node}
 use Rattle.pass_ledger.specs.declared.nodes.Letter.{Letter}
 use Rattle.pass_ledger.specs.declared.nodes.Letter.TheVariants.{State, Mark}
 use Rattle.pass_ledger.specs.declared.records.Unsent.{Unsent}
-use Rattle.pass_ledger.specs.declared.records.PrunedAt.{PrunedAt}
 use Rattle.pass_ledger.specs.declared.records.Held.{Held}
-use Rattle.pass_ledger.specs.declared.records.FaultHere.{FaultHere}
 use Rattle.pass_ledger.specs.declared.records.LedgerRow.{LedgerRow}
-use Rattle.pass_ledger.specs.declared.records.ShardRecord.{ShardRecord}
 use Rattle.dp_claims.proofs.Covering.{reflexive}
-use Rattle.pass_ledger.proofs.Lists.{has_none, has_head}
+use Rattle.pass_ledger.proofs.Lists.{has_none}
 use Rattle.pass_ledger.proofs.TwoWays.{inner_at, base_at, p_step, q_step, e_step, d_step, from_0, from_1, from_2}
 use Rattle.pass_ledger.proofs.Worked.{has_one, has_two, some_is, none_is, state_parts, not_both, in_range, small, n1_in_order, n2_in_order}
 

@@ -11,3 +11,4 @@ pub mod TwoWays
 pub mod Worked
 pub mod WorkedRun
 pub mod WorkedFloors
+pub mod WorkedWrong

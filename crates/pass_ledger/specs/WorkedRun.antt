@@ -1,10 +1,9 @@
 -- A run of two shards over the worked model: shard 1 owns the state 1, and shard 0 all others. Each shard visits a node of
 -- layer 1, and both end done, with the best way of cost 3.
-use Rattle.std.specs.Prelude.{◌≡◌, ℕ, ◌<◌, Bool, true, false, if◌then◌else◌, List, [], ◌∷◌, Option, Some, None, ℤ, pos}
+use Rattle.std.specs.Prelude.{◌≡◌, ℕ, ◌<◌, Bool, true, false, if◌then◌else◌, List, [], ◌∷◌, Some, None, ℤ, pos}
 use Rattle.std.specs.Ordering.{int_eq}
 use Rattle.std.proofs.Math.Nat.{zero-lt-suc, lt-suc_self}
 use Rattle.dp_model.specs.Evaluation.{number_in}
-use Rattle.dp_model.specs.declared.parts.PlainState.{PlainState}
 use Rattle.pass_ledger.specs.Passes.{Pass}
 use Rattle.pass_ledger.specs.Records.{step_id, unsent}
 use Rattle.pass_ledger.specs.Ledgers.{AllDone}
