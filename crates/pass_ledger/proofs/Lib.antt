@@ -8,9 +8,15 @@ pub mod Paths
 pub mod Backwards
 pub mod Done
 pub mod Steps
+pub mod Visits
+pub mod Posts
 pub mod Worlds
 pub mod Runs
 pub mod Pairs
 pub mod Groups
 pub mod TwoWays
 pub mod Worked
+pub mod WorkedRun
+pub mod WorkedFloors
+pub mod WorkedPruning
+pub mod WorkedWrong

@@ -24,7 +24,9 @@ use Rattle.pass_ledger.specs.declared.records.ShardRecord.{ShardRecord}
 use Rattle.pass_ledger.proofs.Costs.{least_trans, self}
 use Rattle.pass_ledger.proofs.Lists.{has_none, has_cases, has_head, has_left}
 use Rattle.pass_ledger.proofs.Appends.{append_same, append_other, append_cases}
-use Rattle.pass_ledger.proofs.Steps.{own_take, own_close, own_prune, own_visit, own_post}
+use Rattle.pass_ledger.proofs.Steps.{own_take, own_close, own_prune}
+use Rattle.pass_ledger.proofs.Visits.{own_visit}
+use Rattle.pass_ledger.proofs.Posts.{own_post}
 
 abbrev pub from_is : ℕ → Letter → Bool
 from_is j x = nat_eq (sender x) j

@@ -9,3 +9,6 @@ pub mod Groups
 pub mod Worlds
 pub mod TwoWays
 pub mod Worked
+pub mod WorkedRun
+pub mod WorkedFloors
+pub mod WorkedWrong

@@ -1,6 +1,6 @@
 -- A worked model: one integer variable `a`, which begins at 0 and ends at 3, and two ways from 0 to 3. `p` leads from 0 to 1
 -- at weight 1, `q` from 0 to 2 at weight 2, `e` from 1 to 3 at weight 10, and `d` from 2 to 3 at weight 1.
-use Rattle.std.specs.Prelude.{◌≡◌, ℕ, ◌&&◌, true, false, IsTrue, List, [], ◌∷◌, Some, None, ℤ, pos, codes}
+use Rattle.std.specs.Prelude.{◌≡◌, ℕ, ◌&&◌, true, false, IsTrue, List, [], ◌∷◌, Some, pos, codes}
 use Rattle.std.specs.List.{list_all}
 use Rattle.std.proofs.Common.{refl, ap, ◌∙◌}
 use Rattle.std.proofs.lemmas.Bool.{and_from}
