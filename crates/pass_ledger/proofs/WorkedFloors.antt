@@ -121,18 +121,16 @@ costs_one s (g ∷ w) value is open_here done =
 
 -- ---- the model is honest
 
-bound_is : (s : PlainState) (i : ℕ) (e : Num) (bound : ℤ) → slice_get one i ≡ Some e → num_value bounded s e [] ≡ Ok bound → pos 1 ≡ bound
-bound_is s zero e bound at_i value = ok_same (pos 1) bound (sym (value_fixed bounded s [] (pos 1)) ∙ ap (λ (x : Num). num_value bounded s x []) (some_is (nums.Fixed (pos 1)) e at_i) ∙ value)
-  where
-    ok_same : (x y : ℤ) → ◌≡◌ {A = Result ℤ FaultKind} (Ok x) (Ok y) → x ≡ y
-    ok_same x y e = cc
-bound_is s (suc i) e bound at_i value = absurd (none_is e at_i)
+ok_same : (x y : ℤ) → ◌≡◌ {A = Result ℤ FaultKind} (Ok x) (Ok y) → x ≡ y
+ok_same x y e = cc
 
-not_better : (value bound : ℤ) → pos 1 ≡ bound → pos 1 ≤ℤ value → IsBetter true value bound → ⊥
-not_better value bound e h k = absurd (less value (subst (λ (b : ℤ). IsBetter true value b) (sym e) k) h)
-  where
-    less : (v : ℤ) → IsBetter true v (pos 1) → pos 1 ≤ℤ v → ⊥
-    less v a b = absurd (omega (arith, ints))
+bound_is : (s : PlainState) (i : ℕ) (e : Num) (bound : ℤ) → slice_get one i ≡ Some e → num_value bounded s e [] ≡ Ok bound → bound ≤ℤ pos 1
+bound_is s zero e bound at_i value = subst (λ (b : ℤ). b ≤ℤ pos 1) (ok_same (pos 1) bound (sym (value_fixed bounded s [] (pos 1)) ∙ ap (λ (x : Num). num_value bounded s x []) (some_is (nums.Fixed (pos 1)) e at_i) ∙ value)) (omega (arith, ints))
+bound_is s (suc zero) e bound at_i value = subst (λ (b : ℤ). b ≤ℤ pos 1) (ok_same (pos 0) bound (sym (value_fixed bounded s [] (pos 0)) ∙ ap (λ (x : Num). num_value bounded s x []) (some_is (nums.Fixed (pos 0)) e at_i) ∙ value)) (omega (arith, ints))
+bound_is s (suc (suc i)) e bound at_i value = absurd (none_is e at_i)
+
+not_better : (value bound : ℤ) → bound ≤ℤ pos 1 → pos 1 ≤ℤ value → IsBetter true value bound → ⊥
+not_better value bound e h k = absurd (omega (arith, ints))
 
 all_without : (i : ℕ) (v : Variable) → slice_get variables i ≡ Some v → v.preference ≡ Without
 all_without zero v e = ap (λ (x : Variable). x.preference) (sym (some_is _ v e))
@@ -189,7 +187,7 @@ got_1 n h = (0, pruning.owned (at 0), h)
 -- ---- floors, nodes and steps
 
 tightest : (s : PlainState) → IsTightest bounded s (pos 1)
-tightest s = (pos 1, [], rw (value_fixed bounded s [] (pos 1)) refl, refl)
+tightest s = (pos 1, pos 0 ∷ [], rw (value_fixed bounded s [] (pos 1), value_fixed bounded s [] (pos 0)) refl, refl)
 
 floor_0 : IsFloor bounded true (at 0) None (Some (pos 1))
 floor_0 = (refl, (pos 1, tightest (at 0), refl))

@@ -1,4 +1,4 @@
--- The worked model with a dual bound of 1, which every way keeps, and two ledgers with pruning on. The first keeps one node of
+-- The worked model with the dual bounds 1 and 0, which every way keeps, and two ledgers with pruning on. The tightest is 1. The first keeps one node of
 -- layer 1 and drops one whose floor is 3: so no way costs less than both 11 and 3. The second knows a way of cost 3 and prunes
 -- the successor whose floor is 3: nothing is dropped, and so no way costs less than 3.
 use Rattle.std.specs.Prelude.{◌≡◌, ℕ, true, List, [], ◌∷◌, Option, Some, None, ℤ, pos}
@@ -21,10 +21,10 @@ use Rattle.pass_ledger.specs.declared.nodes.Letter.TheVariants.{State, Mark}
 use Rattle.pass_ledger.specs.declared.records.ShardRecord.{ShardRecord}
 
 abbrev pub one : List Num
-one = nums.Fixed (pos 1) ∷ []
+one = nums.Fixed (pos 1) ∷ nums.Fixed (pos 0) ∷ []
 
 pub one_typed : AreBounds one
-one_typed = and_from _ _ (typed_fixed 1 refl) refl
+one_typed = and_from _ _ (typed_fixed 1 refl) (and_from _ _ (typed_fixed 0 refl) refl)
 
 abbrev pub bounded : Model
 bounded = two_ways one one_typed refl
