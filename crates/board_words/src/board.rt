@@ -38,6 +38,7 @@ impl Model for Board {
 }
 
 /// What the words are: the best word, the number of visits drawn, and the number of the halt's cause, 0 for none.
+#[derive(Clone, Copy, Debug, PartialEq, Eq)]
 pub struct Totals {
     pub best: u64,
     pub drawn: u64,

@@ -3,7 +3,7 @@ ghost use Rattle.std.specs.Prelude.{◌≡◌};
 ghost use Rattle.board_words.specs.Causes.{halt_number};
 
 /// Why a search halts. On the board a cause stands as its number, the greater the more urgent, and 0 stands for none.
-#[derive(Clone, Copy)]
+#[derive(Clone, Copy, Debug, PartialEq, Eq)]
 pub enum HaltCause {
     /// The budget of visits is spent: 1.
     Budget,
