@@ -3,5 +3,10 @@
 
 #[cfg(test)]
 mod boards;
+mod letters;
+#[cfg(test)]
+mod mails;
 #[cfg(test)]
 mod numbers;
+
+pub use letters::Letter;
