@@ -28,6 +28,7 @@ fn of_text(alloc: Global, text: &str) -> Result<String, AllocError>
 }
 
 /// An offset and `:word`, `(item item)` or `|form|`.
+#[cycle(forms)]
 fn shown(alloc: Global, expression: &Expr, levels: u32) -> Result<String, AllocError> {
     if levels == 0 {
         return format!(in alloc; "too deep");
@@ -47,6 +48,7 @@ fn word(alloc: Global, at: u32, text: &Text) -> Result<String, AllocError> {
     format!(in alloc; "{at}:{text}")
 }
 
+#[cycle(forms)]
 fn list(alloc: Global, at: u32, items: &[Expr], levels: u32) -> Result<String, AllocError> {
     let mut out = format!(in alloc; "{at}(")?;
     for (index, item) in items.iter().enumerate() {

@@ -20,6 +20,7 @@ pub(crate) fn answer(alloc: Global, bytes: &[u8]) -> Result<String, AllocError>
 }
 
 /// A place and `<text>`, `[item item]` or `{key=value key=value}`.
+#[cycle(nodes)]
 fn shown(alloc: Global, tree: &Tree, levels: u32) -> Result<String, AllocError> {
     if levels == 0 {
         return format!(in alloc; "too deep");
@@ -39,6 +40,7 @@ fn scalar(alloc: Global, text: &Text) -> Result<String, AllocError> {
     format!(in alloc; "<{text}>")
 }
 
+#[cycle(nodes)]
 fn list(alloc: Global, items: &[Tree], levels: u32) -> Result<String, AllocError> {
     let mut out = String::from_str(alloc, "[")?;
     for (index, item) in items.iter().enumerate() {
@@ -50,6 +52,7 @@ fn list(alloc: Global, items: &[Tree], levels: u32) -> Result<String, AllocError
     Ok(out)
 }
 
+#[cycle(nodes)]
 fn map(alloc: Global, pairs: &[Pair], levels: u32) -> Result<String, AllocError> {
     let mut out = String::from_str(alloc, "{")?;
     for (index, pair) in pairs.iter().enumerate() {
