@@ -9,7 +9,7 @@ import json
 import sys
 
 from case_lines import block, entry
-from small_runs import RUNS
+from small_runs import FIRST_FORM, RUNS
 
 CRATE = "crates/cases_runs"
 TABLES = [("one_variable", "first_form_one_variable"), ("first_form", "first_form")]
@@ -26,6 +26,7 @@ def of_vectors(folder, name):
 
 
 def text_entry(key, text):
+    """A text in lines of its own, or in one line where it does not end with a line feed."""
     return block(key, text) if text.endswith("\n") else entry(key, text)
 
 
@@ -46,6 +47,7 @@ def write(name, cases):
 def main(folder):
     out = [write(name, of_vectors(folder, vectors)) for name, vectors in TABLES]
     out.append(write("small", RUNS))
+    out.append(write("limits", FIRST_FORM))
     with open(f"{CRATE}/stdout", "w", encoding="utf-8") as file:
         file.writelines(out)
 

@@ -187,3 +187,146 @@ RUNS = [
     ("no way", [("domain", STUCK), ("problem", problem("a", "x", 0))], [(OFF, STUCK_OUT, 10)]),
     ("two ways", [("domain", TWO_WAYS), ("problem", problem("b", "a", 0))], [(OFF, TWO_WAYS_OUT, 0)]),
 ]
+
+
+# ---- what is read, and what is refused, while only the first form of a model is read
+
+CLIMB_FROM_0 = problem("a", "x", 0)
+
+THREE = """\
+domain: b
+state_variables:
+  - name: x
+    type: integer
+  - name: y_2
+    type: integer
+  - name: z
+    type: integer
+transitions:
+  - name: go
+    preconditions:
+      - (< x 3)
+      - (= z -4)
+    effects:
+      z: (+ y_2 1)
+      x: 7
+    cost: (+ cost 2)
+base_cases:
+  - - (= z 3)
+    - (< y_2 9)
+"""
+
+THREE_FROM = """\
+domain: b
+problem: three
+target:
+  x: 0
+  y_2: -5
+  z: 12
+"""
+
+IN_DOMAIN = "refused domain:1:1 90 NotYet\n"
+IN_PROBLEM = "refused problem:1:1 90 NotYet\n"
+ALONE_OUT = "solution 5 1\njump\npass 1 share 1 visited 1 dropped 0\nverdict optimal 5\n"
+
+CLIMB_REFUSED = [
+    ("(= x 3)\n", "(= x 3)"),
+    ("(= x 3)\n", "(= x 3)\n\n"),
+    ("    type: integer\n", "    type: integer\n  - name: x\n    type: integer\n"),
+    ("(< x 3)", "(< x 1234567)"),
+    ("(< x 3)", "(< x +5)"),
+    ("(< x 3)", "(< x -)"),
+    ("(< x 3)", "(> x 3)"),
+    ("(< x 3)", "(< y 3)"),
+    ("(< x 3)", "(<\tx 3)"),
+    ("      x: 3", "      y: 3"),
+    ("      x: 3", "      x: (+ y 3)"),
+    ("      x: 3", "      x: 3\n      x: 4"),
+    ("name: inc", "name: jump"),
+    ("name: inc", "name: cost"),
+    ("name: inc", "name: a23456789012345678901"),
+    ("name: inc", "name: Inc"),
+    ("name: inc", "name: 1nc"),
+    ("domain: a", "domain: "),
+    ("  - - (= x 3)\n", ""),
+    ("      - (= x 0)\n", ""),
+    ("      x: 3\n", ""),
+    ("base_cases:", "base_cases: "),
+]
+
+CLIMB_READ = [
+    ("(< x 3)", "(< x -0)", ALONE_OUT),
+    ("(< x 3)", "(< x 007)", JUMP_OUT),
+    ("(< x 3)", "(< x -999999)", ALONE_OUT),
+    ("name: inc", "name: a2345678901234567890", JUMP_OUT),
+    ("name: inc", "name: costs_1", JUMP_OUT),
+    ("(= x 3)\n", "(= x 3)\n    - (< x 9)\n", JUMP_OUT),
+]
+
+FROM_0_REFUSED = [
+    ("x: 0\n", "x: 0"),
+    ("x: 0\n", "x: 0\n  x: 0\n"),
+    ("  x: 0\n", ""),
+    ("x: 0", "y: 0"),
+    ("x: 0", "x: 00000000"),
+    ("problem: one", "problem: max"),
+    ("problem: one", "problem:\tone"),
+]
+
+THREE_REFUSED = [
+    ("transitions:", "  - name: y_2\n    type: integer\ntransitions:"),
+    ("      x: 7\n", "      x: 7\n      z: 1\n"),
+    ("      x: 7\n", "      x: 7\n      x: 7\n"),
+    ("(+ y_2 1)", "(+ y 1)"),
+    ("(< y_2 9)", "(< y_23 9)"),
+    ("  - name: y_2\n", "  - name: y_2\n\n"),
+]
+
+THREE_FROM_REFUSED = [
+    ("  x: 0\n  y_2: -5\n", "  y_2: -5\n  x: 0\n"),
+    ("  y_2: -5\n  z: 12\n", "  z: 12\n  y_2: -5\n"),
+    ("  x: 0\n", ""),
+    ("  y_2: -5\n", ""),
+    ("  z: 12\n", ""),
+    ("  y_2: -5\n", "  x: -5\n"),
+    ("  z: 12\n", "  z: 12\n  z: 12\n"),
+]
+
+
+def changed(key, text, old, new, stdout, status):
+    """A case of a text with one part changed, and with the run's answer."""
+    title = f"{key}: {old!r} becomes {new!r}".replace("\\t", " (tab)").replace("\\n", " / ")
+    return (title, [(key, text.replace(old, new))], [(OFF, stdout, status)])
+
+
+def many(count):
+    """A model of so many variables, and its problem."""
+    names = [f"v{i}" for i in range(count)]
+    domain = "domain: c\nstate_variables:\n" + "".join(f"  - name: {name}\n    type: integer\n" for name in names)
+    domain += "transitions:\n  - name: go\n    preconditions:\n      - (< v0 3)\n    effects:\n      v0: 3\n    cost: (+ cost 1)\n"
+    domain += "base_cases:\n  - - (= v0 3)\n"
+    target = "".join(f"  {name}: {i}\n" for i, name in enumerate(names))
+    return [("domain", domain), ("problem", "domain: c\nproblem: many\ntarget:\n" + target)]
+
+
+GO_OUT = "solution 1 1\ngo\npass 1 share 1 visited 1 dropped 0\nverdict optimal 1\n"
+
+FIRST_FORM = [
+    ("the climb", [("problem", CLIMB_FROM_0), ("domain", CLIMB)], [(OFF, JUMP_OUT, 0)]),
+    *(changed("domain", CLIMB, *parts, IN_DOMAIN, 3) for parts in CLIMB_REFUSED),
+    *(changed("domain", CLIMB, old, new, stdout, 0) for old, new, stdout in CLIMB_READ),
+    ("the climb again", [("domain", CLIMB)], []),
+    *(changed("problem", CLIMB_FROM_0, *parts, IN_PROBLEM, 3) for parts in FROM_0_REFUSED),
+    (
+        "three variables",
+        [("domain", THREE), ("problem", THREE_FROM)],
+        [(OFF, "pass 1 share 1 visited 1 dropped 0\nverdict infeasible\n", 10)],
+    ),
+    *(changed("domain", THREE, *parts, IN_DOMAIN, 3) for parts in THREE_REFUSED),
+    ("three variables again", [("domain", THREE)], []),
+    *(changed("problem", THREE_FROM, *parts, IN_PROBLEM, 3) for parts in THREE_FROM_REFUSED),
+    ("1 variable", many(1), [(OFF, GO_OUT, 0)]),
+    ("1,024 variables", many(1024), [(OFF, GO_OUT, 0)]),
+    ("1,025 variables", many(1025), [(OFF, IN_DOMAIN, 3)]),
+    ("no variables", many(0), [(OFF, IN_DOMAIN, 3)]),
+]

@@ -1,3 +1,5 @@
+ghost use Rattle.std.specs.Prelude.{◌<◌};
+
 use std::alloc::{AllocError, Global};
 
 /// What the bytes before this one began.
@@ -48,7 +50,9 @@ fn step(begun: Begun, byte: u8) -> (Option<u8>, Begun) {
 }
 
 /// The value of a digit to the base 16.
-fn digit(byte: u8) -> u8 {
+fn digit(byte: u8) -> u8
+    ensures { result < 16 }
+{
     match byte {
         b'0'..=b'9' => byte - b'0',
         b'a'..=b'f' => byte - b'a' + 10,

@@ -12,7 +12,12 @@ use std::thread::Threads;
 use std::{fs, io};
 
 /// The files of cases, in the order in which they are run.
-const FILES: [&str; 3] = ["one_variable.txt", "first_form.txt", "small.txt"];
+const FILES: [&str; 4] = [
+    "one_variable.txt",
+    "first_form.txt",
+    "small.txt",
+    "limits.txt",
+];
 
 /// The texts that the runs read, under the names `d`, `p` and `l`.
 #[derive(Drop)]

@@ -1,7 +1,8 @@
 -- What the sample model keeps.
-use Rattle.std.proofs.Common.{◌≡◌, ℕ, ◌*◌, ◌≤◌, ◌&&◌, true, List, [], ◌∷◌, ◌++◌, map, length, refl, ap, ◌∙◌, ℤ, pos, neg_ℤ, arith}
+use Rattle.std.proofs.Common.{◌≡◌, ℕ, ◌+◌, ◌*◌, ◌≤◌, ◌&&◌, true, List, [], ◌∷◌, ◌++◌, map, length, refl, ap, ◌∙◌, ℤ, pos, neg_ℤ, arith}
 use Rattle.std.specs.Prelude.{IsTrue, IfOk, Result, Ok, Err, nat_le}
 use Rattle.std.specs.List.{list_all}
+use Rattle.std.proofs.lemmas.List.Sums.{sum_by-cons}
 use Rattle.std.proofs.lemmas.Bool.{and_from, and_parts, leb-true, le-leb}
 use Rattle.dp_model.specs.Costs.{greatest}
 use Rattle.dp_model.specs.Typing.{is_set_below, are_variables, is_table, are_tables, is_state}
@@ -33,8 +34,11 @@ state_held =
     (and_from _ _ (multiples_below 1 63)
     (and_from _ _ (multiples_below 1 64) (and_from _ _ (multiples_below 1 1024) (and_from _ _ (multiples_below 2 1024) (and_from _ _ none_below refl))))))))
 
+set_is_table : (members : List ℕ) → is_set_below 1024 members ≡ true → IsTrue (is_sample_table (table_of [] (cells.Sets 6 (members ∷ []))))
+set_is_table members h = rw h refl
+
 pub large_table : IsTrue (is_sample_table (table_of [] (cells.Sets 6 (multiples 3 1024 ∷ []))))
-large_table = and_from _ _ (and_from _ _ (multiples_below 3 1024) refl) refl
+large_table = set_is_table (multiples 3 1024) (multiples_below 3 1024)
 
 -- ---- of equal parts
 
@@ -60,6 +64,9 @@ tables_fit (t ∷ ts) e =
     let q = and_parts (is_table objects t) (is_small_table t && nat_le (cell_words objects t.cells) 1024) p.0 in
     and_from _ _ q.0 (tables_fit ts p.1)
 
+pub cells_fit : (os : List ObjectType) (ts us : List TableData) → os ≡ objects → ts ≡ us → IsTrue (list_all is_sample_table us) → IsTrue (are_tables os ts)
+cells_fit os ts us o t h = cells_kept os ts us o t (tables_fit us h)
+
 pub tables_small : (ts : List TableData) → IsTrue (list_all is_sample_table ts) → IsTrue (list_all is_small_table ts)
 tables_small [] e = refl
 tables_small (t ∷ ts) e =
@@ -74,7 +81,8 @@ tables_words (t ∷ ts) e =
     let p = and_parts (is_sample_table t) (list_all is_sample_table ts) e in
     let q = and_parts (is_table objects t) (is_small_table t && nat_le (cell_words objects t.cells) 1024) p.0 in
     let r = and_parts (is_small_table t) (nat_le (cell_words objects t.cells) 1024) q.1 in
-    omega (arith, leb-true _ _ r.1, tables_words ts p.1)
+    let e : table_words objects (t ∷ ts) ≡ cell_words objects t.cells + table_words objects ts = sum_by-cons (λ (t : TableData). cell_words objects t.cells) t ts in
+    omega (arith, e, leb-true _ _ r.1, tables_words ts p.1)
 
 few_names : (ts : List TableData) → IsTrue (list_all is_sample_table ts) → length ts ≤ 1024 → IsTrue (are_few_names objects variables ts)
 few_names ts e few = and_from _ _ (le-leb _ _ few) (and_from _ _ (tables_small ts e) (le-leb _ _ (omega (arith, tables_words ts e, few))))
