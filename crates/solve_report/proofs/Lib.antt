@@ -1,2 +1,2 @@
-mod Written
-mod Spelled
+pub mod Written
+pub mod Spelled

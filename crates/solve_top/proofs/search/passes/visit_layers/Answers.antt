@@ -3,7 +3,7 @@ use Rattle.std.proofs.lemmas.Bool.{cases_lt}
 use Rattle.solve_top.specs.Search.{IsNode, IsVisited, IsComplete}
 use Rattle.solve_top.specs.declared.search.nodes.Node.{Node}
 use Rattle.solve_top.proofs.Exhausting.{next_complete, exhausted}
-use Rattle.solve_top.proofs.search.passes.run_pass.Goals as goal
+use Rattle.solve_top.proofs.search.passes.visit_layers.Goals as goal
 
 nothing : {X : Type 0} → (xs : List X) → length xs ≡ 0 → xs ≡ []
 nothing [] h = refl
@@ -18,16 +18,16 @@ layers-preserved c =
     let m = c.args.model.now in
     let i = c.layers.invariant in
     let k = c.in_ok-tally.ensures in
-    let e = c.in_ok-next.ensures in
-    let next = c.in-Some.next in
+    let e = c.in_ok-layer-2.ensures in
+    let next = c.in_ok-layer-2.layer in
     let layer = c.deref.result.now in
     let some : 0 < vec_len c.keep_best.new.layer = k.some_kept (search rules) in
     let long : length layer ≡ vec_len c.keep_best.new.layer = c.deref.ensures.len in
-    let visited : c.visit_layer.new.tally.visited ≡ c.layers.tally.visited + length layer = rw c.in-Some.is at e.visited in
-    let few : vec_len next ≤ 65536 * length layer = rw c.in-Some.is at e.few in
+    let visited : c.visit_layer.new.tally.visited ≡ c.layers.tally.visited + length layer = e.visited in
+    let few : vec_len next ≤ 65536 * length layer = e.few in
     let dropped : c.visit_layer.new.tally.dropped ≡ c.layers.tally.dropped + c.in_ok-tally.field-0 = e.dropped in
     record {
-      nodes = rw c.in-Some.is at e.nodes;
+      nodes = e.nodes;
       budget = e.budget;
       deep = omega (arith, visited, long, some, i.deep);
       begun = λ h. absurd (omega (arith, visited, long, some, h));
@@ -43,11 +43,11 @@ layers-preserved c =
           let kept : IsComplete m c.layers.depth layer c.layers.tally.best =
           subst (λ xs. IsComplete m c.layers.depth xs c.layers.tally.best) (sym c.deref.ensures.value)
           (record { reaches = λ steps s cost long path inner. all s cost (old.reaches steps s cost long path inner); beats = old.beats }) in
-          let visits : All (λ (n : Node). IsVisited m n next.items c.visit_layer.new.tally.best) layer = rw c.in-Some.is at e.expanded in
+          let visits : All (λ (n : Node). IsVisited m n next.items c.visit_layer.new.tally.best) layer = e.expanded in
           next_complete m c.requires.plain.join c.layers.depth layer next.items c.layers.tally.best c.visit_layer.new.tally.best kept visits e.no_worse;
     }
 
 pub returns-clause-exhaustive : goal.returns-clause-exhaustive
-returns-clause-exhaustive c = λ _ none.
+returns-clause-exhaustive c = λ none.
     let empty : length c.layers.layer.items ≡ 0 = search rules in
     exhausted c.args.model.now c.requires.plain.join c.layers.depth c.layers.layer.items c.layers.tally.best (nothing c.layers.layer.items empty) (c.layers.invariant.complete none)

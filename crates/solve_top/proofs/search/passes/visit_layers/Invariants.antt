@@ -1,6 +1,6 @@
 use Rattle.std.proofs.Common.{◌≡◌, ◌+◌, ◌*◌, ◌-◌, ◌<◌, ◌≤◌, ◌^◌, All, vec_len}
 use Rattle.solve_top.specs.Search.{IsNode, IsSolved, IsComplete}
-use Rattle.solve_top.proofs.search.passes.run_pass.Given as goal
+use Rattle.solve_top.proofs.search.passes.visit_layers.Given as goal
 
 -- the layer is of this depth, and has lost nothing if nothing was dropped
 abbrev pub invariant-layers : goal.invariant-layers
