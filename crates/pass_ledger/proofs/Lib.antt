@@ -1,0 +1,16 @@
+pub mod Lists
+pub mod Costs
+pub mod Letters
+pub mod Appends
+pub mod Trust
+pub mod Moves
+pub mod Paths
+pub mod Backwards
+pub mod Done
+pub mod Steps
+pub mod Worlds
+pub mod Runs
+pub mod Pairs
+pub mod Groups
+pub mod TwoWays
+pub mod Worked

@@ -1,0 +1,11 @@
+pub mod Letters
+pub mod Passes
+pub mod Rows
+pub mod Records
+pub mod Events
+pub mod Ledgers
+pub mod Counts
+pub mod Groups
+pub mod Worlds
+pub mod TwoWays
+pub mod Worked

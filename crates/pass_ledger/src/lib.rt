@@ -1,0 +1,11 @@
+//! Ledgers of passes: what each shard of a pass received, kept, dropped, pruned, visited and posted, when such a ledger is
+//! closed, and the laws that follow, whatever the order in which the shards took turns.
+#![tactic(auto)]
+
+mod laws;
+mod nodes;
+mod records;
+
+pub use laws::{law_closed, law_enough, law_letters, law_world};
+pub use nodes::{Letter, Node, StepId};
+pub use records::{FaultHere, Held, LedgerRow, PrunedAt, ShardRecord, Unsent, Visit};
