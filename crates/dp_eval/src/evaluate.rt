@@ -237,6 +237,13 @@ pub fn eval_cond(
                 eval_cond(alloc, model, b.get(), args, s)
             }
         }
+        Cond::If(c, a, b) => {
+            if eval_cond(alloc, model, c.get(), args, s)? {
+                eval_cond(alloc, model, a.get(), args, s)
+            } else {
+                eval_cond(alloc, model, b.get(), args, s)
+            }
+        }
         Cond::All(over, c) => {
             let members = range_of(alloc, model, s, *over)?;
             eval_all(alloc, model, c.get(), args, s, members.list())

@@ -11,10 +11,3 @@ mod tables;
 
 pub use ends::EvalEnd;
 pub use evaluate::{eval_cond, eval_num, eval_set};
-
-#[cfg(test)]
-mod tested;
-#[cfg(test)]
-mod tests;
-#[cfg(test)]
-mod worked;

@@ -1,0 +1,12 @@
+//! How a search keeps states and nodes: the layout of a model's states, packed states, and nodes.
+#![tactic(auto)]
+
+mod copies;
+mod layout;
+mod node;
+mod packed;
+mod sames;
+
+pub use layout::{Layout, Slot};
+pub use node::Node;
+pub use packed::Packed;
