@@ -1,9 +1,9 @@
 -- Six visits are enough for the worked model, and five are not.
-use Rattle.std.proofs.Common.{◌≡◌, ℕ, ◌+◌, ◌*◌, ◌^◌, ◌<◌, ◌≤◌, zero, suc, ◌⊎◌, inl, inr, List, [], ◌∷◌, ◌++◌, slice_get, length, Option, Some, None, refl, sym, ap, subst, ◌∙◌, arith, length-append}
-use Rattle.std.specs.Prelude.{ℤ, pos, IfSome}
+use Rattle.std.proofs.Common.{◌≡◌, ℕ, ◌+◌, ◌*◌, ◌^◌, ◌≤◌, zero, suc, ◌⊎◌, inl, inr, List, [], ◌∷◌, ◌++◌, slice_get, length, Option, Some, None, refl, sym, ap, subst, ◌∙◌, arith, length-append}
+use Rattle.std.specs.Prelude.{ℤ, pos}
 use Rattle.std.proofs.Math.Nat.{mul-le-mul_left, mul-le-mul_right}
-use Rattle.dp_model.specs.Costs.{InRange, join}
-use Rattle.dp_steps.specs.Lists.{Leads, Prefix}
+use Rattle.dp_model.specs.Costs.{join}
+use Rattle.dp_steps.specs.Lists.{Leads}
 use Rattle.dp_steps.specs.States.{Inner, Step}
 use Rattle.dp_claims.specs.Enough.{Has, Different, IsPair, ArePairs, AreOf, AreReachedAtMost, IsWidthAtMost, IsEnough, IsBelowEnough}
 use Rattle.dp_model.specs.declared.parts.PlainState.{PlainState}
@@ -13,7 +13,7 @@ use Rattle.pass_ledger.specs.WorkedEnough.{three_pairs, LawWorkedEnough}
 use Rattle.pass_ledger.proofs.Lists.{has_none, has_head, has_rest}
 use Rattle.pass_ledger.proofs.Moves.{inner_not_base, step_same, step_enabled}
 use Rattle.pass_ledger.proofs.TwoWays.{inner_at, base_at, p_step, q_step, e_step, d_step, from_0, from_1, from_2}
-use Rattle.pass_ledger.proofs.Worked.{has_one, has_two, some_is, none_is, at_apart, in_range, small}
+use Rattle.pass_ledger.proofs.Worked.{has_one, has_two, at_apart, in_range, small}
 
 -- ---- a list of different elements of another is no longer
 
