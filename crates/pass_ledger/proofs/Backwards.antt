@@ -15,9 +15,9 @@ use Rattle.pass_ledger.specs.Passes.{Pass, word_of, StartsInner, CoversNode}
 use Rattle.pass_ledger.specs.Rows.{row, Received, IsCovered}
 use Rattle.pass_ledger.specs.Records.{IsTotal, Reaches, LeadsOut, IsPruned, visit_of, Starts, rec}
 use Rattle.pass_ledger.specs.Ledgers.{Ledger, Closed, NoneBelow, LawClosed}
-use Rattle.pass_ledger.specs.declared.nodes.Node.{Node}
-use Rattle.pass_ledger.specs.declared.nodes.Letter.{Letter}
-use Rattle.pass_ledger.specs.declared.nodes.Letter.TheVariants.{State}
+use Rattle.state_layout.specs.declared.node.Node.{Node}
+use Rattle.pass_ledger.specs.declared.mail.Letter.{Letter}
+use Rattle.pass_ledger.specs.declared.mail.Letter.TheVariants.{State}
 use Rattle.pass_ledger.specs.declared.records.Held.{Held}
 use Rattle.pass_ledger.specs.declared.records.LedgerRow.{LedgerRow}
 use Rattle.pass_ledger.specs.declared.records.ShardRecord.{ShardRecord}

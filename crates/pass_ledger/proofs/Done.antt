@@ -8,9 +8,9 @@ use Rattle.pass_ledger.specs.Passes.{Pass, StartsInner}
 use Rattle.pass_ledger.specs.Rows.{row, Received}
 use Rattle.pass_ledger.specs.Records.{Accounted, IsPruned, IsFaultAt, visit_of, rec, Own, Done, Together}
 use Rattle.pass_ledger.specs.Ledgers.{Ledger, Closed, Totals, IsBest, PrunesAbove, AllDone, IsSound, LawRecords}
-use Rattle.pass_ledger.specs.declared.nodes.Node.{Node}
-use Rattle.pass_ledger.specs.declared.nodes.Letter.{Letter}
-use Rattle.pass_ledger.specs.declared.nodes.Letter.TheVariants.{State, Mark}
+use Rattle.state_layout.specs.declared.node.Node.{Node}
+use Rattle.pass_ledger.specs.declared.mail.Letter.{Letter}
+use Rattle.pass_ledger.specs.declared.mail.Letter.TheVariants.{State, Mark}
 use Rattle.pass_ledger.specs.declared.records.LedgerRow.{LedgerRow}
 use Rattle.pass_ledger.specs.declared.records.Unsent.{Unsent}
 use Rattle.pass_ledger.specs.declared.records.Visit.{Visit}

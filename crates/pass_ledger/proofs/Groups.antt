@@ -4,9 +4,9 @@ use Rattle.dp_claims.specs.Enough.{Has}
 use Rattle.dp_model.specs.declared.whole.Model.{Model}
 use Rattle.pass_ledger.specs.Letters.{InGroups, InOrder}
 use Rattle.pass_ledger.specs.Groups.{unfinished, Suits, IsLawful, LawEmpty, LawPrefix, LawNext}
-use Rattle.pass_ledger.specs.declared.nodes.Node.{Node}
-use Rattle.pass_ledger.specs.declared.nodes.Letter.{Letter}
-use Rattle.pass_ledger.specs.declared.nodes.Letter.TheVariants.{State, Mark}
+use Rattle.state_layout.specs.declared.node.Node.{Node}
+use Rattle.pass_ledger.specs.declared.mail.Letter.{Letter}
+use Rattle.pass_ledger.specs.declared.mail.Letter.TheVariants.{State, Mark}
 use Rattle.pass_ledger.proofs.Lists.{has_none, has_cases, has_head, has_last}
 use Rattle.pass_ledger.proofs.Worlds.{posted_front}
 

@@ -20,3 +20,4 @@ pub mod WorkedRun
 pub mod WorkedFloors
 pub mod WorkedPruning
 pub mod WorkedWrong
+pub mod WorkedEnough

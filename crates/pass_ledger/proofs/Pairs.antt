@@ -9,7 +9,7 @@ use Rattle.pass_ledger.specs.Passes.{Pass, word, StartsInner, CoversNode}
 use Rattle.pass_ledger.specs.Rows.{row, Received, Apart}
 use Rattle.pass_ledger.specs.Records.{visit_of, rec, Together}
 use Rattle.pass_ledger.specs.Counts.{pair, row_pairs, kept_pairs, visits_of, LeavesOne, DropsOne, IsWider, LawEnough}
-use Rattle.pass_ledger.specs.declared.nodes.Node.{Node}
+use Rattle.state_layout.specs.declared.node.Node.{Node}
 use Rattle.pass_ledger.specs.declared.records.LedgerRow.{LedgerRow}
 use Rattle.pass_ledger.specs.declared.records.Visit.{Visit}
 use Rattle.pass_ledger.specs.declared.records.ShardRecord.{ShardRecord}

@@ -13,10 +13,10 @@ use Rattle.pass_ledger.specs.Letters.{of}
 use Rattle.pass_ledger.specs.Passes.{Pass, StartsInner, IsStart}
 use Rattle.pass_ledger.specs.Rows.{row, Received}
 use Rattle.pass_ledger.specs.Records.{step_id, IsSuccessor, Made, Starts, IsHeld, MeetsAfter, rec, visit_at, IsRooted, IsFound, IsMet, IsFault}
-use Rattle.pass_ledger.specs.declared.nodes.StepId.{StepId}
-use Rattle.pass_ledger.specs.declared.nodes.Node.{Node}
-use Rattle.pass_ledger.specs.declared.nodes.Letter.{Letter}
-use Rattle.pass_ledger.specs.declared.nodes.Letter.TheVariants.{State}
+use Rattle.path_log.specs.declared.logs.StepId.{StepId}
+use Rattle.state_layout.specs.declared.node.Node.{Node}
+use Rattle.pass_ledger.specs.declared.mail.Letter.{Letter}
+use Rattle.pass_ledger.specs.declared.mail.Letter.TheVariants.{State}
 use Rattle.pass_ledger.specs.declared.records.Visit.{Visit}
 use Rattle.pass_ledger.specs.declared.records.Held.{Held}
 use Rattle.pass_ledger.specs.declared.records.FaultHere.{FaultHere}

@@ -6,9 +6,9 @@ use Rattle.pass_ledger.specs.Letters.{of, InGroups, InOrder, Posted, is_at, all_
 use Rattle.pass_ledger.specs.Passes.{Pass}
 use Rattle.pass_ledger.specs.Records.{unsent, IsSuccessor, IsSent, Accounted, Made, Sends, Marks, Own}
 use Rattle.pass_ledger.specs.Events.{append_at, post, CanPost, CanPostMark}
-use Rattle.pass_ledger.specs.declared.nodes.Node.{Node}
-use Rattle.pass_ledger.specs.declared.nodes.Letter.{Letter}
-use Rattle.pass_ledger.specs.declared.nodes.Letter.TheVariants.{State, Mark}
+use Rattle.state_layout.specs.declared.node.Node.{Node}
+use Rattle.pass_ledger.specs.declared.mail.Letter.{Letter}
+use Rattle.pass_ledger.specs.declared.mail.Letter.TheVariants.{State, Mark}
 use Rattle.pass_ledger.specs.declared.records.PrunedAt.{PrunedAt}
 use Rattle.pass_ledger.specs.declared.records.Visit.{Visit}
 use Rattle.pass_ledger.specs.declared.records.Unsent.{Unsent}

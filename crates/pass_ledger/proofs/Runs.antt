@@ -14,9 +14,9 @@ use Rattle.pass_ledger.specs.Records.{rec, Starts, Own, Together}
 use Rattle.pass_ledger.specs.Events.{take, close, prune, visit, post}
 use Rattle.pass_ledger.specs.Ledgers.{IsBest, AllDone}
 use Rattle.pass_ledger.specs.Worlds.{World, Seat, Turn, Event, seat, happens, IsOffered, IsFree, Raises, Allowed, Runs, after, start_of, fresh, opened, offers, least_offer, is_draw, draws, IsRaised, LawRuns}
-use Rattle.pass_ledger.specs.declared.nodes.Node.{Node}
-use Rattle.pass_ledger.specs.declared.nodes.Letter.{Letter}
-use Rattle.pass_ledger.specs.declared.nodes.Letter.TheVariants.{State, Mark}
+use Rattle.state_layout.specs.declared.node.Node.{Node}
+use Rattle.pass_ledger.specs.declared.mail.Letter.{Letter}
+use Rattle.pass_ledger.specs.declared.mail.Letter.TheVariants.{State, Mark}
 use Rattle.pass_ledger.specs.declared.records.Held.{Held}
 use Rattle.pass_ledger.specs.declared.records.FaultHere.{FaultHere}
 use Rattle.pass_ledger.specs.declared.records.ShardRecord.{ShardRecord}

@@ -9,9 +9,9 @@ use Rattle.pass_ledger.specs.Passes.{Pass, Prunes}
 use Rattle.pass_ledger.specs.Rows.{row, Received, IsCovered, Apart, IsRow}
 use Rattle.pass_ledger.specs.Records.{visit_of, Reaches, IsPruned, IsSent, Accounted, IsFaultAt, HasFate, Turns, Sends, Marks, Own}
 use Rattle.pass_ledger.specs.Events.{append_at, take, CanTake, close, CanClose, prune, CanPrune}
-use Rattle.pass_ledger.specs.declared.nodes.Node.{Node}
-use Rattle.pass_ledger.specs.declared.nodes.Letter.{Letter}
-use Rattle.pass_ledger.specs.declared.nodes.Letter.TheVariants.{State, Mark}
+use Rattle.state_layout.specs.declared.node.Node.{Node}
+use Rattle.pass_ledger.specs.declared.mail.Letter.{Letter}
+use Rattle.pass_ledger.specs.declared.mail.Letter.TheVariants.{State, Mark}
 use Rattle.pass_ledger.specs.declared.records.PrunedAt.{PrunedAt}
 use Rattle.pass_ledger.specs.declared.records.LedgerRow.{LedgerRow}
 use Rattle.pass_ledger.specs.declared.records.Visit.{Visit}

@@ -5,9 +5,9 @@ use Rattle.pass_ledger.specs.Passes.{Pass}
 use Rattle.pass_ledger.specs.Rows.{row}
 use Rattle.pass_ledger.specs.Records.{step_id, visit_of, IsSuccessor, IsPruned, IsSent, Accounted, Made, IsHeld, IsFaultAt, Turns, Sends, Own}
 use Rattle.pass_ledger.specs.Events.{visit, CanVisit}
-use Rattle.pass_ledger.specs.declared.nodes.StepId.{StepId}
-use Rattle.pass_ledger.specs.declared.nodes.Node.{Node}
-use Rattle.pass_ledger.specs.declared.nodes.Letter.{Letter}
+use Rattle.path_log.specs.declared.logs.StepId.{StepId}
+use Rattle.state_layout.specs.declared.node.Node.{Node}
+use Rattle.pass_ledger.specs.declared.mail.Letter.{Letter}
 use Rattle.pass_ledger.specs.declared.records.PrunedAt.{PrunedAt}
 use Rattle.pass_ledger.specs.declared.records.LedgerRow.{LedgerRow}
 use Rattle.pass_ledger.specs.declared.records.Visit.{Visit}

@@ -13,8 +13,8 @@ use Rattle.pass_ledger.specs.Records.{visit_of, IsSuccessor, IsTotal, Accounted,
 use Rattle.pass_ledger.specs.Ledgers.{Ledger, Closed, Totals, IsBest}
 use Rattle.pass_ledger.specs.TwoWays.{at}
 use Rattle.pass_ledger.specs.Worked.{plain, alone, n0, n1, n2, letters, held, row_of, first_pass, second_pass, word_11, word_3, no_word, LawFirstPass, LawSecondPass, LawBestWay}
-use Rattle.pass_ledger.specs.declared.nodes.Node.{Node}
-use Rattle.pass_ledger.specs.declared.nodes.Letter.TheVariants.{State, Mark}
+use Rattle.state_layout.specs.declared.node.Node.{Node}
+use Rattle.pass_ledger.specs.declared.mail.Letter.TheVariants.{State, Mark}
 use Rattle.pass_ledger.specs.declared.records.PrunedAt.{PrunedAt}
 use Rattle.pass_ledger.specs.declared.records.Visit.{Visit}
 use Rattle.pass_ledger.specs.declared.records.Held.{Held}
@@ -117,10 +117,10 @@ total_3 share =
     record { weight = Some (pos 1); next = at 3; base = pos 0; step = d_step [] refl refl; is_base = base_at [] refl refl; cost_in_range = in_range 3 (small 3 (omega arith)); in_range = in_range 3 (small 3 (omega arith)); is = refl }
 
 pub n1_in_order : InOrder plain n1
-n1_in_order = record { state = refl; inner = inner_at [] refl refl 1 refl; cost = in_range 1 (small 1 (omega arith)); floor = tt }
+n1_in_order = record { is_node = record { state = refl; cost = in_range 1 (small 1 (omega arith)); floor = tt }; inner = inner_at [] refl refl 1 refl; floor = tt }
 
 pub n2_in_order : InOrder plain n2
-n2_in_order = record { state = refl; inner = inner_at [] refl refl 2 refl; cost = in_range 2 (small 2 (omega arith)); floor = tt }
+n2_in_order = record { is_node = record { state = refl; cost = in_range 2 (small 2 (omega arith)); floor = tt }; inner = inner_at [] refl refl 2 refl; floor = tt }
 
 -- ---- rows
 

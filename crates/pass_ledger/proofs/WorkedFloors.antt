@@ -7,6 +7,7 @@ use Rattle.dp_model.specs.Evaluation.{num_value}
 use Rattle.dp_steps.specs.Bounds.{IsTightest, IsFloor}
 use Rattle.dp_steps.specs.Lists.{Leads, Completion}
 use Rattle.dp_steps.specs.States.{Base, Inner, Step}
+use Rattle.cost_laws.specs.Orders.{InWideRange}
 use Rattle.dp_claims.specs.Enough.{Has, Different}
 use Rattle.dp_model.specs.declared.answers.FaultKind.{FaultKind}
 use Rattle.dp_model.specs.declared.trees.Num.{Num}
@@ -16,7 +17,7 @@ use Rattle.dp_model.specs.declared.parts.Variable.{Variable}
 use Rattle.dp_model.specs.declared.parts.PlainValue.TheVariants.{Number}
 use Rattle.dp_model.specs.declared.parts.PlainState.{PlainState}
 use Rattle.dp_claims.proofs.Plain.{same_values, same_state, not_better_self}
-use Rattle.pass_ledger.specs.Letters.{of, InOrder, Posted, HasWord, all_told_at}
+use Rattle.pass_ledger.specs.Letters.{of, InOrder, Posted, all_told_at}
 use Rattle.pass_ledger.specs.Passes.{word_of, CoversNode, IsStart, Prunes}
 use Rattle.pass_ledger.specs.Rows.{row, Received, IsCovered, Apart, IsRow}
 use Rattle.pass_ledger.specs.Records.{visit_of, IsSuccessor, IsTotal, Accounted, IsPruned, Made, IsHeld, Starts, rec}
@@ -24,8 +25,8 @@ use Rattle.pass_ledger.specs.Ledgers.{Ledger, Closed, Totals, IsBest, IsFloorOfD
 use Rattle.pass_ledger.specs.TwoWays.{at, variables}
 use Rattle.pass_ledger.specs.Worked.{held, row_of, word_11, no_word}
 use Rattle.pass_ledger.specs.WorkedFloors.{one, one_typed, bounded, pruning, f0, f1, f2, two_letters, dropping, LawHonest, LawDropping}
-use Rattle.pass_ledger.specs.declared.nodes.Node.{Node}
-use Rattle.pass_ledger.specs.declared.nodes.Letter.TheVariants.{State, Mark}
+use Rattle.state_layout.specs.declared.node.Node.{Node}
+use Rattle.pass_ledger.specs.declared.mail.Letter.TheVariants.{State, Mark}
 use Rattle.pass_ledger.specs.declared.records.PrunedAt.{PrunedAt}
 use Rattle.pass_ledger.specs.declared.records.Visit.{Visit}
 use Rattle.pass_ledger.specs.declared.records.Held.{Held}
@@ -213,14 +214,14 @@ pub total_11 : IsTotal pruning f1 2 (pos 11)
 total_11 =
     record { weight = Some (pos 10); next = at 3; base = pos 0; step = e_step one one_typed refl; is_base = base; cost_in_range = in_range 11 (small 11 (omega arith)); in_range = in_range 11 (small 11 (omega arith)); is = refl }
 
-has_word : (n : ℕ) → n ≤ 20 → HasWord (pos n)
+has_word : (n : ℕ) → n ≤ 20 → InWideRange (pos n)
 has_word n le = (omega (arith, ints, le), omega (arith, ints, le))
 
 pub f1_in_order : InOrder bounded f1
-f1_in_order = record { state = refl; inner = inner 1 refl; cost = in_range 1 (small 1 (omega arith)); floor = (floor_1.1, has_word 2 (omega arith)) }
+f1_in_order = record { is_node = record { state = refl; cost = in_range 1 (small 1 (omega arith)); floor = has_word 2 (omega arith) }; inner = inner 1 refl; floor = floor_1.1 }
 
 f2_in_order : InOrder bounded f2
-f2_in_order = record { state = refl; inner = inner 2 refl; cost = in_range 2 (small 2 (omega arith)); floor = (floor_2.1, has_word 3 (omega arith)) }
+f2_in_order = record { is_node = record { state = refl; cost = in_range 2 (small 2 (omega arith)); floor = has_word 3 (omega arith) }; inner = inner 2 refl; floor = floor_2.1 }
 
 -- ---- rows
 

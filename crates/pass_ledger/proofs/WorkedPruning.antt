@@ -10,8 +10,8 @@ use Rattle.pass_ledger.specs.Records.{visit_of, IsSuccessor, IsTotal, Accounted,
 use Rattle.pass_ledger.specs.Ledgers.{Ledger, Closed, Totals, IsBest, DropsNone}
 use Rattle.pass_ledger.specs.Worked.{held, row_of, word_3}
 use Rattle.pass_ledger.specs.WorkedFloors.{one, one_typed, bounded, pruning, f0, f1, f2, one_letter, pruned_one, LawPruning}
-use Rattle.pass_ledger.specs.declared.nodes.Node.{Node}
-use Rattle.pass_ledger.specs.declared.nodes.Letter.TheVariants.{State, Mark}
+use Rattle.state_layout.specs.declared.node.Node.{Node}
+use Rattle.pass_ledger.specs.declared.mail.Letter.TheVariants.{State, Mark}
 use Rattle.pass_ledger.specs.declared.records.PrunedAt.{PrunedAt}
 use Rattle.pass_ledger.specs.declared.records.Visit.{Visit}
 use Rattle.pass_ledger.specs.declared.records.Held.{Held}

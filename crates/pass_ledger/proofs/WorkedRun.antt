@@ -13,9 +13,9 @@ use Rattle.pass_ledger.specs.Worlds.{World, Event, Runs, after}
 use Rattle.pass_ledger.specs.TwoWays.{at}
 use Rattle.pass_ledger.specs.Worked.{plain, n0, n1, n2, row_of, word_11}
 use Rattle.pass_ledger.specs.WorkedRun.{both, held_by, layer_0, layer_1, layer_2, world_0, world_1, world_2, world_3, LawTwoShards}
-use Rattle.pass_ledger.specs.declared.nodes.Node.{Node}
-use Rattle.pass_ledger.specs.declared.nodes.Letter.{Letter}
-use Rattle.pass_ledger.specs.declared.nodes.Letter.TheVariants.{State, Mark}
+use Rattle.state_layout.specs.declared.node.Node.{Node}
+use Rattle.pass_ledger.specs.declared.mail.Letter.{Letter}
+use Rattle.pass_ledger.specs.declared.mail.Letter.TheVariants.{State, Mark}
 use Rattle.pass_ledger.specs.declared.records.Unsent.{Unsent}
 use Rattle.pass_ledger.specs.declared.records.Held.{Held}
 use Rattle.pass_ledger.specs.declared.records.LedgerRow.{LedgerRow}

@@ -16,10 +16,10 @@ use Rattle.pass_ledger.specs.Worked.{plain, alone, n0, n1, n2, held, first_pass,
 use Rattle.pass_ledger.specs.WorkedFloors.{pruning, pruned_one, f2}
 use Rattle.pass_ledger.specs.WorkedRun.{both}
 use Rattle.pass_ledger.specs.WorkedWrong.{leaves_out, forgets, marks_twice, own_parent, goes_round, counts_twice, invents, keeps_foreign, keeps_twins, visits_dropped, skips, loses, receives_more, posts_twice, adds_wrong, stops_early, met_fault, dear, costs_more, lacks_floor, LawWrong}
-use Rattle.pass_ledger.specs.declared.nodes.StepId.{StepId}
-use Rattle.pass_ledger.specs.declared.nodes.Node.{Node}
-use Rattle.pass_ledger.specs.declared.nodes.Letter.{Letter}
-use Rattle.pass_ledger.specs.declared.nodes.Letter.TheVariants.{State, Mark}
+use Rattle.path_log.specs.declared.logs.StepId.{StepId}
+use Rattle.state_layout.specs.declared.node.Node.{Node}
+use Rattle.pass_ledger.specs.declared.mail.Letter.{Letter}
+use Rattle.pass_ledger.specs.declared.mail.Letter.TheVariants.{State, Mark}
 use Rattle.pass_ledger.specs.declared.records.Visit.{Visit}
 use Rattle.pass_ledger.specs.declared.records.Held.{Held}
 use Rattle.pass_ledger.specs.declared.records.ShardRecord.{ShardRecord}

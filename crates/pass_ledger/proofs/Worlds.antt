@@ -13,9 +13,9 @@ use Rattle.pass_ledger.specs.Passes.{Pass, word_of}
 use Rattle.pass_ledger.specs.Records.{rec, Reaches, Own}
 use Rattle.pass_ledger.specs.Events.{append_at, take, CanTake, close, prune, visit, CanVisit, post}
 use Rattle.pass_ledger.specs.Worlds.{World, Seat, Turn, Event, with_record, with_seat, seat, happens, IsOffered, IsFree, IsLook, Allowed}
-use Rattle.pass_ledger.specs.declared.nodes.Node.{Node}
-use Rattle.pass_ledger.specs.declared.nodes.Letter.{Letter}
-use Rattle.pass_ledger.specs.declared.nodes.Letter.TheVariants.{State, Mark}
+use Rattle.state_layout.specs.declared.node.Node.{Node}
+use Rattle.pass_ledger.specs.declared.mail.Letter.{Letter}
+use Rattle.pass_ledger.specs.declared.mail.Letter.TheVariants.{State, Mark}
 use Rattle.pass_ledger.specs.declared.records.PrunedAt.{PrunedAt}
 use Rattle.pass_ledger.specs.declared.records.Unsent.{Unsent}
 use Rattle.pass_ledger.specs.declared.records.Held.{Held}

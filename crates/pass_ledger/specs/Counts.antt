@@ -6,7 +6,7 @@ use Rattle.pass_ledger.specs.Passes.{Pass, StartsInner}
 use Rattle.pass_ledger.specs.Rows.{row}
 use Rattle.pass_ledger.specs.Records.{visit_of, rec, Together}
 use Rattle.pass_ledger.specs.Ledgers.{DropsNone}
-use Rattle.pass_ledger.specs.declared.nodes.Node.{Node}
+use Rattle.state_layout.specs.declared.node.Node.{Node}
 use Rattle.pass_ledger.specs.declared.records.LedgerRow.{LedgerRow}
 use Rattle.pass_ledger.specs.declared.records.ShardRecord.{ShardRecord}
 

@@ -2,8 +2,8 @@
 use Rattle.std.specs.Prelude.{◌≡◌, ℕ, ◌+◌, List, [], ◌∷◌, ◌++◌}
 use Rattle.dp_model.specs.declared.whole.Model.{Model}
 use Rattle.pass_ledger.specs.Letters.{InOrder, Posted}
-use Rattle.pass_ledger.specs.declared.nodes.Letter.{Letter}
-use Rattle.pass_ledger.specs.declared.nodes.Letter.TheVariants.{State, Mark}
+use Rattle.pass_ledger.specs.declared.mail.Letter.{Letter}
+use Rattle.pass_ledger.specs.declared.mail.Letter.TheVariants.{State, Mark}
 
 -- the unfinished group of a list: its layer, and how many states it has
 abbrev pub grown : ℕ × ℕ → Letter → ℕ × ℕ

@@ -6,9 +6,9 @@ use Rattle.pass_ledger.specs.Letters.{of, Posted, all_told_at}
 use Rattle.pass_ledger.specs.Passes.{Pass, word_of, StartsInner, IsTrusted, Prunes}
 use Rattle.pass_ledger.specs.Rows.{row, Received, IsCovered, IsRow}
 use Rattle.pass_ledger.specs.Records.{visit_of, Accounted, IsPruned, Made, IsHeld, Starts, rec, Together, Done, IsRooted, IsFound, IsMet}
-use Rattle.pass_ledger.specs.declared.nodes.Node.{Node}
-use Rattle.pass_ledger.specs.declared.nodes.Letter.{Letter}
-use Rattle.pass_ledger.specs.declared.nodes.Letter.TheVariants.{State, Mark}
+use Rattle.state_layout.specs.declared.node.Node.{Node}
+use Rattle.pass_ledger.specs.declared.mail.Letter.{Letter}
+use Rattle.pass_ledger.specs.declared.mail.Letter.TheVariants.{State, Mark}
 use Rattle.pass_ledger.specs.declared.records.PrunedAt.{PrunedAt}
 use Rattle.pass_ledger.specs.declared.records.Visit.{Visit}
 use Rattle.pass_ledger.specs.declared.records.Held.{Held}

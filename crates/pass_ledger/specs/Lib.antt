@@ -12,3 +12,4 @@ pub mod Worked
 pub mod WorkedRun
 pub mod WorkedFloors
 pub mod WorkedWrong
+pub mod WorkedEnough

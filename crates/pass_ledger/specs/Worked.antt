@@ -8,10 +8,10 @@ use Rattle.pass_ledger.specs.Passes.{Pass}
 use Rattle.pass_ledger.specs.Records.{step_id, visit_of}
 use Rattle.pass_ledger.specs.Ledgers.{Ledger, Closed, NoneBelow}
 use Rattle.pass_ledger.specs.TwoWays.{at, two_ways}
-use Rattle.pass_ledger.specs.declared.nodes.StepId.{StepId}
-use Rattle.pass_ledger.specs.declared.nodes.Node.{Node}
-use Rattle.pass_ledger.specs.declared.nodes.Letter.{Letter}
-use Rattle.pass_ledger.specs.declared.nodes.Letter.TheVariants.{State, Mark}
+use Rattle.path_log.specs.declared.logs.StepId.{StepId}
+use Rattle.state_layout.specs.declared.node.Node.{Node}
+use Rattle.pass_ledger.specs.declared.mail.Letter.{Letter}
+use Rattle.pass_ledger.specs.declared.mail.Letter.TheVariants.{State, Mark}
 use Rattle.pass_ledger.specs.declared.records.LedgerRow.{LedgerRow}
 use Rattle.pass_ledger.specs.declared.records.Held.{Held}
 use Rattle.pass_ledger.specs.declared.records.ShardRecord.{ShardRecord}

@@ -9,7 +9,7 @@ use Rattle.pass_ledger.specs.Records.{step_id, unsent}
 use Rattle.pass_ledger.specs.Ledgers.{AllDone}
 use Rattle.pass_ledger.specs.Worlds.{World, Event, Runs, after, opened}
 use Rattle.pass_ledger.specs.Worked.{plain, n0, n1, n2, row_of, word_11, word_3, no_word}
-use Rattle.pass_ledger.specs.declared.nodes.Letter.TheVariants.{State, Mark}
+use Rattle.pass_ledger.specs.declared.mail.Letter.TheVariants.{State, Mark}
 use Rattle.pass_ledger.specs.declared.records.Held.{Held}
 
 abbrev pub one_if : Bool → ℕ

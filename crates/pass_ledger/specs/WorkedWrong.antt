@@ -7,9 +7,9 @@ use Rattle.pass_ledger.specs.Ledgers.{Ledger, Closed}
 use Rattle.pass_ledger.specs.Worked.{alone, node, n0, n1, n2, held, row_of, first_pass, second_pass, word_11, word_3, no_word}
 use Rattle.pass_ledger.specs.WorkedFloors.{pruning, f2, dropping, pruned_one}
 use Rattle.pass_ledger.specs.WorkedRun.{both}
-use Rattle.pass_ledger.specs.declared.nodes.Node.{Node}
-use Rattle.pass_ledger.specs.declared.nodes.Letter.{Letter}
-use Rattle.pass_ledger.specs.declared.nodes.Letter.TheVariants.{State, Mark}
+use Rattle.state_layout.specs.declared.node.Node.{Node}
+use Rattle.pass_ledger.specs.declared.mail.Letter.{Letter}
+use Rattle.pass_ledger.specs.declared.mail.Letter.TheVariants.{State, Mark}
 use Rattle.pass_ledger.specs.declared.records.ShardRecord.{ShardRecord}
 
 -- the letters of the shard to itself, of which it received each

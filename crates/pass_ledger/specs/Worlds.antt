@@ -7,8 +7,8 @@ use Rattle.pass_ledger.specs.Passes.{Pass, word_of, StartsInner, IsStart, Prunes
 use Rattle.pass_ledger.specs.Records.{rec, Together, IsMet}
 use Rattle.pass_ledger.specs.Events.{append_at, take, close, CanClose, prune, visit, CanVisit, post, CanPost}
 use Rattle.pass_ledger.specs.Ledgers.{Ledger, Closed, AllDone, PrunesAbove}
-use Rattle.pass_ledger.specs.declared.nodes.Node.{Node}
-use Rattle.pass_ledger.specs.declared.nodes.Letter.{Letter}
+use Rattle.state_layout.specs.declared.node.Node.{Node}
+use Rattle.pass_ledger.specs.declared.mail.Letter.{Letter}
 use Rattle.pass_ledger.specs.declared.records.PrunedAt.{PrunedAt}
 use Rattle.pass_ledger.specs.declared.records.LedgerRow.{LedgerRow}
 use Rattle.pass_ledger.specs.declared.records.Unsent.{Unsent}

@@ -1,4 +1,5 @@
 ghost use Rattle.pass_ledger.specs.Worked.{LawBestWay, LawFirstPass, LawSecondPass};
+ghost use Rattle.pass_ledger.specs.WorkedEnough.{LawWorkedEnough};
 ghost use Rattle.pass_ledger.specs.WorkedFloors.{LawDropping, LawHonest, LawPruning};
 ghost use Rattle.pass_ledger.specs.WorkedRun.{LawTwoShards};
 ghost use Rattle.pass_ledger.specs.WorkedWrong.{LawWrong};
@@ -27,4 +28,9 @@ pub fn law_worked_run()
 /// Wrong ledgers of the worked model, each refused by one part of the definitions.
 pub fn law_worked_wrong()
     ensures { LawWrong }
+{}
+
+/// Six visits are enough for the worked model, and five are not.
+pub fn law_worked_enough()
+    ensures { LawWorkedEnough }
 {}
