@@ -1,5 +1,6 @@
 ghost use Rattle.pass_ledger.specs.Counts.{LawEnough};
 ghost use Rattle.pass_ledger.specs.Groups.{LawEmpty, LawNext, LawPrefix};
+ghost use Rattle.pass_ledger.specs.Logs.{LawLogs};
 ghost use Rattle.pass_ledger.specs.Ledgers.{LawClosed, LawRecords};
 ghost use Rattle.pass_ledger.specs.Worlds.{LawRuns};
 
@@ -32,4 +33,10 @@ pub fn law_letters()
     ensures empty { LawEmpty }
     ensures front { LawPrefix }
     ensures next { LawNext }
+{}
+
+/// Where each shard's log of steps has its visited nodes in order, parents that lead back to the target in the records do so
+/// in the logs.
+pub fn law_logs()
+    ensures { LawLogs }
 {}
