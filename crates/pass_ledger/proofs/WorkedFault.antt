@@ -18,7 +18,7 @@ use Rattle.dp_model.specs.declared.parts.PlainState.{PlainState}
 use Rattle.dp_model.specs.declared.whole.Model.{Model}
 use Rattle.dp_claims.proofs.Covering.{reflexive}
 use Rattle.pass_ledger.specs.Passes.{word_of, CoversNode, Prunes}
-use Rattle.pass_ledger.specs.Records.{step_id, MeetsHere, rec}
+use Rattle.pass_ledger.specs.Records.{step_id, MeetsHere, record_of}
 use Rattle.pass_ledger.specs.Events.{CanClose, CanVisit}
 use Rattle.pass_ledger.specs.TwoWays.{at}
 use Rattle.pass_ledger.specs.Worked.{row_of, no_word}
@@ -78,7 +78,7 @@ lt_1 = zero-lt-suc 0
 never_0 : (l : ℕ) → l + 1 ≡ 0 → ⊥
 never_0 l e = absurd (omega arith)
 
-close : CanClose meeting (rec begun.records 0) (row_of (first ∷ []) [])
+close : CanClose meeting (record_of begun.records 0) (row_of (first ∷ []) [])
 close =
     record {
       fine = refl;
@@ -101,7 +101,7 @@ not_pruned h = too_low (subst (λ (f : ℤ). pos no_word ≤ℤ word_of meeting 
     too_low : pos no_word ≤ℤ pos 9223372036854775808 → ⊥
     too_low h = absurd (omega (arith, ints))
 
-visit : CanVisit meeting 0 (rec (after begun (Event.Close 0 (row_of (first ∷ []) []) ∷ Event.Look 0 first [] false ∷ Event.Draw 0 ∷ [])).records 0) 0 first [] [] [] None (Some fault)
+visit : CanVisit meeting 0 (record_of (after begun (Event.Close 0 (row_of (first ∷ []) []) ∷ Event.Look 0 first [] false ∷ Event.Draw 0 ∷ [])).records 0) 0 first [] [] [] None (Some fault)
 visit =
     record {
       fine = refl;
