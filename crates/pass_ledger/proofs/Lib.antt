@@ -21,3 +21,5 @@ pub mod WorkedFloors
 pub mod WorkedPruning
 pub mod WorkedWrong
 pub mod WorkedEnough
+pub mod Logs
+pub mod WorkedFault

@@ -22,7 +22,7 @@ use Rattle.pass_ledger.specs.TwoWays.{at, is_at, way, AreBounds, two_ways}
 -- ---- expressions, in any model
 
 module _ (m : Model) (s : PlainState) (given : List ℕ) where
-  value_var : (v : ℕ) → num_value m s (nums.Var v) given ≡ Ok (number_in s v)
+  pub value_var : (v : ℕ) → num_value m s (nums.Var v) given ≡ Ok (number_in s v)
   unfolding nums.out-Num denote.Hole.Carrier.out
   value_var v = ap (λ (f : NumValue). f given) (nums.fold_out-Num ArgValue CondValue NumValue SetValue arg_step (cond_step m s) (num_step m s) (set_step m s) (nums.Var v))
 

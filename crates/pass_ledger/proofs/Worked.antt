@@ -9,7 +9,7 @@ use Rattle.dp_model.specs.declared.parts.PlainState.{PlainState}
 use Rattle.pass_ledger.specs.Letters.{of, InOrder, Posted, all_told_at}
 use Rattle.pass_ledger.specs.Passes.{word_of, CoversNode, IsStart, Prunes}
 use Rattle.pass_ledger.specs.Rows.{row, Received, IsCovered, Apart, IsRow}
-use Rattle.pass_ledger.specs.Records.{visit_of, IsSuccessor, IsTotal, Accounted, IsPruned, Made, IsHeld, Starts, rec}
+use Rattle.pass_ledger.specs.Records.{visit_of, IsSuccessor, IsTotal, Accounted, IsPruned, Made, IsHeld, Starts, record_of}
 use Rattle.pass_ledger.specs.Ledgers.{Ledger, Closed, Totals, IsBest}
 use Rattle.pass_ledger.specs.TwoWays.{at}
 use Rattle.pass_ledger.specs.Worked.{plain, alone, n0, n1, n2, letters, held, row_of, first_pass, second_pass, word_11, word_3, no_word, LawFirstPass, LawSecondPass, LawBestWay}
@@ -278,15 +278,15 @@ first_once = (λ h. layers_differ n0 n1 (sym (has_one (visit_of 1 n1) (visit_of 
 first_ledger : Ledger (alone 1) (first_pass ∷ [])
 first_ledger = record { shards = refl; rows = rows; visits = visits; once = once_only }
   where
-    rows : (i l : ℕ) → i < 1 → IsRow (alone 1) (rec (first_pass ∷ []) i).start (rec (first_pass ∷ []) i).received l (row (rec (first_pass ∷ []) i).rows l)
+    rows : (i l : ℕ) → i < 1 → IsRow (alone 1) (record_of (first_pass ∷ []) i).start (record_of (first_pass ∷ []) i).received l (row (record_of (first_pass ∷ []) i).rows l)
     rows zero l li = first_rows l
     rows (suc i) l li = absurd (one_shard i li)
 
-    visits : (i : ℕ) (v : Visit) → i < 1 → Has (rec (first_pass ∷ []) i).visits v → Has (row (rec (first_pass ∷ []) i).rows v.layer).kept v.node
+    visits : (i : ℕ) (v : Visit) → i < 1 → Has (record_of (first_pass ∷ []) i).visits v → Has (row (record_of (first_pass ∷ []) i).rows v.layer).kept v.node
     visits zero v li h = first_visits v h
     visits (suc i) v li h = absurd (one_shard i li)
 
-    once_only : (i : ℕ) → i < 1 → Different (rec (first_pass ∷ []) i).visits
+    once_only : (i : ℕ) → i < 1 → Different (record_of (first_pass ∷ []) i).visits
     once_only zero li = first_once
     once_only (suc i) li = absurd (one_shard i li)
 
@@ -311,32 +311,32 @@ first_best =
       is_one = inr (0, held (pos 11) 1 2, (alone 1).owned (at 0), refl, refl);
     }
   where
-    above : (i : ℕ) (h : Held) → i < 1 → (rec (first_pass ∷ []) i).held ≡ Some h → pos word_11 ≤ℤ word_of (alone 1) h.cost
+    above : (i : ℕ) (h : Held) → i < 1 → (record_of (first_pass ∷ []) i).held ≡ Some h → pos word_11 ≤ℤ word_of (alone 1) h.cost
     above zero h li e = subst (λ (x : Held). pos word_11 ≤ℤ word_of (alone 1) x.cost) (some_is (held (pos 11) 1 2) h e) (omega (arith, ints))
     above (suc i) h li e = absurd (one_shard i li)
 
 first_closed : Closed (alone 1) (first_pass ∷ []) no_word word_11
 first_closed =
     record {
-      target = only_one (λ i. Starts (alone 1) i (rec (first_pass ∷ []) i).start) (starts 1);
-      covered = λ i l n li. only_one (λ i. Received (alone 1) (rec (first_pass ∷ []) i).start (rec (first_pass ∷ []) i).received l n → IsCovered (alone 1) (row (rec (first_pass ∷ []) i).rows l) n) (first_covered l n) i li;
-      made = λ i j f l n li. only_one (λ i. Has (of (rec (first_pass ∷ []) i).posted j) (State f l n) → (f ≡ i) × Made (alone 1) i (rec (first_pass ∷ []) i).visits j l n) (made 1 first_pass.visits refl j f l n) i li;
-      once = λ i j a b f l n li. only_one (λ i. slice_get (of (rec (first_pass ∷ []) i).posted j) a ≡ Some (State f l n) → slice_get (of (rec (first_pass ∷ []) i).posted j) b ≡ Some (State f l n) → a ≡ b) (once j a b f l n) i li;
-      fates = λ i l n li. only_one (λ i. Has (row (rec (first_pass ∷ []) i).rows l).kept n → IsPruned (rec (first_pass ∷ []) i).pruned n ⊎ Has (rec (first_pass ∷ []) i).visits (visit_of l n)) (first_fates l n) i li;
-      fine = only_one (λ i. (rec (first_pass ∷ []) i).fault ≡ None) refl;
-      accounted = λ i place v li. only_one (λ i. slice_get (rec (first_pass ∷ []) i).visits place ≡ Some v → Accounted (alone 1) i (rec (first_pass ∷ []) i).held (rec (first_pass ∷ []) i).posted [] (rec (first_pass ∷ []) i).pruned place v) (first_accounted place v) i li;
+      target = only_one (λ i. Starts (alone 1) i (record_of (first_pass ∷ []) i).start) (starts 1);
+      covered = λ i l n li. only_one (λ i. Received (alone 1) (record_of (first_pass ∷ []) i).start (record_of (first_pass ∷ []) i).received l n → IsCovered (alone 1) (row (record_of (first_pass ∷ []) i).rows l) n) (first_covered l n) i li;
+      made = λ i j f l n li. only_one (λ i. Has (of (record_of (first_pass ∷ []) i).posted j) (State f l n) → (f ≡ i) × Made (alone 1) i (record_of (first_pass ∷ []) i).visits j l n) (made 1 first_pass.visits refl j f l n) i li;
+      once = λ i j a b f l n li. only_one (λ i. slice_get (of (record_of (first_pass ∷ []) i).posted j) a ≡ Some (State f l n) → slice_get (of (record_of (first_pass ∷ []) i).posted j) b ≡ Some (State f l n) → a ≡ b) (once j a b f l n) i li;
+      fates = λ i l n li. only_one (λ i. Has (row (record_of (first_pass ∷ []) i).rows l).kept n → IsPruned (record_of (first_pass ∷ []) i).pruned n ⊎ Has (record_of (first_pass ∷ []) i).visits (visit_of l n)) (first_fates l n) i li;
+      fine = only_one (λ i. (record_of (first_pass ∷ []) i).fault ≡ None) refl;
+      accounted = λ i place v li. only_one (λ i. slice_get (record_of (first_pass ∷ []) i).visits place ≡ Some v → Accounted (alone 1) i (record_of (first_pass ∷ []) i).held (record_of (first_pass ∷ []) i).posted [] (record_of (first_pass ∷ []) i).pruned place v) (first_accounted place v) i li;
       arrived = arrived;
-      posted = λ i j li. only_one (λ i. Posted plain (of (rec (first_pass ∷ []) i).posted j)) (all_posted j) i li;
-      totals = only_one (λ i. Totals (rec (first_pass ∷ []) i).posted) totals;
-      pruned = λ i q li. only_one (λ i. Has (rec (first_pass ∷ []) i).pruned q → (word_11 ≤ q.best) × Prunes (alone 1) q.best q.node) (λ h. absurd (has_none q h)) i li;
+      posted = λ i j li. only_one (λ i. Posted plain (of (record_of (first_pass ∷ []) i).posted j)) (all_posted j) i li;
+      totals = only_one (λ i. Totals (record_of (first_pass ∷ []) i).posted) totals;
+      pruned = λ i q li. only_one (λ i. Has (record_of (first_pass ∷ []) i).pruned q → (word_11 ≤ q.best) × Prunes (alone 1) q.best q.node) (λ h. absurd (has_none q h)) i li;
       layers = 2;
-      same_layers = only_one (λ i. length (rec (first_pass ∷ []) i).rows ≡ 2) refl;
-      ended = λ i j li lj. only_one (λ i. (to_you : ℕ) × Has (of (rec (first_pass ∷ []) i).posted j) (Mark i 2 to_you 0)) (only_one (λ j. (to_you : ℕ) × Has (of (letters ∷ []) j) (Mark 0 2 to_you 0)) (0, (3, refl)) j lj) i li;
-      held = λ i h li. only_one (λ i. (rec (first_pass ∷ []) i).held ≡ Some h → IsHeld (alone 1) i (rec (first_pass ∷ []) i).visits h) (λ e. subst (IsHeld (alone 1) 0 first_pass.visits) (some_is (held (pos 11) 1 2) h e) (held_11 1)) i li;
+      same_layers = only_one (λ i. length (record_of (first_pass ∷ []) i).rows ≡ 2) refl;
+      ended = λ i j li lj. only_one (λ i. (to_you : ℕ) × Has (of (record_of (first_pass ∷ []) i).posted j) (Mark i 2 to_you 0)) (only_one (λ j. (to_you : ℕ) × Has (of (letters ∷ []) j) (Mark 0 2 to_you 0)) (0, (3, refl)) j lj) i li;
+      held = λ i h li. only_one (λ i. (record_of (first_pass ∷ []) i).held ≡ Some h → IsHeld (alone 1) i (record_of (first_pass ∷ []) i).visits h) (λ e. subst (IsHeld (alone 1) 0 first_pass.visits) (some_is (held (pos 11) 1 2) h e) (held_11 1)) i li;
       is_best = first_best;
     }
   where
-    arrived : (i j : ℕ) → i < 1 → j < 1 → of (rec (first_pass ∷ []) i).received j ≡ of (rec (first_pass ∷ []) j).posted i
+    arrived : (i j : ℕ) → i < 1 → j < 1 → of (record_of (first_pass ∷ []) i).received j ≡ of (record_of (first_pass ∷ []) j).posted i
     arrived zero zero li lj = refl
     arrived (suc i) j li lj = absurd (one_shard i li)
     arrived zero (suc j) li lj = absurd (one_shard j lj)
@@ -392,15 +392,15 @@ second_once = (
 second_ledger : Ledger (alone 2) (second_pass ∷ [])
 second_ledger = record { shards = refl; rows = rows; visits = visits; once = once_only }
   where
-    rows : (i l : ℕ) → i < 1 → IsRow (alone 2) (rec (second_pass ∷ []) i).start (rec (second_pass ∷ []) i).received l (row (rec (second_pass ∷ []) i).rows l)
+    rows : (i l : ℕ) → i < 1 → IsRow (alone 2) (record_of (second_pass ∷ []) i).start (record_of (second_pass ∷ []) i).received l (row (record_of (second_pass ∷ []) i).rows l)
     rows zero l li = second_rows l
     rows (suc i) l li = absurd (one_shard i li)
 
-    visits : (i : ℕ) (v : Visit) → i < 1 → Has (rec (second_pass ∷ []) i).visits v → Has (row (rec (second_pass ∷ []) i).rows v.layer).kept v.node
+    visits : (i : ℕ) (v : Visit) → i < 1 → Has (record_of (second_pass ∷ []) i).visits v → Has (row (record_of (second_pass ∷ []) i).rows v.layer).kept v.node
     visits zero v li h = second_visits v h
     visits (suc i) v li h = absurd (one_shard i li)
 
-    once_only : (i : ℕ) → i < 1 → Different (rec (second_pass ∷ []) i).visits
+    once_only : (i : ℕ) → i < 1 → Different (record_of (second_pass ∷ []) i).visits
     once_only zero li = second_once
     once_only (suc i) li = absurd (one_shard i li)
 
@@ -412,32 +412,32 @@ second_best =
       is_one = inr (0, held (pos 3) 2 3, (alone 2).owned (at 0), refl, refl);
     }
   where
-    above : (i : ℕ) (h : Held) → i < 1 → (rec (second_pass ∷ []) i).held ≡ Some h → pos word_3 ≤ℤ word_of (alone 2) h.cost
+    above : (i : ℕ) (h : Held) → i < 1 → (record_of (second_pass ∷ []) i).held ≡ Some h → pos word_3 ≤ℤ word_of (alone 2) h.cost
     above zero h li e = subst (λ (x : Held). pos word_3 ≤ℤ word_of (alone 2) x.cost) (some_is (held (pos 3) 2 3) h e) (omega (arith, ints))
     above (suc i) h li e = absurd (one_shard i li)
 
 second_closed : Closed (alone 2) (second_pass ∷ []) word_11 word_3
 second_closed =
     record {
-      target = only_one (λ i. Starts (alone 2) i (rec (second_pass ∷ []) i).start) (starts 2);
-      covered = λ i l n li. only_one (λ i. Received (alone 2) (rec (second_pass ∷ []) i).start (rec (second_pass ∷ []) i).received l n → IsCovered (alone 2) (row (rec (second_pass ∷ []) i).rows l) n) (second_covered l n) i li;
-      made = λ i j f l n li. only_one (λ i. Has (of (rec (second_pass ∷ []) i).posted j) (State f l n) → (f ≡ i) × Made (alone 2) i (rec (second_pass ∷ []) i).visits j l n) (made 2 second_pass.visits refl j f l n) i li;
-      once = λ i j a b f l n li. only_one (λ i. slice_get (of (rec (second_pass ∷ []) i).posted j) a ≡ Some (State f l n) → slice_get (of (rec (second_pass ∷ []) i).posted j) b ≡ Some (State f l n) → a ≡ b) (once j a b f l n) i li;
-      fates = λ i l n li. only_one (λ i. Has (row (rec (second_pass ∷ []) i).rows l).kept n → IsPruned (rec (second_pass ∷ []) i).pruned n ⊎ Has (rec (second_pass ∷ []) i).visits (visit_of l n)) (second_fates l n) i li;
-      fine = only_one (λ i. (rec (second_pass ∷ []) i).fault ≡ None) refl;
-      accounted = λ i place v li. only_one (λ i. slice_get (rec (second_pass ∷ []) i).visits place ≡ Some v → Accounted (alone 2) i (rec (second_pass ∷ []) i).held (rec (second_pass ∷ []) i).posted [] (rec (second_pass ∷ []) i).pruned place v) (second_accounted place v) i li;
+      target = only_one (λ i. Starts (alone 2) i (record_of (second_pass ∷ []) i).start) (starts 2);
+      covered = λ i l n li. only_one (λ i. Received (alone 2) (record_of (second_pass ∷ []) i).start (record_of (second_pass ∷ []) i).received l n → IsCovered (alone 2) (row (record_of (second_pass ∷ []) i).rows l) n) (second_covered l n) i li;
+      made = λ i j f l n li. only_one (λ i. Has (of (record_of (second_pass ∷ []) i).posted j) (State f l n) → (f ≡ i) × Made (alone 2) i (record_of (second_pass ∷ []) i).visits j l n) (made 2 second_pass.visits refl j f l n) i li;
+      once = λ i j a b f l n li. only_one (λ i. slice_get (of (record_of (second_pass ∷ []) i).posted j) a ≡ Some (State f l n) → slice_get (of (record_of (second_pass ∷ []) i).posted j) b ≡ Some (State f l n) → a ≡ b) (once j a b f l n) i li;
+      fates = λ i l n li. only_one (λ i. Has (row (record_of (second_pass ∷ []) i).rows l).kept n → IsPruned (record_of (second_pass ∷ []) i).pruned n ⊎ Has (record_of (second_pass ∷ []) i).visits (visit_of l n)) (second_fates l n) i li;
+      fine = only_one (λ i. (record_of (second_pass ∷ []) i).fault ≡ None) refl;
+      accounted = λ i place v li. only_one (λ i. slice_get (record_of (second_pass ∷ []) i).visits place ≡ Some v → Accounted (alone 2) i (record_of (second_pass ∷ []) i).held (record_of (second_pass ∷ []) i).posted [] (record_of (second_pass ∷ []) i).pruned place v) (second_accounted place v) i li;
       arrived = arrived;
-      posted = λ i j li. only_one (λ i. Posted plain (of (rec (second_pass ∷ []) i).posted j)) (all_posted j) i li;
-      totals = only_one (λ i. Totals (rec (second_pass ∷ []) i).posted) totals;
-      pruned = λ i q li. only_one (λ i. Has (rec (second_pass ∷ []) i).pruned q → (word_3 ≤ q.best) × Prunes (alone 2) q.best q.node) (λ h. absurd (has_none q h)) i li;
+      posted = λ i j li. only_one (λ i. Posted plain (of (record_of (second_pass ∷ []) i).posted j)) (all_posted j) i li;
+      totals = only_one (λ i. Totals (record_of (second_pass ∷ []) i).posted) totals;
+      pruned = λ i q li. only_one (λ i. Has (record_of (second_pass ∷ []) i).pruned q → (word_3 ≤ q.best) × Prunes (alone 2) q.best q.node) (λ h. absurd (has_none q h)) i li;
       layers = 2;
-      same_layers = only_one (λ i. length (rec (second_pass ∷ []) i).rows ≡ 2) refl;
-      ended = λ i j li lj. only_one (λ i. (to_you : ℕ) × Has (of (rec (second_pass ∷ []) i).posted j) (Mark i 2 to_you 0)) (only_one (λ j. (to_you : ℕ) × Has (of (letters ∷ []) j) (Mark 0 2 to_you 0)) (0, (3, refl)) j lj) i li;
-      held = λ i h li. only_one (λ i. (rec (second_pass ∷ []) i).held ≡ Some h → IsHeld (alone 2) i (rec (second_pass ∷ []) i).visits h) (λ e. subst (IsHeld (alone 2) 0 second_pass.visits) (some_is (held (pos 3) 2 3) h e) (held_3 2)) i li;
+      same_layers = only_one (λ i. length (record_of (second_pass ∷ []) i).rows ≡ 2) refl;
+      ended = λ i j li lj. only_one (λ i. (to_you : ℕ) × Has (of (record_of (second_pass ∷ []) i).posted j) (Mark i 2 to_you 0)) (only_one (λ j. (to_you : ℕ) × Has (of (letters ∷ []) j) (Mark 0 2 to_you 0)) (0, (3, refl)) j lj) i li;
+      held = λ i h li. only_one (λ i. (record_of (second_pass ∷ []) i).held ≡ Some h → IsHeld (alone 2) i (record_of (second_pass ∷ []) i).visits h) (λ e. subst (IsHeld (alone 2) 0 second_pass.visits) (some_is (held (pos 3) 2 3) h e) (held_3 2)) i li;
       is_best = second_best;
     }
   where
-    arrived : (i j : ℕ) → i < 1 → j < 1 → of (rec (second_pass ∷ []) i).received j ≡ of (rec (second_pass ∷ []) j).posted i
+    arrived : (i j : ℕ) → i < 1 → j < 1 → of (record_of (second_pass ∷ []) i).received j ≡ of (record_of (second_pass ∷ []) j).posted i
     arrived zero zero li lj = refl
     arrived (suc i) j li lj = absurd (one_shard i li)
     arrived zero (suc j) li lj = absurd (one_shard j lj)
@@ -446,7 +446,7 @@ pub second_law : LawSecondPass
 second_law = (second_ledger, second_closed, refl)
 
 -- no node was dropped in the second pass
-drops_none : (i l : ℕ) (n : Node) → i < 1 → Has (row (rec (second_pass ∷ []) i).rows l).dropped n → ⊥
+drops_none : (i l : ℕ) (n : Node) → i < 1 → Has (row (record_of (second_pass ∷ []) i).rows l).dropped n → ⊥
 drops_none zero zero n li h = has_none n h
 drops_none zero (suc zero) n li h = has_none n h
 drops_none zero (suc (suc l)) n li h = has_none n h

@@ -20,7 +20,7 @@ use Rattle.dp_claims.proofs.Plain.{same_values, same_state, not_better_self}
 use Rattle.pass_ledger.specs.Letters.{of, InOrder, Posted, all_told_at}
 use Rattle.pass_ledger.specs.Passes.{word_of, CoversNode, IsStart, Prunes}
 use Rattle.pass_ledger.specs.Rows.{row, Received, IsCovered, Apart, IsRow}
-use Rattle.pass_ledger.specs.Records.{visit_of, IsSuccessor, IsTotal, Accounted, IsPruned, Made, IsHeld, Starts, rec}
+use Rattle.pass_ledger.specs.Records.{visit_of, IsSuccessor, IsTotal, Accounted, IsPruned, Made, IsHeld, Starts, record_of}
 use Rattle.pass_ledger.specs.Ledgers.{Ledger, Closed, Totals, IsBest, IsFloorOfDropped}
 use Rattle.pass_ledger.specs.TwoWays.{at, variables}
 use Rattle.pass_ledger.specs.Worked.{held, row_of, word_11, no_word}
@@ -364,15 +364,15 @@ dropping_once = (λ h. layers_differ f0 f1 (sym (has_one (visit_of 1 f1) (visit_
 dropping_ledger : Ledger pruning (dropping ∷ [])
 dropping_ledger = record { shards = refl; rows = rows; visits = visits; once = once_only }
   where
-    rows : (i l : ℕ) → i < 1 → IsRow pruning (rec (dropping ∷ []) i).start (rec (dropping ∷ []) i).received l (row (rec (dropping ∷ []) i).rows l)
+    rows : (i l : ℕ) → i < 1 → IsRow pruning (record_of (dropping ∷ []) i).start (record_of (dropping ∷ []) i).received l (row (record_of (dropping ∷ []) i).rows l)
     rows zero l li = dropping_rows l
     rows (suc i) l li = absurd (one_shard i li)
 
-    visits : (i : ℕ) (v : Visit) → i < 1 → Has (rec (dropping ∷ []) i).visits v → Has (row (rec (dropping ∷ []) i).rows v.layer).kept v.node
+    visits : (i : ℕ) (v : Visit) → i < 1 → Has (record_of (dropping ∷ []) i).visits v → Has (row (record_of (dropping ∷ []) i).rows v.layer).kept v.node
     visits zero v li h = dropping_visits v h
     visits (suc i) v li h = absurd (one_shard i li)
 
-    once_only : (i : ℕ) → i < 1 → Different (rec (dropping ∷ []) i).visits
+    once_only : (i : ℕ) → i < 1 → Different (record_of (dropping ∷ []) i).visits
     once_only zero li = dropping_once
     once_only (suc i) li = absurd (one_shard i li)
 
@@ -390,32 +390,32 @@ dropping_best =
       is_one = inr (0, held (pos 11) 1 2, pruning.owned (at 0), refl, refl);
     }
   where
-    above : (i : ℕ) (h : Held) → i < 1 → (rec (dropping ∷ []) i).held ≡ Some h → pos word_11 ≤ℤ word_of pruning h.cost
+    above : (i : ℕ) (h : Held) → i < 1 → (record_of (dropping ∷ []) i).held ≡ Some h → pos word_11 ≤ℤ word_of pruning h.cost
     above zero h li e = subst (λ (x : Held). pos word_11 ≤ℤ word_of pruning x.cost) (some_is (held (pos 11) 1 2) h e) (omega (arith, ints))
     above (suc i) h li e = absurd (one_shard i li)
 
 dropping_closed : Closed pruning (dropping ∷ []) no_word word_11
 dropping_closed =
     record {
-      target = only_one (λ i. Starts pruning i (rec (dropping ∷ []) i).start) starts;
-      covered = λ i l n li. only_one (λ i. Received pruning (rec (dropping ∷ []) i).start (rec (dropping ∷ []) i).received l n → IsCovered pruning (row (rec (dropping ∷ []) i).rows l) n) (dropping_covered l n) i li;
-      made = λ i j f l n li. only_one (λ i. Has (of (rec (dropping ∷ []) i).posted j) (State f l n) → (f ≡ i) × Made pruning i (rec (dropping ∷ []) i).visits j l n) (made dropping.visits refl j f l n) i li;
-      once = λ i j a b f l n li. only_one (λ i. slice_get (of (rec (dropping ∷ []) i).posted j) a ≡ Some (State f l n) → slice_get (of (rec (dropping ∷ []) i).posted j) b ≡ Some (State f l n) → a ≡ b) (once j a b f l n) i li;
-      fates = λ i l n li. only_one (λ i. Has (row (rec (dropping ∷ []) i).rows l).kept n → IsPruned (rec (dropping ∷ []) i).pruned n ⊎ Has (rec (dropping ∷ []) i).visits (visit_of l n)) (dropping_fates l n) i li;
-      fine = only_one (λ i. (rec (dropping ∷ []) i).fault ≡ None) refl;
-      accounted = λ i place v li. only_one (λ i. slice_get (rec (dropping ∷ []) i).visits place ≡ Some v → Accounted pruning i (rec (dropping ∷ []) i).held (rec (dropping ∷ []) i).posted [] (rec (dropping ∷ []) i).pruned place v) (dropping_accounted place v) i li;
+      target = only_one (λ i. Starts pruning i (record_of (dropping ∷ []) i).start) starts;
+      covered = λ i l n li. only_one (λ i. Received pruning (record_of (dropping ∷ []) i).start (record_of (dropping ∷ []) i).received l n → IsCovered pruning (row (record_of (dropping ∷ []) i).rows l) n) (dropping_covered l n) i li;
+      made = λ i j f l n li. only_one (λ i. Has (of (record_of (dropping ∷ []) i).posted j) (State f l n) → (f ≡ i) × Made pruning i (record_of (dropping ∷ []) i).visits j l n) (made dropping.visits refl j f l n) i li;
+      once = λ i j a b f l n li. only_one (λ i. slice_get (of (record_of (dropping ∷ []) i).posted j) a ≡ Some (State f l n) → slice_get (of (record_of (dropping ∷ []) i).posted j) b ≡ Some (State f l n) → a ≡ b) (once j a b f l n) i li;
+      fates = λ i l n li. only_one (λ i. Has (row (record_of (dropping ∷ []) i).rows l).kept n → IsPruned (record_of (dropping ∷ []) i).pruned n ⊎ Has (record_of (dropping ∷ []) i).visits (visit_of l n)) (dropping_fates l n) i li;
+      fine = only_one (λ i. (record_of (dropping ∷ []) i).fault ≡ None) refl;
+      accounted = λ i place v li. only_one (λ i. slice_get (record_of (dropping ∷ []) i).visits place ≡ Some v → Accounted pruning i (record_of (dropping ∷ []) i).held (record_of (dropping ∷ []) i).posted [] (record_of (dropping ∷ []) i).pruned place v) (dropping_accounted place v) i li;
       arrived = arrived;
-      posted = λ i j li. only_one (λ i. Posted bounded (of (rec (dropping ∷ []) i).posted j)) (all_posted j) i li;
-      totals = only_one (λ i. Totals (rec (dropping ∷ []) i).posted) totals;
-      pruned = λ i q li. only_one (λ i. Has (rec (dropping ∷ []) i).pruned q → (word_11 ≤ q.best) × Prunes pruning q.best q.node) (λ h. absurd (has_none q h)) i li;
+      posted = λ i j li. only_one (λ i. Posted bounded (of (record_of (dropping ∷ []) i).posted j)) (all_posted j) i li;
+      totals = only_one (λ i. Totals (record_of (dropping ∷ []) i).posted) totals;
+      pruned = λ i q li. only_one (λ i. Has (record_of (dropping ∷ []) i).pruned q → (word_11 ≤ q.best) × Prunes pruning q.best q.node) (λ h. absurd (has_none q h)) i li;
       layers = 2;
-      same_layers = only_one (λ i. length (rec (dropping ∷ []) i).rows ≡ 2) refl;
-      ended = λ i j li lj. only_one (λ i. (to_you : ℕ) × Has (of (rec (dropping ∷ []) i).posted j) (Mark i 2 to_you 0)) (only_one (λ j. (to_you : ℕ) × Has (of (two_letters ∷ []) j) (Mark 0 2 to_you 0)) (0, (3, refl)) j lj) i li;
-      held = λ i h li. only_one (λ i. (rec (dropping ∷ []) i).held ≡ Some h → IsHeld pruning i (rec (dropping ∷ []) i).visits h) (λ e. subst (IsHeld pruning 0 dropping.visits) (some_is (held (pos 11) 1 2) h e) held_11) i li;
+      same_layers = only_one (λ i. length (record_of (dropping ∷ []) i).rows ≡ 2) refl;
+      ended = λ i j li lj. only_one (λ i. (to_you : ℕ) × Has (of (record_of (dropping ∷ []) i).posted j) (Mark i 2 to_you 0)) (only_one (λ j. (to_you : ℕ) × Has (of (two_letters ∷ []) j) (Mark 0 2 to_you 0)) (0, (3, refl)) j lj) i li;
+      held = λ i h li. only_one (λ i. (record_of (dropping ∷ []) i).held ≡ Some h → IsHeld pruning i (record_of (dropping ∷ []) i).visits h) (λ e. subst (IsHeld pruning 0 dropping.visits) (some_is (held (pos 11) 1 2) h e) held_11) i li;
       is_best = dropping_best;
     }
   where
-    arrived : (i j : ℕ) → i < 1 → j < 1 → of (rec (dropping ∷ []) i).received j ≡ of (rec (dropping ∷ []) j).posted i
+    arrived : (i j : ℕ) → i < 1 → j < 1 → of (record_of (dropping ∷ []) i).received j ≡ of (record_of (dropping ∷ []) j).posted i
     arrived zero zero li lj = refl
     arrived (suc i) j li lj = absurd (one_shard i li)
     arrived zero (suc j) li lj = absurd (one_shard j lj)

@@ -6,7 +6,7 @@ use Rattle.dp_claims.specs.Enough.{Has, Different}
 use Rattle.pass_ledger.specs.Letters.{of, InOrder, Posted, all_told_at}
 use Rattle.pass_ledger.specs.Passes.{word_of, Prunes}
 use Rattle.pass_ledger.specs.Rows.{row, Received, IsCovered, IsRow}
-use Rattle.pass_ledger.specs.Records.{visit_of, IsSuccessor, IsTotal, Accounted, IsPruned, Made, IsHeld, Starts, rec}
+use Rattle.pass_ledger.specs.Records.{visit_of, IsSuccessor, IsTotal, Accounted, IsPruned, Made, IsHeld, Starts, record_of}
 use Rattle.pass_ledger.specs.Ledgers.{Ledger, Closed, Totals, IsBest, DropsNone}
 use Rattle.pass_ledger.specs.Worked.{held, row_of, word_3}
 use Rattle.pass_ledger.specs.WorkedFloors.{one, one_typed, bounded, pruning, f0, f1, f2, one_letter, pruned_one, LawPruning}
@@ -135,41 +135,41 @@ ledger : Ledger pruning (pruned_one ∷ [])
 ledger =
     record {
       shards = refl;
-      rows = λ i l li. only_one (λ i. IsRow pruning (rec (pruned_one ∷ []) i).start (rec (pruned_one ∷ []) i).received l (row (rec (pruned_one ∷ []) i).rows l)) (rows l) i li;
-      visits = λ i v li. only_one (λ i. Has (rec (pruned_one ∷ []) i).visits v → Has (row (rec (pruned_one ∷ []) i).rows v.layer).kept v.node) (visits v) i li;
-      once = only_one (λ i. Different (rec (pruned_one ∷ []) i).visits) visited_once;
+      rows = λ i l li. only_one (λ i. IsRow pruning (record_of (pruned_one ∷ []) i).start (record_of (pruned_one ∷ []) i).received l (row (record_of (pruned_one ∷ []) i).rows l)) (rows l) i li;
+      visits = λ i v li. only_one (λ i. Has (record_of (pruned_one ∷ []) i).visits v → Has (row (record_of (pruned_one ∷ []) i).rows v.layer).kept v.node) (visits v) i li;
+      once = only_one (λ i. Different (record_of (pruned_one ∷ []) i).visits) visited_once;
     }
 
 best : IsBest pruning (pruned_one ∷ []) word_3 word_3
 best = record { opening_above = omega arith; held_above = above; is_one = inl refl }
   where
-    above : (i : ℕ) (h : Held) → i < 1 → (rec (pruned_one ∷ []) i).held ≡ Some h → pos word_3 ≤ℤ word_of pruning h.cost
+    above : (i : ℕ) (h : Held) → i < 1 → (record_of (pruned_one ∷ []) i).held ≡ Some h → pos word_3 ≤ℤ word_of pruning h.cost
     above zero h li e = subst (λ (x : Held). pos word_3 ≤ℤ word_of pruning x.cost) (some_is (held (pos 11) 1 2) h e) (omega (arith, ints))
     above (suc i) h li e = absurd (one_shard i li)
 
 closed : Closed pruning (pruned_one ∷ []) word_3 word_3
 closed =
     record {
-      target = only_one (λ i. Starts pruning i (rec (pruned_one ∷ []) i).start) starts;
-      covered = λ i l n li. only_one (λ i. Received pruning (rec (pruned_one ∷ []) i).start (rec (pruned_one ∷ []) i).received l n → IsCovered pruning (row (rec (pruned_one ∷ []) i).rows l) n) (covered l n) i li;
-      made = λ i j f l n li. only_one (λ i. Has (of (rec (pruned_one ∷ []) i).posted j) (State f l n) → (f ≡ i) × Made pruning i (rec (pruned_one ∷ []) i).visits j l n) (made j f l n) i li;
-      once = λ i j a b f l n li. only_one (λ i. slice_get (of (rec (pruned_one ∷ []) i).posted j) a ≡ Some (State f l n) → slice_get (of (rec (pruned_one ∷ []) i).posted j) b ≡ Some (State f l n) → a ≡ b) (once j a b f l n) i li;
-      fates = λ i l n li. only_one (λ i. Has (row (rec (pruned_one ∷ []) i).rows l).kept n → IsPruned (rec (pruned_one ∷ []) i).pruned n ⊎ Has (rec (pruned_one ∷ []) i).visits (visit_of l n)) (fates l n) i li;
-      fine = only_one (λ i. (rec (pruned_one ∷ []) i).fault ≡ None) refl;
-      accounted = λ i place v li. only_one (λ i. slice_get (rec (pruned_one ∷ []) i).visits place ≡ Some v → Accounted pruning i (rec (pruned_one ∷ []) i).held (rec (pruned_one ∷ []) i).posted [] (rec (pruned_one ∷ []) i).pruned place v) (accounted place v) i li;
+      target = only_one (λ i. Starts pruning i (record_of (pruned_one ∷ []) i).start) starts;
+      covered = λ i l n li. only_one (λ i. Received pruning (record_of (pruned_one ∷ []) i).start (record_of (pruned_one ∷ []) i).received l n → IsCovered pruning (row (record_of (pruned_one ∷ []) i).rows l) n) (covered l n) i li;
+      made = λ i j f l n li. only_one (λ i. Has (of (record_of (pruned_one ∷ []) i).posted j) (State f l n) → (f ≡ i) × Made pruning i (record_of (pruned_one ∷ []) i).visits j l n) (made j f l n) i li;
+      once = λ i j a b f l n li. only_one (λ i. slice_get (of (record_of (pruned_one ∷ []) i).posted j) a ≡ Some (State f l n) → slice_get (of (record_of (pruned_one ∷ []) i).posted j) b ≡ Some (State f l n) → a ≡ b) (once j a b f l n) i li;
+      fates = λ i l n li. only_one (λ i. Has (row (record_of (pruned_one ∷ []) i).rows l).kept n → IsPruned (record_of (pruned_one ∷ []) i).pruned n ⊎ Has (record_of (pruned_one ∷ []) i).visits (visit_of l n)) (fates l n) i li;
+      fine = only_one (λ i. (record_of (pruned_one ∷ []) i).fault ≡ None) refl;
+      accounted = λ i place v li. only_one (λ i. slice_get (record_of (pruned_one ∷ []) i).visits place ≡ Some v → Accounted pruning i (record_of (pruned_one ∷ []) i).held (record_of (pruned_one ∷ []) i).posted [] (record_of (pruned_one ∷ []) i).pruned place v) (accounted place v) i li;
       arrived = arrived;
-      posted = λ i j li. only_one (λ i. Posted bounded (of (rec (pruned_one ∷ []) i).posted j)) (posted j) i li;
-      totals = only_one (λ i. Totals (rec (pruned_one ∷ []) i).posted) totals;
-      pruned = λ i q li. only_one (λ i. Has (rec (pruned_one ∷ []) i).pruned q → (word_3 ≤ q.best) × Prunes pruning q.best q.node) (prunes q) i li;
+      posted = λ i j li. only_one (λ i. Posted bounded (of (record_of (pruned_one ∷ []) i).posted j)) (posted j) i li;
+      totals = only_one (λ i. Totals (record_of (pruned_one ∷ []) i).posted) totals;
+      pruned = λ i q li. only_one (λ i. Has (record_of (pruned_one ∷ []) i).pruned q → (word_3 ≤ q.best) × Prunes pruning q.best q.node) (prunes q) i li;
       layers = 2;
-      same_layers = only_one (λ i. length (rec (pruned_one ∷ []) i).rows ≡ 2) refl;
-      ended = λ i j li lj. only_one (λ i. (to_you : ℕ) × Has (of (rec (pruned_one ∷ []) i).posted j) (Mark i 2 to_you 0)) (only_one (λ j. (to_you : ℕ) × Has (of (one_letter ∷ []) j) (Mark 0 2 to_you 0)) (0, (2, refl)) j lj) i li;
-      held = λ i h li. only_one (λ i. (rec (pruned_one ∷ []) i).held ≡ Some h → IsHeld pruning i (rec (pruned_one ∷ []) i).visits h)
+      same_layers = only_one (λ i. length (record_of (pruned_one ∷ []) i).rows ≡ 2) refl;
+      ended = λ i j li lj. only_one (λ i. (to_you : ℕ) × Has (of (record_of (pruned_one ∷ []) i).posted j) (Mark i 2 to_you 0)) (only_one (λ j. (to_you : ℕ) × Has (of (one_letter ∷ []) j) (Mark 0 2 to_you 0)) (0, (2, refl)) j lj) i li;
+      held = λ i h li. only_one (λ i. (record_of (pruned_one ∷ []) i).held ≡ Some h → IsHeld pruning i (record_of (pruned_one ∷ []) i).visits h)
           (λ e. subst (IsHeld pruning 0 pruned_one.visits) (some_is (held (pos 11) 1 2) h e) (record { place = 1; visit = visit_of 1 f1; logged = refl; parent = refl; total = total_11 })) i li;
       is_best = best;
     }
   where
-    arrived : (i j : ℕ) → i < 1 → j < 1 → of (rec (pruned_one ∷ []) i).received j ≡ of (rec (pruned_one ∷ []) j).posted i
+    arrived : (i j : ℕ) → i < 1 → j < 1 → of (record_of (pruned_one ∷ []) i).received j ≡ of (record_of (pruned_one ∷ []) j).posted i
     arrived zero zero li lj = refl
     arrived (suc i) j li lj = absurd (one_shard i li)
     arrived zero (suc j) li lj = absurd (one_shard j lj)

@@ -7,7 +7,7 @@ use Rattle.dp_claims.specs.Enough.{Has}
 use Rattle.pass_ledger.specs.Letters.{of, InOrder}
 use Rattle.pass_ledger.specs.Passes.{CoversNode, Prunes}
 use Rattle.pass_ledger.specs.Rows.{Received, IsCovered, IsRow}
-use Rattle.pass_ledger.specs.Records.{step_id, unsent, visit_of, IsSuccessor, IsTotal, Accounted, Done, rec}
+use Rattle.pass_ledger.specs.Records.{step_id, unsent, visit_of, IsSuccessor, IsTotal, Accounted, Done, record_of}
 use Rattle.pass_ledger.specs.Events.{CanClose, CanVisit}
 use Rattle.pass_ledger.specs.Worlds.{World, Event, Runs, after}
 use Rattle.pass_ledger.specs.TwoWays.{at}
@@ -73,7 +73,7 @@ row_empty start received l = record { kept = λ n h. absurd (has_none n h); drop
 never_0 : (l : ℕ) → l + 1 ≡ 0 → ⊥
 never_0 l e = absurd (omega arith)
 
-close_0 : CanClose both (rec world_0.records 0) (row_of (n0 ∷ []) [])
+close_0 : CanClose both (record_of world_0.records 0) (row_of (n0 ∷ []) [])
 close_0 =
     record {
       fine = refl;
@@ -84,7 +84,7 @@ close_0 =
       covered = λ n got. covered_self (row_of (n0 ∷ []) []) n0 n (0, refl) (some_is n0 n got);
     }
 
-close_1 : CanClose both (rec world_0.records 1) (row_of [] [])
+close_1 : CanClose both (record_of world_0.records 1) (row_of [] [])
 close_1 =
     record { fine = refl; idle = refl; sent = refl; marked = λ l j e. absurd (never_0 l e); is_row = row_empty None ([] ∷ [] ∷ []) 0; covered = λ n got. absurd (none_is n got) }
 
@@ -114,7 +114,7 @@ accounted_0 t considered enabled =
 abbrev world_v : World
 world_v = after world_0 (Event.Close 0 (row_of (n0 ∷ []) []) ∷ Event.Close 1 (row_of [] []) ∷ Event.Look 0 n0 [] false ∷ Event.Draw 0 ∷ [])
 
-visit_0 : CanVisit both 0 (rec world_v.records 0) 0 n0 [] made [] None None
+visit_0 : CanVisit both 0 (record_of world_v.records 0) 0 n0 [] made [] None None
 visit_0 =
     record {
       fine = refl;
@@ -179,32 +179,32 @@ one_came m received y t is n got = came got.0 (subst (λ (ls : List (List Letter
     came (suc zero) h = absurd (not_both 1 1 1 1 0 0 n (sym (has_one (Mark 1 1 0 0) (State 1 1 n) h)))
     came (suc (suc j)) h = absurd (has_none (State (suc (suc j)) 1 n) h)
 
-close_layer_1 : CanClose both (rec world_c1.records 1) (row_of (n1 ∷ []) [])
+close_layer_1 : CanClose both (record_of world_c1.records 1) (row_of (n1 ∷ []) [])
 close_layer_1 =
     record {
       fine = refl;
       idle = refl;
       sent = refl;
-      marked = two_marks (rec world_c1.records 1).received 1 2 (1, refl) (0, refl);
-      is_row = row_single None (rec world_c1.records 1).received 1 n1 (0, lt_0, (0, refl));
-      covered = λ n got. covered_self (row_of (n1 ∷ []) []) n1 n (0, refl) (one_came n1 (rec world_c1.records 1).received 1 2 refl n got);
+      marked = two_marks (record_of world_c1.records 1).received 1 2 (1, refl) (0, refl);
+      is_row = row_single None (record_of world_c1.records 1).received 1 n1 (0, lt_0, (0, refl));
+      covered = λ n got. covered_self (row_of (n1 ∷ []) []) n1 n (0, refl) (one_came n1 (record_of world_c1.records 1).received 1 2 refl n got);
     }
 
-close_layer_0 : CanClose both (rec world_c0.records 0) (row_of (n2 ∷ []) [])
+close_layer_0 : CanClose both (record_of world_c0.records 0) (row_of (n2 ∷ []) [])
 close_layer_0 =
     record {
       fine = refl;
       idle = refl;
       sent = refl;
-      marked = two_marks (rec world_c0.records 0).received 1 2 (1, refl) (0, refl);
-      is_row = row_single (Some n0) (rec world_c0.records 0).received 1 n2 (0, lt_0, (0, refl));
-      covered = λ n got. covered_self (row_of (n2 ∷ []) []) n2 n (0, refl) (one_came n2 (rec world_c0.records 0).received 1 2 refl n got);
+      marked = two_marks (record_of world_c0.records 0).received 1 2 (1, refl) (0, refl);
+      is_row = row_single (Some n0) (record_of world_c0.records 0).received 1 n2 (0, lt_0, (0, refl));
+      covered = λ n got. covered_self (row_of (n2 ∷ []) []) n2 n (0, refl) (one_came n2 (record_of world_c0.records 0).received 1 2 refl n got);
     }
 
 held_is : (h k : Held) → Some h ≡ Some k → h ≡ k
 held_is h k e = some_is h k e
 
-visit_1 : CanVisit both 1 (rec world_v1.records 1) 1 n1 [] [] [] (Some (held_by (pos 11) 1 0 2)) None
+visit_1 : CanVisit both 1 (record_of world_v1.records 1) 1 n1 [] [] [] (Some (held_by (pos 11) 1 0 2)) None
 visit_1 =
     record {
       fine = refl;
@@ -219,7 +219,7 @@ visit_1 =
       met = λ f e. absurd (none_is f e);
     }
 
-visit_2 : CanVisit both 0 (rec world_v0.records 0) 1 n2 [] [] [] (Some (held_by (pos 3) 0 1 3)) None
+visit_2 : CanVisit both 0 (record_of world_v0.records 0) 1 n2 [] [] [] (Some (held_by (pos 3) 0 1 3)) None
 visit_2 =
     record {
       fine = refl;
@@ -250,23 +250,23 @@ by_shard P a b (suc (suc j)) lj = absurd (past j lj)
     past : (j : ℕ) → suc (suc j) < 2 → ⊥
     past j lt = absurd (omega arith)
 
-done_0 : Done both 0 (rec world_3.records 0)
+done_0 : Done both 0 (record_of world_3.records 0)
 done_0 =
     record {
       begun = zero-lt-suc 1;
       sent = refl;
-      posted = by_shard (λ j. (to_you : ℕ) × (total : ℕ) × Has (of (rec world_3.records 0).posted j) (Mark 0 2 to_you total)) (0, 0, (2, refl)) (0, 0, (2, refl));
-      ended = by_shard (λ j. (to_you : ℕ) × Has (of (rec world_3.records 0).received j) (Mark j 2 to_you 0)) (0, (2, refl)) (0, (1, refl));
+      posted = by_shard (λ j. (to_you : ℕ) × (total : ℕ) × Has (of (record_of world_3.records 0).posted j) (Mark 0 2 to_you total)) (0, 0, (2, refl)) (0, 0, (2, refl));
+      ended = by_shard (λ j. (to_you : ℕ) × Has (of (record_of world_3.records 0).received j) (Mark j 2 to_you 0)) (0, (2, refl)) (0, (1, refl));
     }
 
-done_1 : Done both 1 (rec world_3.records 1)
+done_1 : Done both 1 (record_of world_3.records 1)
 done_1 =
     record {
       begun = zero-lt-suc 1;
       sent = refl;
-      posted = by_shard (λ j. (to_you : ℕ) × (total : ℕ) × Has (of (rec world_3.records 1).posted j) (Mark 1 2 to_you total)) (0, 0, (1, refl)) (0, 0, (1, refl));
-      ended = by_shard (λ j. (to_you : ℕ) × Has (of (rec world_3.records 1).received j) (Mark j 2 to_you 0)) (0, (2, refl)) (0, (1, refl));
+      posted = by_shard (λ j. (to_you : ℕ) × (total : ℕ) × Has (of (record_of world_3.records 1).posted j) (Mark 1 2 to_you total)) (0, 0, (1, refl)) (0, 0, (1, refl));
+      ended = by_shard (λ j. (to_you : ℕ) × Has (of (record_of world_3.records 1).received j) (Mark j 2 to_you 0)) (0, (2, refl)) (0, (1, refl));
     }
 
 pub two_shards : LawTwoShards
-two_shards = (runs_0, runs_1, runs_2, by_shard (λ i. Done both i (rec world_3.records i)) done_0 done_1, refl, refl)
+two_shards = (runs_0, runs_1, runs_2, by_shard (λ i. Done both i (record_of world_3.records i)) done_0 done_1, refl, refl)

@@ -9,7 +9,7 @@ use Rattle.dp_claims.specs.Enough.{Has}
 use Rattle.dp_model.specs.declared.parts.PlainState.{PlainState}
 use Rattle.dp_claims.proofs.Covering.{reflexive}
 use Rattle.pass_ledger.specs.Passes.{word_of}
-use Rattle.pass_ledger.specs.Records.{step_id, visit_of, IsTotal, rec}
+use Rattle.pass_ledger.specs.Records.{step_id, visit_of, IsTotal, record_of}
 use Rattle.pass_ledger.specs.Ledgers.{Ledger, Closed}
 use Rattle.pass_ledger.specs.TwoWays.{at}
 use Rattle.pass_ledger.specs.Worked.{plain, alone, n0, n1, n2, held, first_pass, second_pass, word_11, word_3, no_word}
@@ -207,7 +207,7 @@ better_word closed =
       | inr h ↦ eleven (subst (λ (o : Option Held). o ≡ Some h.1) (held_of h.0 h.2) h.3) h.4
     ]
   where
-    held_of : (i : ℕ) → i < 1 → (rec (first_pass ∷ []) i).held ≡ Some (held (pos 11) 1 2)
+    held_of : (i : ℕ) → i < 1 → (record_of (first_pass ∷ []) i).held ≡ Some (held (pos 11) 1 2)
     held_of zero li = refl
     held_of (suc i) li = absurd (omega arith)
 

@@ -54,7 +54,7 @@ without_values t = record { transition = t; args = [] }
 abbrev pub AreBounds : List Num → Type 0
 AreBounds bounds = IsTrue (list_all (λ (n : Num). is_num [] variables [] n 0) bounds)
 
-typed_var : is_num [] variables [] (nums.Var 0) 0 ≡ true
+pub typed_var : is_num [] variables [] (nums.Var 0) 0 ≡ true
 unfolding nums.out-Num denote.Hole.Carrier.out
 typed_var = ap (λ (f : NumTest). f 0) (nums.fold_out-Num ArgTest CondTest NumTest SetTest arg_typed (cond_typed [] variables []) (num_typed variables []) (set_typed variables []) (nums.Var 0))
 

@@ -1,5 +1,6 @@
 ghost use Rattle.pass_ledger.specs.Worked.{LawBestWay, LawFirstPass, LawSecondPass};
 ghost use Rattle.pass_ledger.specs.WorkedEnough.{LawWorkedEnough};
+ghost use Rattle.pass_ledger.specs.WorkedFault.{LawWorkedFault};
 ghost use Rattle.pass_ledger.specs.WorkedFloors.{LawDropping, LawHonest, LawPruning};
 ghost use Rattle.pass_ledger.specs.WorkedRun.{LawTwoShards};
 ghost use Rattle.pass_ledger.specs.WorkedWrong.{LawWrong};
@@ -33,4 +34,9 @@ pub fn law_worked_wrong()
 /// Six visits are enough for the worked model, and five are not.
 pub fn law_worked_enough()
     ensures { LawWorkedEnough }
+{}
+
+/// A run of one shard over the worked model with a dual bound that has no value in one state meets that fault, and is halted.
+pub fn law_worked_fault()
+    ensures { LawWorkedFault }
 {}
