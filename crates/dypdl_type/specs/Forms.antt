@@ -1,5 +1,5 @@
 -- What the code finds of a word, of a list's head, and of an expression in a place before its operands are typed.
-use Rattle.std.specs.Prelude.{◌≡◌, ℕ, List, map, length, Option, None, Some, Result, Ok, Err, ⊤}
+use Rattle.std.specs.Prelude.{◌≡◌, ℕ, List, map, length, Option, None, Result, Ok, Err, ⊤}
 use Rattle.dp_base.specs.Results.{◌>>=◌, in_turn, Refuses}
 use Rattle.dp_model.specs.declared.trees.Compare.{Compare}
 use Rattle.dp_model.specs.declared.trees.Num.{Num}

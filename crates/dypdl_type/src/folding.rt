@@ -15,6 +15,35 @@ use crate::words::{Change, Connective};
 use dp_model::{Boxed, Cond, Num, NumOp, SetEx, SetOp};
 use std::alloc::{AllocError, Global};
 
+fn boxed_two<A: Drop, B: Drop>(
+    alloc: Global,
+    a: A,
+    b: B,
+) -> Result<(Boxed<A>, Boxed<B>), AllocError>
+    ensures first { IfOk result (λ p. p.0 ≡ a) }
+    ensures second { IfOk result (λ p. p.1 ≡ b) }
+{
+    let a = Boxed::new(alloc, a)?;
+    let b = Boxed::new(alloc, b)?;
+    Ok((a, b))
+}
+
+/// A condition, and what is chosen by it.
+fn boxed_three<C: Drop, T: Drop>(
+    alloc: Global,
+    c: C,
+    a: T,
+    b: T,
+) -> Result<(Boxed<C>, Boxed<T>, Boxed<T>), AllocError>
+    ensures condition { IfOk result (λ p. p.0 ≡ c) }
+    ensures first { IfOk result (λ p. p.1 ≡ a) }
+    ensures second { IfOk result (λ p. p.2 ≡ b) }
+{
+    let c = Boxed::new(alloc, c)?;
+    let (a, b) = boxed_two(alloc, a, b)?;
+    Ok((c, a, b))
+}
+
 pub(crate) fn folded_numbers(
     alloc: Global,
     op: NumOp,
@@ -25,7 +54,8 @@ pub(crate) fn folded_numbers(
 {
     let mut folded = first;
     for n in more {
-        folded = Num::Op(op, Boxed::new(alloc, folded)?, Boxed::new(alloc, n)?);
+        let (a, b) = boxed_two(alloc, folded, n)?;
+        folded = Num::Op(op, a, b);
     }
     Ok(folded)
 }
@@ -42,7 +72,8 @@ pub(crate) fn folded_sets(
 {
     let mut folded = first;
     for (_, set) in more {
-        folded = SetEx::Op(op, Boxed::new(alloc, folded)?, Boxed::new(alloc, set)?);
+        let (a, b) = boxed_two(alloc, folded, set)?;
+        folded = SetEx::Op(op, a, b);
     }
     Ok((object, folded))
 }
@@ -50,8 +81,7 @@ pub(crate) fn folded_sets(
 fn connect(alloc: Global, op: Connective, a: Cond, b: Cond) -> Result<Cond, TypeEnd>
     ensures { Answers told result (Ok (connect op a b)) }
 {
-    let a = Boxed::new(alloc, a)?;
-    let b = Boxed::new(alloc, b)?;
+    let (a, b) = boxed_two(alloc, a, b)?;
     Ok(match op {
         Connective::And => Cond::And(a, b),
         Connective::Or => Cond::Or(a, b),
@@ -83,20 +113,20 @@ pub(crate) fn changed_set(
 ) -> Result<(u32, SetEx), TypeEnd>
     ensures { Answers told result (Ok (object, changed_set change n set)) }
 {
-    let n = Boxed::new(alloc, n)?;
-    let set = Boxed::new(alloc, set)?;
-    Ok((object, match change {
-        Change::Add => SetEx::With(n, set),
-        Change::Remove => SetEx::Without(n, set),
-    }))
+    let (n, set) = boxed_two(alloc, n, set)?;
+    Ok((
+        object,
+        match change {
+            Change::Add => SetEx::With(n, set),
+            Change::Remove => SetEx::Without(n, set),
+        },
+    ))
 }
 
 pub(crate) fn chosen_number(alloc: Global, c: Cond, a: Num, b: Num) -> Result<Num, TypeEnd>
     ensures { Answers told result (Ok (num.If c a b)) }
 {
-    let c = Boxed::new(alloc, c)?;
-    let a = Boxed::new(alloc, a)?;
-    let b = Boxed::new(alloc, b)?;
+    let (c, a, b) = boxed_three(alloc, c, a, b)?;
     Ok(Num::If(c, a, b))
 }
 
@@ -110,25 +140,15 @@ pub(crate) fn chosen_set(
 ) -> Result<(u32, SetEx), TypeEnd>
     ensures { Answers told result (Ok (object, set.If c a b)) }
 {
-    let c = Boxed::new(alloc, c)?;
-    let a = Boxed::new(alloc, a)?;
-    let b = Boxed::new(alloc, b)?;
+    let (c, a, b) = boxed_three(alloc, c, a, b)?;
     Ok((object, SetEx::If(c, a, b)))
-}
-
-fn boxed_pair(alloc: Global, a: Cond, b: Cond) -> Result<(Boxed<Cond>, Boxed<Cond>), AllocError>
-    ensures { IfOk result (λ p. (p.0 ≡ a) × (p.1 ≡ b)) }
-{
-    let a = Boxed::new(alloc, a)?;
-    let b = Boxed::new(alloc, b)?;
-    Ok((a, b))
 }
 
 pub(crate) fn chosen_condition(alloc: Global, c: Cond, a: Cond, b: Cond) -> Result<Cond, TypeEnd>
     ensures { Answers told result (Ok (cond.If c a b)) }
 {
-    let (a, b) = boxed_pair(alloc, a, b)?;
-    Ok(Cond::If(Boxed::new(alloc, c)?, a, b))
+    let (c, a, b) = boxed_three(alloc, c, a, b)?;
+    Ok(Cond::If(c, a, b))
 }
 
 pub(crate) fn related(relation: SetRelation, a: SetEx, b: SetEx) -> Cond

@@ -164,10 +164,7 @@ fn number_list_form<'e>(
 
 /// What an expression is where a number is wanted.
 #[tactic(auto, unfolding(crate::specs::Typing::typing))]
-pub(crate) fn number_form<'e>(
-    scope: &'e Scope,
-    e: &'e Expr,
-) -> Result<NumberForm<'e>, TypeEnd>
+pub(crate) fn number_form<'e>(scope: &'e Scope, e: &'e Expr) -> Result<NumberForm<'e>, TypeEnd>
     ensures found { Finds (number_of scope.now) result (typing scope.now e.now).number }
     ensures matched { IfOk result IsMatched }
 {
@@ -249,7 +246,13 @@ pub(crate) fn members_form<'e>(
         Expr::Word(at, word) => Ok(MembersForm::Word(*at, word_form(scope, word.as_text()))),
         Expr::List(at, items) => match items.list().as_slice() {
             [Expr::Word(_, word), operands @ ..] => {
-                members_list_form(scope, *at, wanted, head_form(scope, word.as_text()), operands)
+                members_list_form(
+                    scope,
+                    *at,
+                    wanted,
+                    head_form(scope, word.as_text()),
+                    operands,
+                )
             }
             _ => Err(TypeEnd::WrongKind(*at)),
         },
@@ -259,12 +262,7 @@ pub(crate) fn members_form<'e>(
 
 /// A comparison: of two sets where the first operand of `=` or `!=` is of set kind, and else of two numbers.
 #[tactic(auto, unfolding(crate::specs::Typing::comparison_of))]
-fn comparison_form<'e>(
-    scope: &'e Scope,
-    op: Compare,
-    a: &'e Expr,
-    b: &'e Expr,
-) -> ConditionForm<'e>
+fn comparison_form<'e>(scope: &'e Scope, op: Compare, a: &'e Expr, b: &'e Expr) -> ConditionForm<'e>
     ensures { condition_of scope.now result ≡ comparison_of op (typing scope.now a.now) (typing scope.now b.now) }
 {
     match op {

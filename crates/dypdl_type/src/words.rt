@@ -3,7 +3,8 @@
 ghost use Rattle.std.specs.Prelude.{◌≡◌, ◌<◌, Bool, IsTrue, length};
 ghost use Rattle.std.specs.Str.{all_ascii_digits};
 ghost use Rattle.std.specs.Str.Parse.{without_leading_sign, signed_digits_value};
-ghost use Rattle.dypdl_type.specs.Words.{begins_number, number_in_range, is_cost, meaning, operator_named, is_left_out, head_of, is_reserved};
+ghost use Rattle.dypdl_type.specs.Scopes.{name_in, param_in};
+ghost use Rattle.dypdl_type.specs.Words.{begins_number, number_in_range, number_meaning, is_cost, name_meaning, meaning, operator_named, is_left_out, head_of, is_reserved};
 ghost use Rattle.dypdl_type.specs.Forms.{meaning_seen, head_seen};
 
 use crate::scope::{Named, Scope, Shape};
@@ -116,27 +117,43 @@ pub(crate) fn is_cost(word: &str) -> bool
     word == "cost"
 }
 
+/// What a word that begins as a number stands for.
+#[tactic(auto, unfolding(crate::specs::Words::number_meaning, crate::specs::Words::begins_number))]
+fn number_form(word: &str) -> WordForm<'static>
+    requires { IsTrue (begins_number word.now) }
+    ensures { meaning_seen result ≡ number_meaning word.now }
+{
+    if are_digits(unsigned(word.as_bytes())) {
+        WordForm::Whole(whole_number(word))
+    } else {
+        WordForm::Continuous
+    }
+}
+
+/// What a word stands for as the name of a parameter, a variable or a table.
+fn name_form<'s>(scope: &'s Scope, word: &str) -> WordForm<'s>
+    ensures { meaning_seen result ≡ name_meaning (param_in scope.now word.now) (name_in scope.now word.now) }
+{
+    match (scope.param(word), scope.name(word)) {
+        (Some(p), _) => WordForm::Param(p),
+        (None, Some(name)) => WordForm::Name(name),
+        (None, None) => WordForm::Unknown,
+    }
+}
+
 /// What a word stands for in a scope where an expression is wanted.
-#[tactic(auto, unfolding(crate::specs::Words::meaning, crate::specs::Words::number_meaning, crate::specs::Words::begins_number, crate::specs::Words::is_cost))]
+#[tactic(auto, unfolding(crate::specs::Words::meaning, crate::specs::Words::is_cost))]
 pub(crate) fn word_form<'s>(scope: &'s Scope, word: &str) -> WordForm<'s>
     ensures { meaning_seen result ≡ meaning scope.now word.now }
 {
     if begins_number(word) {
-        return if are_digits(unsigned(word.as_bytes())) {
-            WordForm::Whole(whole_number(word))
-        } else {
-            WordForm::Continuous
-        };
+        return number_form(word);
     }
     match word {
         "cost" => WordForm::Cost,
         "true" => WordForm::Truth(true),
         "false" => WordForm::Truth(false),
-        _ => match (scope.param(word), scope.name(word)) {
-            (Some(p), _) => WordForm::Param(p),
-            (None, Some(name)) => WordForm::Name(name),
-            (None, None) => WordForm::Unknown,
-        },
+        _ => name_form(scope, word),
     }
 }
 
@@ -212,7 +229,5 @@ pub(crate) fn head_form<'s>(scope: &'s Scope, word: &str) -> HeadForm<'s>
 pub fn is_reserved(word: &str) -> bool
     ensures { result ≡ is_reserved word.now }
 {
-    operator_named(word).is_some()
-        || matches!(word, "cost" | "true" | "false")
-        || is_left_out(word)
+    operator_named(word).is_some() || matches!(word, "cost" | "true" | "false") || is_left_out(word)
 }
