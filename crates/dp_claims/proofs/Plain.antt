@@ -13,11 +13,11 @@ use Rattle.dp_model.specs.declared.parts.Variable.{Variable}
 use Rattle.dp_model.specs.declared.parts.PlainValue.{PlainValue}
 use Rattle.dp_model.specs.declared.parts.PlainState.{PlainState}
 
-not_better_self : (minimize : Bool) (a : ℤ) → IsBetter minimize a a → ⊥
+pub not_better_self : (minimize : Bool) (a : ℤ) → IsBetter minimize a a → ⊥
 not_better_self true a h = absurd (omega (arith, ints))
 not_better_self false a h = absurd (omega (arith, ints))
 
-same_values : (vs : List Variable) (xs ys : List PlainValue) → ((i : ℕ) (v : Variable) → slice_get vs i ≡ Some v → v.preference ≡ Without) → DominatesIn vs xs ys → xs ≡ ys
+pub same_values : (vs : List Variable) (xs ys : List PlainValue) → ((i : ℕ) (v : Variable) → slice_get vs i ≡ Some v → v.preference ≡ Without) → DominatesIn vs xs ys → xs ≡ ys
 same_values [] xs ys plain h = h
 same_values (v ∷ vs) [] ys plain h = h
 same_values (v ∷ vs) (x ∷ xs) [] plain h = absurd h
@@ -29,7 +29,7 @@ same_values (v ∷ vs) (x ∷ xs) (y ∷ ys) plain h =
 no_bounds : (bounds : List Num) (i : ℕ) (e : Num) → bounds ≡ [] → slice_get bounds i ≡ Some e → ⊥
 no_bounds bounds i e none at = let clash : None ≡ Some e = sym (ap (λ (bs : List Num). slice_get bs i) none) ∙ at in cc
 
-same_state : (s s' : PlainState) → s.values ≡ s'.values → s' ≡ s
+pub same_state : (s s' : PlainState) → s.values ≡ s'.values → s' ≡ s
 same_state s s' e = ap with_values (sym e)
   where
     with_values : List PlainValue → PlainState

@@ -13,11 +13,11 @@ use Rattle.dp_claims.specs.Enough.{Has}
 use Rattle.dp_model.specs.declared.parts.PlainState.{PlainState}
 use Rattle.pass_ledger.specs.Passes.{Pass, word_of, StartsInner, CoversNode}
 use Rattle.pass_ledger.specs.Rows.{row, Received, IsCovered}
-use Rattle.pass_ledger.specs.Records.{IsTotal, Reaches, LeadsOut, IsPruned, visit_of, Starts, rec}
+use Rattle.pass_ledger.specs.Records.{IsTotal, Reaches, LeadsOut, IsPruned, visit_of, Starts, record_of}
 use Rattle.pass_ledger.specs.Ledgers.{Ledger, Closed, NoneBelow, LawClosed}
-use Rattle.pass_ledger.specs.declared.nodes.Node.{Node}
-use Rattle.pass_ledger.specs.declared.nodes.Letter.{Letter}
-use Rattle.pass_ledger.specs.declared.nodes.Letter.TheVariants.{State}
+use Rattle.state_layout.specs.declared.node.Node.{Node}
+use Rattle.pass_ledger.specs.declared.mail.Letter.{Letter}
+use Rattle.pass_ledger.specs.declared.mail.Letter.TheVariants.{State}
 use Rattle.pass_ledger.specs.declared.records.Held.{Held}
 use Rattle.pass_ledger.specs.declared.records.LedgerRow.{LedgerRow}
 use Rattle.pass_ledger.specs.declared.records.ShardRecord.{ShardRecord}
@@ -28,15 +28,15 @@ use Rattle.pass_ledger.proofs.Paths.{Rooted, known, started, paths, reached, rea
 use Rattle.pass_ledger.proofs.Trust.{Fair, fair, IsReached}
 
 -- what the proof takes of a ledger: it is closed, and it rests on paths
-pub record Shut (p : Pass) (recs : List ShardRecord) (opening best : ℕ) : Type 0 where
+pub record Shut (p : Pass) (records : List ShardRecord) (opening best : ℕ) : Type 0 where
   pub inner : StartsInner p
   pub fair : Fair p
-  pub rooted : Rooted p recs
-  pub dropped : (i l : ℕ) (n : Node) → i < p.shards → Has (row (rec recs i).rows l).dropped n → Received p (rec recs i).start (rec recs i).received l n
-  pub closed : Closed p recs opening best
+  pub rooted : Rooted p records
+  pub dropped : (i l : ℕ) (n : Node) → i < p.shards → Has (row (record_of records i).rows l).dropped n → Received p (record_of records i).start (record_of records i).received l n
+  pub closed : Closed p records opening best
 
-pub closed_rooted : (p : Pass) (recs : List ShardRecord) (opening best : ℕ) → Ledger p recs → Closed p recs opening best → Rooted p recs
-closed_rooted p recs opening best ledger closed =
+pub closed_rooted : (p : Pass) (records : List ShardRecord) (opening best : ℕ) → Ledger p records → Closed p records opening best → Rooted p records
+closed_rooted p records opening best ledger closed =
     record {
       start = closed.target;
       kept = λ i l n li k. (ledger.rows i l li).kept n k;
@@ -50,18 +50,18 @@ held_reaches p None total r = absurd r
 held_reaches p (Some h) total r = (h, refl, r)
 
 -- a total that what is held reaches is no better than the best word
-no_better : (p : Pass) (recs : List ShardRecord) (opening best : ℕ) → Closed p recs opening best → (i : ℕ) → i < p.shards → (total : ℤ) → Reaches p (rec recs i).held total → pos best ≤ℤ word_of p total
-no_better p recs opening best closed i li total r =
-    let h = held_reaches p (rec recs i).held total r in
+no_better : (p : Pass) (records : List ShardRecord) (opening best : ℕ) → Closed p records opening best → (i : ℕ) → i < p.shards → (total : ℤ) → Reaches p (record_of records i).held total → pos best ≤ℤ word_of p total
+no_better p records opening best closed i li total r =
+    let h = held_reaches p (record_of records i).held total r in
     least_trans (pos best) (word_of p h.0.cost) (word_of p total) (closed.is_best.held_above i h.0 li h.1) h.2
 
 pos_mono : (a b : ℕ) → a ≤ b → pos a ≤ℤ pos b
 pos_mono a b h = omega (arith, ints)
 
 -- a pruned node has no completion that is better than the best word
-pruned_bound : (p : Pass) (recs : List ShardRecord) (opening best : ℕ) → Fair p → Closed p recs opening best → (i : ℕ) → i < p.shards → (n : Node) → IsReached p.model n.state → IfSome n.cost InRange → IsFloor p.model p.prune n.state n.cost n.floor
-    → IsPruned (rec recs i).pruned n → (steps : List ℕ) (value : ℤ) → Completion p.model n.state steps value → pos best ≤ℤ word_of p (join_onto p.model.join n.cost value)
-pruned_bound p recs opening best fair closed i li n reach range floor pruned steps value done =
+pruned_bound : (p : Pass) (records : List ShardRecord) (opening best : ℕ) → Fair p → Closed p records opening best → (i : ℕ) → i < p.shards → (n : Node) → IsReached p.model n.state → IfSome n.cost InRange → IsFloor p.model p.prune n.state n.cost n.floor
+    → IsPruned (record_of records i).pruned n → (steps : List ℕ) (value : ℤ) → Completion p.model n.state steps value → pos best ≤ℤ word_of p (join_onto p.model.join n.cost value)
+pruned_bound p records opening best fair closed i li n reach range floor pruned steps value done =
     let h = closed.pruned i (record { node = n; best = pruned.0 }) li pruned.1 in
     let f = h.1 in
     let is = subst (IsFloor p.model p.prune n.state n.cost) f.1 floor in
@@ -92,18 +92,18 @@ to_base p n t mid w step (t' ∷ steps) rest done total is =
     absurd (inner_not_base p.model is.next is.base (subst (Inner p.model) same.1 done.3.inner) is.is_base)
 
 -- a step from a visited node: what it leads to is no better than the best word, or was received for the next layer
-by_step : (p : Pass) (recs : List ShardRecord) (opening best : ℕ) (least : ℤ) → Shut p recs opening best → least ≤ℤ pos best → (i place l : ℕ) (n : Node) → i < p.shards → Received p (rec recs i).start (rec recs i).received l n
-    → slice_get (rec recs i).visits place ≡ Some (visit_of l n)
+by_step : (p : Pass) (records : List ShardRecord) (opening best : ℕ) (least : ℤ) → Shut p records opening best → least ≤ℤ pos best → (i place l : ℕ) (n : Node) → i < p.shards → Received p (record_of records i).start (record_of records i).received l n
+    → slice_get (record_of records i).visits place ≡ Some (visit_of l n)
     → (t : ℕ) (mid : PlainState) (w : Option ℤ) → Step p.model n.state t w mid → (steps : List ℕ) (rest : ℤ) → Completion p.model mid steps rest
-    → ((j : ℕ) (m : Node) → j < p.shards → Received p (rec recs j).start (rec recs j).received (suc l) m → (u : List ℕ) (v : ℤ) → Completion p.model m.state u v → least ≤ℤ word_of p (join_onto p.model.join m.cost v))
+    → ((j : ℕ) (m : Node) → j < p.shards → Received p (record_of records j).start (record_of records j).received (suc l) m → (u : List ℕ) (v : ℤ) → Completion p.model m.state u v → least ≤ℤ word_of p (join_onto p.model.join m.cost v))
     → least ≤ℤ Worth p n w rest
-by_step p recs opening best least shut below i place l n li got at t mid w step steps rest done on =
+by_step p records opening best least shut below i place l n li got at t mid w step steps rest done on =
     elim (shut.closed.accounted i place (visit_of l n) li at t step.considered (step_enabled p.model n.state t w mid step)) [
       | inl out ↦ absurd (leads_out p n t mid w step steps rest done out)
       | inr other ↦ elim other [
         | inl base ↦
             let same = to_base p n t mid w step steps rest done base.0 base.1 in
-            subst (λ (v : ℤ). least ≤ℤ word_of p v) (sym same) (least_trans least (pos best) (word_of p base.0) below (no_better p recs opening best shut.closed i li base.0 base.2))
+            subst (λ (v : ℤ). least ≤ℤ word_of p v) (sym same) (least_trans least (pos best) (word_of p base.0) below (no_better p records opening best shut.closed i li base.0 base.2))
         | inr next ↦
             let m = next.0 in
             let x = next.1 in
@@ -113,9 +113,9 @@ by_step p recs opening best least shut below i place l n li got at t mid w step 
             let worth : least ≤ℤ word_of p (join_onto p.model.join m.cost rest) =
             elim next.2 [
               | inl pruned ↦
-                  let u = paths p recs shut.rooted l i n li got in
+                  let u = paths p records shut.rooted l i n li got in
                   least_trans least (pos best) (word_of p (join_onto p.model.join m.cost rest)) below
-                  (pruned_bound p recs opening best shut.fair shut.closed i li m (reached_more p i place n t m (reverse u.back) u.path x) x.in_range x.floor pruned steps rest done')
+                  (pruned_bound p records opening best shut.fair shut.closed i li m (reached_more p i place n t m (reverse u.back) u.path x) x.in_range x.floor pruned steps rest done')
               | inr sent ↦ elim sent [
                 | inl posted ↦
                     let j = p.owner m.state in
@@ -129,20 +129,20 @@ by_step p recs opening best least shut below i place l n li got at t mid w step 
     ]
 
 -- what a visited node's completion is worth
-by_steps : (p : Pass) (recs : List ShardRecord) (opening best : ℕ) (least : ℤ) → Shut p recs opening best → least ≤ℤ pos best → (i place l : ℕ) (n : Node) → i < p.shards → Received p (rec recs i).start (rec recs i).received l n
-    → slice_get (rec recs i).visits place ≡ Some (visit_of l n)
-    → ((j : ℕ) (m : Node) → j < p.shards → Received p (rec recs j).start (rec recs j).received (suc l) m → (u : List ℕ) (v : ℤ) → Completion p.model m.state u v → least ≤ℤ word_of p (join_onto p.model.join m.cost v))
+by_steps : (p : Pass) (records : List ShardRecord) (opening best : ℕ) (least : ℤ) → Shut p records opening best → least ≤ℤ pos best → (i place l : ℕ) (n : Node) → i < p.shards → Received p (record_of records i).start (record_of records i).received l n
+    → slice_get (record_of records i).visits place ≡ Some (visit_of l n)
+    → ((j : ℕ) (m : Node) → j < p.shards → Received p (record_of records j).start (record_of records j).received (suc l) m → (u : List ℕ) (v : ℤ) → Completion p.model m.state u v → least ≤ℤ word_of p (join_onto p.model.join m.cost v))
     → (steps : List ℕ) (value : ℤ) → Completion p.model n.state steps value → least ≤ℤ word_of p (join_onto p.model.join n.cost value)
-by_steps p recs opening best least shut below i place l n li got at on [] value done =
-    absurd (inner_not_base p.model n.state value (known p recs shut.inner shut.rooted i l n li got).inner done)
-by_steps p recs opening best least shut below i place l n li got at on (t ∷ steps) value done =
-    let h = by_step p recs opening best least shut below i place l n li got at t done.0 done.1 done.3 steps done.2 done.4 on in
+by_steps p records opening best least shut below i place l n li got at on [] value done =
+    absurd (inner_not_base p.model n.state value (known p records shut.inner shut.rooted i l n li got).inner done)
+by_steps p records opening best least shut below i place l n li got at on (t ∷ steps) value done =
+    let h = by_step p records opening best least shut below i place l n li got at t done.0 done.1 done.3 steps done.2 done.4 on in
     let e : join_onto p.model.join (join p.model.join n.cost done.1) done.2 ≡ join_onto p.model.join n.cost value = assoc p.model.join n.cost done.1 done.2 ∙ ap (join_onto p.model.join n.cost) (sym done.5) in
     subst (λ (v : ℤ). least ≤ℤ word_of p v) e h
 
 -- each dropped node has a floor that is no less than the value
 abbrev DropsAbove : Pass → List ShardRecord → ℤ → Type 0
-DropsAbove p recs least = (i l : ℕ) (n : Node) → i < p.shards → Has (row (rec recs i).rows l).dropped n → (f : ℤ) × (n.floor ≡ Some f) × (least ≤ℤ word_of p f)
+DropsAbove p records least = (i l : ℕ) (n : Node) → i < p.shards → Has (row (record_of records i).rows l).dropped n → (f : ℤ) × (n.floor ≡ Some f) × (least ≤ℤ word_of p f)
 
 none_beyond : (p : Pass) (rows : List LedgerRow) (l : ℕ) (n : Node) → length rows ≤ l → IsCovered p (row rows l) n → ⊥
 none_beyond p rows l n le c =
@@ -153,44 +153,44 @@ none_beyond p rows l n le c =
     ]
 
 -- completions of a node that covers another are no worse
-covering : (p : Pass) (recs : List ShardRecord) (opening best : ℕ) (least : ℤ) (shut : Shut p recs opening best) → (i l : ℕ) (n c : Node) → i < p.shards → Received p (rec recs i).start (rec recs i).received l n → Received p (rec recs i).start (rec recs i).received l c
+covering : (p : Pass) (records : List ShardRecord) (opening best : ℕ) (least : ℤ) (shut : Shut p records opening best) → (i l : ℕ) (n c : Node) → i < p.shards → Received p (record_of records i).start (record_of records i).received l n → Received p (record_of records i).start (record_of records i).received l c
     → CoversNode p c n → ((u : List ℕ) (v : ℤ) → Completion p.model c.state u v → least ≤ℤ word_of p (join_onto p.model.join c.cost v))
     → (steps : List ℕ) (value : ℤ) → Completion p.model n.state steps value → least ≤ℤ word_of p (join_onto p.model.join n.cost value)
-covering p recs opening best least shut i l n c li got got' covers bound steps value done =
-    let d = shut.fair.better c.state n.state (reached p recs shut.inner shut.rooted i l c li got') (reached p recs shut.inner shut.rooted i l n li got) covers.0 steps value done in
-    let range = (known p recs shut.inner shut.rooted i l c li got').in_range in
-    let range' = (known p recs shut.inner shut.rooted i l n li got).in_range in
+covering p records opening best least shut i l n c li got got' covers bound steps value done =
+    let d = shut.fair.better c.state n.state (reached p records shut.inner shut.rooted i l c li got') (reached p records shut.inner shut.rooted i l n li got) covers.0 steps value done in
+    let range = (known p records shut.inner shut.rooted i l c li got').in_range in
+    let range' = (known p records shut.inner shut.rooted i l n li got).in_range in
     least_trans least (word_of p (join_onto p.model.join c.cost d.1)) (word_of p (join_onto p.model.join n.cost value)) (bound d.0 d.1 d.2)
     (isotone p.model.minimize p.model.join c.cost n.cost d.1 value range range' covers.1 d.3)
 
-from_layer : (p : Pass) (recs : List ShardRecord) (opening best : ℕ) (least : ℤ) (shut : Shut p recs opening best) → least ≤ℤ pos best → DropsAbove p recs least → (k l : ℕ) → l + k ≡ shut.closed.layers
-    → (i : ℕ) (n : Node) → i < p.shards → Received p (rec recs i).start (rec recs i).received l n → (steps : List ℕ) (value : ℤ) → Completion p.model n.state steps value → least ≤ℤ word_of p (join_onto p.model.join n.cost value)
-from_layer p recs opening best least shut below above zero l at i n li got steps value done =
+from_layer : (p : Pass) (records : List ShardRecord) (opening best : ℕ) (least : ℤ) (shut : Shut p records opening best) → least ≤ℤ pos best → DropsAbove p records least → (k l : ℕ) → l + k ≡ shut.closed.layers
+    → (i : ℕ) (n : Node) → i < p.shards → Received p (record_of records i).start (record_of records i).received l n → (steps : List ℕ) (value : ℤ) → Completion p.model n.state steps value → least ≤ℤ word_of p (join_onto p.model.join n.cost value)
+from_layer p records opening best least shut below above zero l at i n li got steps value done =
     let long = shut.closed.same_layers i li in
-    absurd (none_beyond p (rec recs i).rows l n (at_most l (length (rec recs i).rows) shut.closed.layers at long) (shut.closed.covered i l n li got))
+    absurd (none_beyond p (record_of records i).rows l n (at_most l (length (record_of records i).rows) shut.closed.layers at long) (shut.closed.covered i l n li got))
   where
     at_most : (l a b : ℕ) → l + 0 ≡ b → a ≡ b → a ≤ l
     at_most l a b e f = omega arith
-from_layer p recs opening best least shut below above (suc k) l at i n li got steps value done =
+from_layer p records opening best least shut below above (suc k) l at i n li got steps value done =
     let c = shut.closed.covered i l n li got in
     elim c.1 [
       | inl kept ↦
           let got' = shut.rooted.kept i l c.0 li kept in
-          covering p recs opening best least shut i l n c.0 li got got' c.2
+          covering p records opening best least shut i l n c.0 li got got' c.2
           (λ u v done'. elim (shut.closed.fates i l c.0 li kept) [
             | inl pruned ↦
-                let facts = known p recs shut.inner shut.rooted i l c.0 li got' in
+                let facts = known p records shut.inner shut.rooted i l c.0 li got' in
                 least_trans least (pos best) (word_of p (join_onto p.model.join c.0.cost v)) below
-                (pruned_bound p recs opening best shut.fair shut.closed i li c.0 (reached p recs shut.inner shut.rooted i l c.0 li got') facts.in_range facts.floor pruned u v done')
-            | inr visited ↦ by_steps p recs opening best least shut below i visited.0 l c.0 li got' visited.1 (λ j m lj on. from_layer p recs opening best least shut below above k (suc l) (next l k shut.closed.layers at) j m lj on) u v done'
+                (pruned_bound p records opening best shut.fair shut.closed i li c.0 (reached p records shut.inner shut.rooted i l c.0 li got') facts.in_range facts.floor pruned u v done')
+            | inr visited ↦ by_steps p records opening best least shut below i visited.0 l c.0 li got' visited.1 (λ j m lj on. from_layer p records opening best least shut below above k (suc l) (next l k shut.closed.layers at) j m lj on) u v done'
           ]) steps value done
       | inr dropped ↦
           let got' = shut.dropped i l c.0 li dropped in
-          let facts = known p recs shut.inner shut.rooted i l c.0 li got' in
+          let facts = known p records shut.inner shut.rooted i l c.0 li got' in
           let f = above i l c.0 li dropped in
-          covering p recs opening best least shut i l n c.0 li got got' c.2
+          covering p records opening best least shut i l n c.0 li got got' c.2
           (λ u v done'. least_trans least (word_of p f.0) (word_of p (join_onto p.model.join c.0.cost v)) f.2
-          (shut.fair.floors c.0.state c.0.cost f.0 (reached p recs shut.inner shut.rooted i l c.0 li got') facts.in_range (subst (IsFloor p.model p.prune c.0.state c.0.cost) f.1 facts.floor) u v done')) steps value done
+          (shut.fair.floors c.0.state c.0.cost f.0 (reached p records shut.inner shut.rooted i l c.0 li got') facts.in_range (subst (IsFloor p.model p.prune c.0.state c.0.cost) f.1 facts.floor) u v done')) steps value done
     ]
   where
     next : (l k b : ℕ) → l + suc k ≡ b → suc l + k ≡ b
@@ -201,15 +201,15 @@ target_received : (p : Pass) (i : ℕ) (start : Option Node) → Starts p i star
 target_received p i None s own = absurd (s own)
 target_received p i (Some n) s own = (n, refl)
 
-none_below : (p : Pass) (recs : List ShardRecord) (opening best : ℕ) (least : ℤ) → Shut p recs opening best → least ≤ℤ pos best → DropsAbove p recs least → NoneBelow p least
-none_below p recs opening best least shut below above steps cost solution =
+none_below : (p : Pass) (records : List ShardRecord) (opening best : ℕ) (least : ℤ) → Shut p records opening best → least ≤ℤ pos best → DropsAbove p records least → NoneBelow p least
+none_below p records opening best least shut below above steps cost solution =
     let i = p.owner p.model.target in
     let li = p.owned p.model.target in
     let start = shut.closed.target i li in
-    let n = target_received p i (rec recs i).start start refl in
-    let is = (started p i (rec recs i).start n.0 start n.1).0 in
+    let n = target_received p i (record_of records i).start start refl in
+    let is = (started p i (record_of records i).start n.0 start n.1).0 in
     let done = subst (λ (s : PlainState). Completion p.model s steps cost) (sym is.state) solution.completes in
-    let h = from_layer p recs opening best least shut below above shut.closed.layers 0 (from_zero shut.closed.layers) i n.0 li n.1 steps cost done in
+    let h = from_layer p records opening best least shut below above shut.closed.layers 0 (from_zero shut.closed.layers) i n.0 li n.1 steps cost done in
     subst (λ (c : Option ℤ). least ≤ℤ word_of p (join_onto p.model.join c cost)) is.cost h
   where
     from_zero : (k : ℕ) → 0 + k ≡ k
@@ -225,17 +225,17 @@ min_right : (a b c : ℤ) → b ≤ℤ c → int_min a b ≤ℤ c
 min_right a b c h = omega (arith, ints, clamps)
 
 pub law : LawClosed
-law p recs opening best inner trusted ledger closed =
-    let shut : Shut p recs opening best = record {
+law p records opening best inner trusted ledger closed =
+    let shut : Shut p records opening best = record {
       inner = inner;
       fair = fair p trusted;
-      rooted = closed_rooted p recs opening best ledger closed;
+      rooted = closed_rooted p records opening best ledger closed;
       dropped = λ i l n li d. (ledger.rows i l li).dropped n d;
       closed = closed;
     } in (
-      λ none. none_below p recs opening best (pos best) shut (self (pos best)) (λ i l n li d. absurd (none i l n li d)),
+      λ none. none_below p records opening best (pos best) shut (self (pos best)) (λ i l n li d. absurd (none i l n li d)),
       λ floor floors steps cost solution x y.
           both (pos best) (word_of p floor) (word_of p cost)
-          (none_below p recs opening best (int_min (pos best) (word_of p floor)) shut (min_left (pos best) (word_of p floor))
+          (none_below p records opening best (int_min (pos best) (word_of p floor)) shut (min_left (pos best) (word_of p floor))
           (λ i l n li d. (let f = floors i l n li d in (f.0, f.1, min_right (pos best) (word_of p floor) (word_of p f.0) f.2))) steps cost solution) x y,
     )

@@ -10,13 +10,13 @@ use Rattle.dp_claims.specs.Enough.{Has}
 use Rattle.dp_model.specs.declared.whole.Model.{Model}
 use Rattle.pass_ledger.specs.Letters.{of, Posted}
 use Rattle.pass_ledger.specs.Passes.{Pass, word_of, IsStart}
-use Rattle.pass_ledger.specs.Records.{rec, Starts, Own, Together}
+use Rattle.pass_ledger.specs.Records.{record_of, Starts, Own, Together}
 use Rattle.pass_ledger.specs.Events.{take, close, prune, visit, post}
 use Rattle.pass_ledger.specs.Ledgers.{IsBest, AllDone}
 use Rattle.pass_ledger.specs.Worlds.{World, Seat, Turn, Event, seat, happens, IsOffered, IsFree, Raises, Allowed, Runs, after, start_of, fresh, opened, offers, least_offer, is_draw, draws, IsRaised, LawRuns}
-use Rattle.pass_ledger.specs.declared.nodes.Node.{Node}
-use Rattle.pass_ledger.specs.declared.nodes.Letter.{Letter}
-use Rattle.pass_ledger.specs.declared.nodes.Letter.TheVariants.{State, Mark}
+use Rattle.state_layout.specs.declared.node.Node.{Node}
+use Rattle.pass_ledger.specs.declared.mail.Letter.{Letter}
+use Rattle.pass_ledger.specs.declared.mail.Letter.TheVariants.{State, Mark}
 use Rattle.pass_ledger.specs.declared.records.Held.{Held}
 use Rattle.pass_ledger.specs.declared.records.FaultHere.{FaultHere}
 use Rattle.pass_ledger.specs.declared.records.ShardRecord.{ShardRecord}
@@ -39,7 +39,7 @@ record Caused (p : Pass) (w : World) : Type 0 where
   pub causes : (w.cause ≡ 0) ⊎ IsRaisedBy p w
 
 -- a shard's cause stays
-raises_more : (w w' : World) (i cause : ℕ) → (seat w i).late ≤ (seat w' i).late → ((f : FaultHere) → (rec w.records i).fault ≡ Some f → (rec w'.records i).fault ≡ Some f) → Raises w i cause → Raises w' i cause
+raises_more : (w w' : World) (i cause : ℕ) → (seat w i).late ≤ (seat w' i).late → ((f : FaultHere) → (record_of w.records i).fault ≡ Some f → (record_of w'.records i).fault ≡ Some f) → Raises w i cause → Raises w' i cause
 raises_more w w' i cause le on (inl h) = inl (h.0, more (seat w i).late (seat w' i).late h.1 le)
   where
     more : (a b : ℕ) → 0 < a → a ≤ b → 0 < b
@@ -50,7 +50,7 @@ raises_more w w' i cause le on (inr (inr h)) = inr (inr (h.0, h.1, on h.1 h.2))
 at_most : (a : ℕ) → a ≤ a
 at_most a = omega arith
 
-caused_record : (p : Pass) (opening : ℕ) (w : World) → Good p opening w → Caused p w → (i : ℕ) → i < p.shards → (r : ShardRecord) (mail : List (List Letter)) → ((f : FaultHere) → (rec w.records i).fault ≡ Some f → r.fault ≡ Some f)
+caused_record : (p : Pass) (opening : ℕ) (w : World) → Good p opening w → Caused p w → (i : ℕ) → i < p.shards → (r : ShardRecord) (mail : List (List Letter)) → ((f : FaultHere) → (record_of w.records i).fault ≡ Some f → r.fault ≡ Some f)
     → Caused p (record w { records = slice_set w.records i r; mail = mail })
 caused_record p opening w good c i li r mail on =
     record {
@@ -61,7 +61,7 @@ caused_record p opening w good c i li r mail on =
           h.0,
           h.1,
           raises_more w (record w { records = slice_set w.records i r; mail = mail }) h.0 w.cause (at_most (seat w h.0).late)
-              (set_each (λ k (q : ShardRecord). (f : FaultHere) → (rec w.records k).fault ≡ Some f → q.fault ≡ Some f) w.records _ i r p.shards good.sizes.0 li on (λ k lk f e. e) h.0 h.1) h.2,
+              (set_each (λ k (q : ShardRecord). (f : FaultHere) → (record_of w.records k).fault ≡ Some f → q.fault ≡ Some f) w.records _ i r p.shards good.sizes.0 li on (λ k lk f e. e) h.0 h.1) h.2,
         )
       ];
     }
@@ -128,10 +128,10 @@ fault_stays : (old new : Option FaultHere) → old ≡ None → (f : FaultHere) 
 fault_stays old new none f e = let clash : None ≡ Some f = sym none ∙ e in absurd (cc)
 
 kept_caused : (p : Pass) (opening : ℕ) (w : World) → Good p opening w → Caused p w → (e : Event) → Allowed p w e → Caused p (happens w e)
-kept_caused p opening w good c (Event.Take i x rest) can = caused_record p opening w good c i can.0 (take (rec w.records i) x) (slice_set w.mail i rest) (λ f e. e)
-kept_caused p opening w good c (Event.Close i new) can = caused_record p opening w good c i can.0 (close (rec w.records i) new) w.mail (λ f e. e)
+kept_caused p opening w good c (Event.Take i x rest) can = caused_record p opening w good c i can.0 (take (record_of w.records i) x) (slice_set w.mail i rest) (λ f e. e)
+kept_caused p opening w good c (Event.Close i new) can = caused_record p opening w good c i can.0 (close (record_of w.records i) new) w.mail (λ f e. e)
 kept_caused p opening w good c (Event.Look i n rest true) can =
-    let first = caused_record p opening w good c i can.0 (prune (rec w.records i) n rest w.best) w.mail (λ f e. e) in
+    let first = caused_record p opening w good c i can.0 (prune (record_of w.records i) n rest w.best) w.mail (λ f e. e) in
     let late = same_part (λ (x : Seat). x.late) w.seats _ i (record (seat w i) { looked = w.best; turn = Turn.Idle }) p.shards good.sizes.2 can.0 refl in
     record {
       lates = λ k lk h. first.lates k lk (subst (λ (n : ℕ). 0 < n) (late k lk) h);
@@ -140,7 +140,7 @@ kept_caused p opening w good c (Event.Look i n rest true) can =
         | inr h ↦ inr (
           h.0,
           h.1,
-          raises_more (record w { records = slice_set w.records i (prune (rec w.records i) n rest w.best) }) (happens w (Event.Look i n rest true)) h.0 w.cause
+          raises_more (record w { records = slice_set w.records i (prune (record_of w.records i) n rest w.best) }) (happens w (Event.Look i n rest true)) h.0 w.cause
               (subst (λ (n : ℕ). (seat w h.0).late ≤ n) (sym (late h.0 h.1)) (at_most (seat w h.0).late)) (λ f e. e) h.2,
         )
       ];
@@ -148,8 +148,8 @@ kept_caused p opening w good c (Event.Look i n rest true) can =
 kept_caused p opening w good c (Event.Look i n rest false) can = caused_seat p opening w good c i can.0 (record (seat w i) { looked = w.best; turn = Turn.Looked }) w.best refl
 kept_caused p opening w good c (Event.Draw i) can = caused_draw p opening w good c i can.0
 kept_caused p opening w good c (Event.Visit i l n rest made prunes held fault) can =
-    let r = visit (rec w.records i) l n rest made prunes held fault in
-    let first = caused_record p opening w good c i can.0 r w.mail (fault_stays (rec w.records i).fault fault can.3.fine) in
+    let r = visit (record_of w.records i) l n rest made prunes held fault in
+    let first = caused_record p opening w good c i can.0 r w.mail (fault_stays (record_of w.records i).fault fault can.3.fine) in
     let late = same_part (λ (x : Seat). x.late) w.seats _ i (record (seat w i) { turn = Turn.Idle }) p.shards good.sizes.2 can.0 refl in
     record {
       lates = λ k lk h. first.lates k lk (subst (λ (n : ℕ). 0 < n) (late k lk) h);
@@ -164,7 +164,7 @@ kept_caused p opening w good c (Event.Visit i l n rest made prunes held fault) c
       ];
     }
 kept_caused p opening w good c (Event.Offer i word) can = caused_seat p opening w good c i can.0 (record (seat w i) { offered = Some word }) (min w.best word) refl
-kept_caused p opening w good c (Event.Post i to x rest) can = caused_record p opening w good c i can.0 (post (rec w.records i) to x rest) (happens w (Event.Post i to x rest)).mail (λ f e. e)
+kept_caused p opening w good c (Event.Post i to x rest) can = caused_record p opening w good c i can.0 (post (record_of w.records i) to x rest) (happens w (Event.Post i to x rest)).mail (λ f e. e)
 kept_caused p opening w good c (Event.Halt i cause) can = caused_halt p w c i cause can.0 can.1
 kept_caused p opening w good c (Event.Seen i) can = c
 
@@ -303,13 +303,13 @@ good_opened p start budget opening drawn is =
       offered_above = λ i word li e. absurd (none_offered word (subst (λ (s : Seat). s.offered ≡ Some word) (seated i li) e));
       is_one = inl refl;
       kept = λ i li word e. absurd (none_offered word (subst (λ (s : Seat). s.offered ≡ Some word) (seated i li) e));
-      freed = λ i li j f y t h. absurd (no_letter p.shards j (Mark f (length (rec (opened p start budget opening drawn).records i).rows) y t) (subst (λ (r : ShardRecord). Has (of r.posted j) (Mark f (length (rec (opened p start budget opening drawn).records i).rows) y t)) (at i li) h));
+      freed = λ i li j f y t h. absurd (no_letter p.shards j (Mark f (length (record_of (opened p start budget opening drawn).records i).rows) y t) (subst (λ (r : ShardRecord). Has (of r.posted j) (Mark f (length (record_of (opened p start budget opening drawn).records i).rows) y t)) (at i li) h));
     }
   where
     first : Seat
     first = record { looked = opening; turn = Turn.Idle; offered = None; late = 0 }
 
-    at : (i : ℕ) → i < p.shards → rec (opened p start budget opening drawn).records i ≡ fresh p.shards (start_of p start i)
+    at : (i : ℕ) → i < p.shards → record_of (opened p start budget opening drawn).records i ≡ fresh p.shards (start_of p start i)
     at i li = get_or-map-range_with_len (λ i. fresh p.shards (start_of p start i)) 0 p.shards i i _ li (zero_plus i)
       where
         zero_plus : (a : ℕ) → 0 + a ≡ a

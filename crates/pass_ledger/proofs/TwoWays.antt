@@ -1,30 +1,28 @@
 -- What the expressions of the worked model stand for, and where its transitions lead.
-use Rattle.std.proofs.Common.{◌≡◌, ℕ, zero, suc, Bool, true, false, List, [], ◌∷◌, slice_get, ◌⊎◌, inl, inr, Option, Some, None, Result, Ok, Err, refl, sym, ap, subst, ◌∙◌}
+use Rattle.std.proofs.Common.{◌≡◌, ℕ, zero, suc, Bool, true, false, List, [], ◌∷◌, ◌⊎◌, inl, inr, Option, Some, None, Result, Ok, refl, sym, ap, ◌∙◌}
 use Rattle.std.specs.Prelude.{ℤ, pos, IsTrue, if◌then◌else◌}
 use Rattle.std.specs.Ordering.{int_eq}
 use denote.Hole.Carrier
-use Rattle.dp_base.specs.Results.{◌>>=◌, in_turn}
+use Rattle.dp_base.specs.Results.{◌>>=◌}
 use Rattle.dp_model.specs.Evaluation.{num_value, cond_value, number_in, ArgValue, CondValue, NumValue, SetValue, arg_step, cond_step, num_step, set_step}
 use Rattle.dp_model.specs.Limits.{has_most}
 use Rattle.dp_model.specs.StepTexts.{ground_of}
-use Rattle.dp_steps.specs.States.{Allowed, Base, Considered, Enabled, Inner, IsForced, Step, all_true, case_cost, case_costs, is_enabled, weight_of, effect_value, next_state}
+use Rattle.dp_steps.specs.States.{Base, Considered, Enabled, Inner, IsForced, Step, all_true, is_enabled, weight_of, next_state}
 use Rattle.dp_model.specs.declared.answers.FaultKind.{FaultKind}
 use Rattle.dp_model.specs.declared.trees.Num.{Num}
 use Rattle.dp_model.specs.declared.trees.Num as nums
 use Rattle.dp_model.specs.declared.trees.Cond.{Cond}
 use Rattle.dp_model.specs.declared.trees.Cond as conds
 use Rattle.dp_model.specs.declared.trees.Compare.TheVariants as comparisons
-use Rattle.dp_model.specs.declared.parts.BaseCase.{BaseCase}
-use Rattle.dp_model.specs.declared.parts.Effect.{Effect}
 use Rattle.dp_model.specs.declared.parts.Transition.{Transition}
 use Rattle.dp_model.specs.declared.parts.PlainState.{PlainState}
 use Rattle.dp_model.specs.declared.whole.Model.{Model}
-use Rattle.pass_ledger.specs.TwoWays.{at, is_at, way, ways, ends, AreBounds, two_ways}
+use Rattle.pass_ledger.specs.TwoWays.{at, is_at, way, AreBounds, two_ways}
 
 -- ---- expressions, in any model
 
 module _ (m : Model) (s : PlainState) (given : List ℕ) where
-  value_var : (v : ℕ) → num_value m s (nums.Var v) given ≡ Ok (number_in s v)
+  pub value_var : (v : ℕ) → num_value m s (nums.Var v) given ≡ Ok (number_in s v)
   unfolding nums.out-Num denote.Hole.Carrier.out
   value_var v = ap (λ (f : NumValue). f given) (nums.fold_out-Num ArgValue CondValue NumValue SetValue arg_step (cond_step m s) (num_step m s) (set_step m s) (nums.Var v))
 

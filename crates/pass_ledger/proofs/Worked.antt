@@ -1,27 +1,24 @@
 -- The worked ledgers are closed.
-use Rattle.std.proofs.Common.{◌≡◌, ℕ, ◌+◌, ◌<◌, ◌≤◌, zero, suc, false, ◌⊎◌, inl, inr, List, [], ◌∷◌, ◌++◌, slice_get, length, Option, Some, None, refl, sym, ap, subst, ◌∙◌, arith}
-use Rattle.std.specs.Prelude.{ℤ, pos, ◌≤ℤ◌, IfSome}
+use Rattle.std.proofs.Common.{◌≡◌, ℕ, ◌+◌, ◌<◌, ◌≤◌, zero, suc, false, ◌⊎◌, inl, inr, List, [], ◌∷◌, slice_get, length, Option, Some, None, refl, sym, ap, subst, ◌∙◌, arith}
+use Rattle.std.specs.Prelude.{pos, ◌≤ℤ◌}
 use Rattle.std.proofs.lemmas.Int.{ints}
 use Rattle.dp_model.specs.Costs.{InRange}
-use Rattle.dp_steps.specs.States.{Enabled, Considered, Step}
 use Rattle.dp_claims.specs.Enough.{Has, Different}
 use Rattle.dp_model.specs.declared.parts.PlainValue.TheVariants.{Number}
 use Rattle.dp_model.specs.declared.parts.PlainState.{PlainState}
 use Rattle.pass_ledger.specs.Letters.{of, InOrder, Posted, all_told_at}
-use Rattle.pass_ledger.specs.Passes.{Pass, word_of, CoversNode, IsStart, Prunes}
+use Rattle.pass_ledger.specs.Passes.{word_of, CoversNode, IsStart, Prunes}
 use Rattle.pass_ledger.specs.Rows.{row, Received, IsCovered, Apart, IsRow}
-use Rattle.pass_ledger.specs.Records.{step_id, visit_of, IsSuccessor, IsTotal, Accounted, IsPruned, Made, IsHeld, Starts, rec}
-use Rattle.pass_ledger.specs.Ledgers.{Ledger, Closed, Totals, IsBest, NoneBelow}
+use Rattle.pass_ledger.specs.Records.{visit_of, IsSuccessor, IsTotal, Accounted, IsPruned, Made, IsHeld, Starts, record_of}
+use Rattle.pass_ledger.specs.Ledgers.{Ledger, Closed, Totals, IsBest}
 use Rattle.pass_ledger.specs.TwoWays.{at}
-use Rattle.pass_ledger.specs.Worked.{plain, alone, node, n0, n1, n2, letters, held, row_of, first_pass, second_pass, word_11, word_3, no_word, LawFirstPass, LawSecondPass, LawBestWay}
-use Rattle.pass_ledger.specs.declared.nodes.Node.{Node}
-use Rattle.pass_ledger.specs.declared.nodes.Letter.{Letter}
-use Rattle.pass_ledger.specs.declared.nodes.Letter.TheVariants.{State, Mark}
+use Rattle.pass_ledger.specs.Worked.{plain, alone, n0, n1, n2, letters, held, row_of, first_pass, second_pass, word_11, word_3, no_word, LawFirstPass, LawSecondPass, LawBestWay}
+use Rattle.state_layout.specs.declared.node.Node.{Node}
+use Rattle.pass_ledger.specs.declared.mail.Letter.TheVariants.{State, Mark}
 use Rattle.pass_ledger.specs.declared.records.PrunedAt.{PrunedAt}
 use Rattle.pass_ledger.specs.declared.records.Visit.{Visit}
 use Rattle.pass_ledger.specs.declared.records.Held.{Held}
 use Rattle.pass_ledger.specs.declared.records.LedgerRow.{LedgerRow}
-use Rattle.pass_ledger.specs.declared.records.ShardRecord.{ShardRecord}
 use Rattle.dp_claims.proofs.Covering.{reflexive}
 use Rattle.pass_ledger.proofs.Lists.{has_none, has_head}
 use Rattle.pass_ledger.proofs.Steps.{empty_row}
@@ -74,7 +71,7 @@ is_mark f l y t h =
       ]
     ]
 
-one_shard : (i : ℕ) → suc i < 1 → ⊥
+pub one_shard : (i : ℕ) → suc i < 1 → ⊥
 one_shard i lt = absurd (omega arith)
 
 -- what the shard received
@@ -89,15 +86,15 @@ received_is share (suc l) n (suc j, lj, h) = absurd (one_shard j lj)
 got_1 : (share : ℕ) (n : Node) → Has letters (State 0 1 n) → Received (alone share) (Some n0) (letters ∷ []) 1 n
 got_1 share n h = (0, (alone share).owned (at 0), h)
 
-at_apart : at 1 ≡ at 2 → ⊥
+pub at_apart : at 1 ≡ at 2 → ⊥
 at_apart e = let values : Number (pos 1) ∷ [] ≡ Number (pos 2) ∷ [] = ap (λ (s : PlainState). s.values) e in cc
 
 -- ---- nodes and steps
 
-in_range : (n : ℕ) → n ≤ 4611686018427387903 → InRange (pos n)
+pub in_range : (n : ℕ) → n ≤ 4611686018427387903 → InRange (pos n)
 in_range n le = (omega (arith, ints, le), omega (arith, ints, le))
 
-small : (n : ℕ) → n ≤ 20 → n ≤ 4611686018427387903
+pub small : (n : ℕ) → n ≤ 20 → n ≤ 4611686018427387903
 small n le = omega arith
 
 start_is : (share : ℕ) → IsStart (alone share) n0
@@ -119,11 +116,11 @@ total_3 : (share : ℕ) → IsTotal (alone share) n2 3 (pos 3)
 total_3 share =
     record { weight = Some (pos 1); next = at 3; base = pos 0; step = d_step [] refl refl; is_base = base_at [] refl refl; cost_in_range = in_range 3 (small 3 (omega arith)); in_range = in_range 3 (small 3 (omega arith)); is = refl }
 
-n1_in_order : InOrder plain n1
-n1_in_order = record { state = refl; inner = inner_at [] refl refl 1 refl; cost = in_range 1 (small 1 (omega arith)); floor = tt }
+pub n1_in_order : InOrder plain n1
+n1_in_order = record { is_node = record { state = refl; cost = in_range 1 (small 1 (omega arith)); floor = tt }; inner = inner_at [] refl refl 1 refl; floor = tt }
 
-n2_in_order : InOrder plain n2
-n2_in_order = record { state = refl; inner = inner_at [] refl refl 2 refl; cost = in_range 2 (small 2 (omega arith)); floor = tt }
+pub n2_in_order : InOrder plain n2
+n2_in_order = record { is_node = record { state = refl; cost = in_range 2 (small 2 (omega arith)); floor = tt }; inner = inner_at [] refl refl 2 refl; floor = tt }
 
 -- ---- rows
 
@@ -269,7 +266,7 @@ first_accounted zero v e = subst (Accounted (alone 1) 0 first_pass.held (letters
 first_accounted (suc zero) v e = subst (Accounted (alone 1) 0 first_pass.held (letters ∷ []) [] [] 1) (some_is (visit_of 1 n1) v e) (accounted_1 1 (held (pos 11) 1 2) 1 (omega (arith, ints)))
 first_accounted (suc (suc place)) v e = absurd (none_is v e)
 
-layers_differ : (n m : Node) → visit_of 0 n ≡ visit_of 1 m → ⊥
+pub layers_differ : (n m : Node) → visit_of 0 n ≡ visit_of 1 m → ⊥
 layers_differ n m e = zero_one (ap (λ (v : Visit). v.layer) e)
   where
     zero_one : ◌≡◌ {A = ℕ} 0 1 → ⊥
@@ -281,19 +278,19 @@ first_once = (λ h. layers_differ n0 n1 (sym (has_one (visit_of 1 n1) (visit_of 
 first_ledger : Ledger (alone 1) (first_pass ∷ [])
 first_ledger = record { shards = refl; rows = rows; visits = visits; once = once_only }
   where
-    rows : (i l : ℕ) → i < 1 → IsRow (alone 1) (rec (first_pass ∷ []) i).start (rec (first_pass ∷ []) i).received l (row (rec (first_pass ∷ []) i).rows l)
+    rows : (i l : ℕ) → i < 1 → IsRow (alone 1) (record_of (first_pass ∷ []) i).start (record_of (first_pass ∷ []) i).received l (row (record_of (first_pass ∷ []) i).rows l)
     rows zero l li = first_rows l
     rows (suc i) l li = absurd (one_shard i li)
 
-    visits : (i : ℕ) (v : Visit) → i < 1 → Has (rec (first_pass ∷ []) i).visits v → Has (row (rec (first_pass ∷ []) i).rows v.layer).kept v.node
+    visits : (i : ℕ) (v : Visit) → i < 1 → Has (record_of (first_pass ∷ []) i).visits v → Has (row (record_of (first_pass ∷ []) i).rows v.layer).kept v.node
     visits zero v li h = first_visits v h
     visits (suc i) v li h = absurd (one_shard i li)
 
-    once_only : (i : ℕ) → i < 1 → Different (rec (first_pass ∷ []) i).visits
+    once_only : (i : ℕ) → i < 1 → Different (record_of (first_pass ∷ []) i).visits
     once_only zero li = first_once
     once_only (suc i) li = absurd (one_shard i li)
 
-only_one : (P : ℕ → Type 0) → P 0 → (i : ℕ) → i < 1 → P i
+pub only_one : (P : ℕ → Type 0) → P 0 → (i : ℕ) → i < 1 → P i
 only_one P h zero li = h
 only_one P h (suc i) li = absurd (one_shard i li)
 
@@ -314,35 +311,146 @@ first_best =
       is_one = inr (0, held (pos 11) 1 2, (alone 1).owned (at 0), refl, refl);
     }
   where
-    above : (i : ℕ) (h : Held) → i < 1 → (rec (first_pass ∷ []) i).held ≡ Some h → pos word_11 ≤ℤ word_of (alone 1) h.cost
+    above : (i : ℕ) (h : Held) → i < 1 → (record_of (first_pass ∷ []) i).held ≡ Some h → pos word_11 ≤ℤ word_of (alone 1) h.cost
     above zero h li e = subst (λ (x : Held). pos word_11 ≤ℤ word_of (alone 1) x.cost) (some_is (held (pos 11) 1 2) h e) (omega (arith, ints))
     above (suc i) h li e = absurd (one_shard i li)
 
 first_closed : Closed (alone 1) (first_pass ∷ []) no_word word_11
 first_closed =
     record {
-      target = only_one (λ i. Starts (alone 1) i (rec (first_pass ∷ []) i).start) (starts 1);
-      covered = λ i l n li. only_one (λ i. Received (alone 1) (rec (first_pass ∷ []) i).start (rec (first_pass ∷ []) i).received l n → IsCovered (alone 1) (row (rec (first_pass ∷ []) i).rows l) n) (first_covered l n) i li;
-      made = λ i j f l n li. only_one (λ i. Has (of (rec (first_pass ∷ []) i).posted j) (State f l n) → (f ≡ i) × Made (alone 1) i (rec (first_pass ∷ []) i).visits j l n) (made 1 first_pass.visits refl j f l n) i li;
-      once = λ i j a b f l n li. only_one (λ i. slice_get (of (rec (first_pass ∷ []) i).posted j) a ≡ Some (State f l n) → slice_get (of (rec (first_pass ∷ []) i).posted j) b ≡ Some (State f l n) → a ≡ b) (once j a b f l n) i li;
-      fates = λ i l n li. only_one (λ i. Has (row (rec (first_pass ∷ []) i).rows l).kept n → IsPruned (rec (first_pass ∷ []) i).pruned n ⊎ Has (rec (first_pass ∷ []) i).visits (visit_of l n)) (first_fates l n) i li;
-      fine = only_one (λ i. (rec (first_pass ∷ []) i).fault ≡ None) refl;
-      accounted = λ i place v li. only_one (λ i. slice_get (rec (first_pass ∷ []) i).visits place ≡ Some v → Accounted (alone 1) i (rec (first_pass ∷ []) i).held (rec (first_pass ∷ []) i).posted [] (rec (first_pass ∷ []) i).pruned place v) (first_accounted place v) i li;
+      target = only_one (λ i. Starts (alone 1) i (record_of (first_pass ∷ []) i).start) (starts 1);
+      covered = λ i l n li. only_one (λ i. Received (alone 1) (record_of (first_pass ∷ []) i).start (record_of (first_pass ∷ []) i).received l n → IsCovered (alone 1) (row (record_of (first_pass ∷ []) i).rows l) n) (first_covered l n) i li;
+      made = λ i j f l n li. only_one (λ i. Has (of (record_of (first_pass ∷ []) i).posted j) (State f l n) → (f ≡ i) × Made (alone 1) i (record_of (first_pass ∷ []) i).visits j l n) (made 1 first_pass.visits refl j f l n) i li;
+      once = λ i j a b f l n li. only_one (λ i. slice_get (of (record_of (first_pass ∷ []) i).posted j) a ≡ Some (State f l n) → slice_get (of (record_of (first_pass ∷ []) i).posted j) b ≡ Some (State f l n) → a ≡ b) (once j a b f l n) i li;
+      fates = λ i l n li. only_one (λ i. Has (row (record_of (first_pass ∷ []) i).rows l).kept n → IsPruned (record_of (first_pass ∷ []) i).pruned n ⊎ Has (record_of (first_pass ∷ []) i).visits (visit_of l n)) (first_fates l n) i li;
+      fine = only_one (λ i. (record_of (first_pass ∷ []) i).fault ≡ None) refl;
+      accounted = λ i place v li. only_one (λ i. slice_get (record_of (first_pass ∷ []) i).visits place ≡ Some v → Accounted (alone 1) i (record_of (first_pass ∷ []) i).held (record_of (first_pass ∷ []) i).posted [] (record_of (first_pass ∷ []) i).pruned place v) (first_accounted place v) i li;
       arrived = arrived;
-      posted = λ i j li. only_one (λ i. Posted plain (of (rec (first_pass ∷ []) i).posted j)) (all_posted j) i li;
-      totals = only_one (λ i. Totals (rec (first_pass ∷ []) i).posted) totals;
-      pruned = λ i q li. only_one (λ i. Has (rec (first_pass ∷ []) i).pruned q → (word_11 ≤ q.best) × Prunes (alone 1) q.best q.node) (λ h. absurd (has_none q h)) i li;
+      posted = λ i j li. only_one (λ i. Posted plain (of (record_of (first_pass ∷ []) i).posted j)) (all_posted j) i li;
+      totals = only_one (λ i. Totals (record_of (first_pass ∷ []) i).posted) totals;
+      pruned = λ i q li. only_one (λ i. Has (record_of (first_pass ∷ []) i).pruned q → (word_11 ≤ q.best) × Prunes (alone 1) q.best q.node) (λ h. absurd (has_none q h)) i li;
       layers = 2;
-      same_layers = only_one (λ i. length (rec (first_pass ∷ []) i).rows ≡ 2) refl;
-      ended = λ i j li lj. only_one (λ i. (to_you : ℕ) × Has (of (rec (first_pass ∷ []) i).posted j) (Mark i 2 to_you 0)) (only_one (λ j. (to_you : ℕ) × Has (of (letters ∷ []) j) (Mark 0 2 to_you 0)) (0, (3, refl)) j lj) i li;
-      held = λ i h li. only_one (λ i. (rec (first_pass ∷ []) i).held ≡ Some h → IsHeld (alone 1) i (rec (first_pass ∷ []) i).visits h) (λ e. subst (IsHeld (alone 1) 0 first_pass.visits) (some_is (held (pos 11) 1 2) h e) (held_11 1)) i li;
+      same_layers = only_one (λ i. length (record_of (first_pass ∷ []) i).rows ≡ 2) refl;
+      ended = λ i j li lj. only_one (λ i. (to_you : ℕ) × Has (of (record_of (first_pass ∷ []) i).posted j) (Mark i 2 to_you 0)) (only_one (λ j. (to_you : ℕ) × Has (of (letters ∷ []) j) (Mark 0 2 to_you 0)) (0, (3, refl)) j lj) i li;
+      held = λ i h li. only_one (λ i. (record_of (first_pass ∷ []) i).held ≡ Some h → IsHeld (alone 1) i (record_of (first_pass ∷ []) i).visits h) (λ e. subst (IsHeld (alone 1) 0 first_pass.visits) (some_is (held (pos 11) 1 2) h e) (held_11 1)) i li;
       is_best = first_best;
     }
   where
-    arrived : (i j : ℕ) → i < 1 → j < 1 → of (rec (first_pass ∷ []) i).received j ≡ of (rec (first_pass ∷ []) j).posted i
+    arrived : (i j : ℕ) → i < 1 → j < 1 → of (record_of (first_pass ∷ []) i).received j ≡ of (record_of (first_pass ∷ []) j).posted i
     arrived zero zero li lj = refl
     arrived (suc i) j li lj = absurd (one_shard i li)
     arrived zero (suc j) li lj = absurd (one_shard j lj)
 
 pub first_law : LawFirstPass
 first_law = (first_ledger, first_closed, refl)
+
+-- ---- the second pass
+
+second_rows : (l : ℕ) → IsRow (alone 2) (Some n0) (letters ∷ []) l (row second_pass.rows l)
+second_rows zero = row_0 2 (omega arith)
+second_rows (suc zero) = row_both
+second_rows (suc (suc l)) = empty_row (alone 2) (Some n0) (letters ∷ []) (suc (suc l))
+
+second_covered : (l : ℕ) (n : Node) → Received (alone 2) (Some n0) (letters ∷ []) l n → IsCovered (alone 2) (row second_pass.rows l) n
+second_covered l n got =
+    elim (received_is 2 l n got) [
+      | inl a ↦ subst (λ (x : ℕ). IsCovered (alone 2) (row second_pass.rows x) n) a.0 (covered_self 2 (row_of (n0 ∷ []) []) n0 n (inl (0, refl)) a.1)
+      | inr b ↦ subst (λ (x : ℕ). IsCovered (alone 2) (row second_pass.rows x) n) b.0 (elim b.1 [
+        | inl e ↦ covered_self 2 (row_of (n1 ∷ n2 ∷ []) []) n1 n (inl (0, refl)) e
+        | inr e ↦ covered_self 2 (row_of (n1 ∷ n2 ∷ []) []) n2 n (inl (1, refl)) e
+      ])
+    ]
+
+second_fates : (l : ℕ) (n : Node) → Has (row second_pass.rows l).kept n → IsPruned [] n ⊎ Has second_pass.visits (visit_of l n)
+second_fates zero n h = inr (0, ap (λ (m : Node). Some (visit_of 0 m)) (has_one n0 n h))
+second_fates (suc zero) n h =
+    elim (has_two n1 n2 n h) [ inl e ↦ inr (1, ap (λ (m : Node). Some (visit_of 1 m)) e) | inr e ↦ inr (2, ap (λ (m : Node). Some (visit_of 1 m)) e) ]
+second_fates (suc (suc l)) n h = absurd (has_none n h)
+
+second_visits : (v : Visit) → Has second_pass.visits v → Has (row second_pass.rows v.layer).kept v.node
+second_visits v h =
+    elim (has_head (visit_of 0 n0) (visit_of 1 n1 ∷ visit_of 1 n2 ∷ []) v h) [
+      | inl e ↦ subst (λ (x : Visit). Has (row second_pass.rows x.layer).kept x.node) e (0, refl)
+      | inr t ↦ elim (has_two (visit_of 1 n1) (visit_of 1 n2) v t) [
+        | inl e ↦ subst (λ (x : Visit). Has (row second_pass.rows x.layer).kept x.node) e (0, refl)
+        | inr e ↦ subst (λ (x : Visit). Has (row second_pass.rows x.layer).kept x.node) e (1, refl)
+      ]
+    ]
+
+second_accounted : (place : ℕ) (v : Visit) → slice_get second_pass.visits place ≡ Some v → Accounted (alone 2) 0 second_pass.held (letters ∷ []) [] [] place v
+second_accounted zero v e = subst (Accounted (alone 2) 0 second_pass.held (letters ∷ []) [] [] 0) (some_is (visit_of 0 n0) v e) (accounted_0 2 second_pass.held [])
+second_accounted (suc zero) v e = subst (Accounted (alone 2) 0 second_pass.held (letters ∷ []) [] [] 1) (some_is (visit_of 1 n1) v e) (accounted_1 2 (held (pos 3) 2 3) 1 (omega (arith, ints)))
+second_accounted (suc (suc zero)) v e = subst (Accounted (alone 2) 0 second_pass.held (letters ∷ []) [] [] 2) (some_is (visit_of 1 n2) v e) (accounted_2 2 (held (pos 3) 2 3) 2 (omega (arith, ints)))
+second_accounted (suc (suc (suc place))) v e = absurd (none_is v e)
+
+second_once : Different second_pass.visits
+second_once = (
+  λ h. elim (has_two (visit_of 1 n1) (visit_of 1 n2) (visit_of 0 n0) h) [ inl e ↦ layers_differ n0 n1 (sym e) | inr e ↦ layers_differ n0 n2 (sym e) ],
+  (λ h. n1_not_n2 n1 refl (ap (λ (v : Visit). v.node) (has_one (visit_of 1 n2) (visit_of 1 n1) h)), (λ h. has_none (visit_of 1 n2) h, tt)),
+)
+
+second_ledger : Ledger (alone 2) (second_pass ∷ [])
+second_ledger = record { shards = refl; rows = rows; visits = visits; once = once_only }
+  where
+    rows : (i l : ℕ) → i < 1 → IsRow (alone 2) (record_of (second_pass ∷ []) i).start (record_of (second_pass ∷ []) i).received l (row (record_of (second_pass ∷ []) i).rows l)
+    rows zero l li = second_rows l
+    rows (suc i) l li = absurd (one_shard i li)
+
+    visits : (i : ℕ) (v : Visit) → i < 1 → Has (record_of (second_pass ∷ []) i).visits v → Has (row (record_of (second_pass ∷ []) i).rows v.layer).kept v.node
+    visits zero v li h = second_visits v h
+    visits (suc i) v li h = absurd (one_shard i li)
+
+    once_only : (i : ℕ) → i < 1 → Different (record_of (second_pass ∷ []) i).visits
+    once_only zero li = second_once
+    once_only (suc i) li = absurd (one_shard i li)
+
+second_best : IsBest (alone 2) (second_pass ∷ []) word_11 word_3
+second_best =
+    record {
+      opening_above = omega arith;
+      held_above = above;
+      is_one = inr (0, held (pos 3) 2 3, (alone 2).owned (at 0), refl, refl);
+    }
+  where
+    above : (i : ℕ) (h : Held) → i < 1 → (record_of (second_pass ∷ []) i).held ≡ Some h → pos word_3 ≤ℤ word_of (alone 2) h.cost
+    above zero h li e = subst (λ (x : Held). pos word_3 ≤ℤ word_of (alone 2) x.cost) (some_is (held (pos 3) 2 3) h e) (omega (arith, ints))
+    above (suc i) h li e = absurd (one_shard i li)
+
+second_closed : Closed (alone 2) (second_pass ∷ []) word_11 word_3
+second_closed =
+    record {
+      target = only_one (λ i. Starts (alone 2) i (record_of (second_pass ∷ []) i).start) (starts 2);
+      covered = λ i l n li. only_one (λ i. Received (alone 2) (record_of (second_pass ∷ []) i).start (record_of (second_pass ∷ []) i).received l n → IsCovered (alone 2) (row (record_of (second_pass ∷ []) i).rows l) n) (second_covered l n) i li;
+      made = λ i j f l n li. only_one (λ i. Has (of (record_of (second_pass ∷ []) i).posted j) (State f l n) → (f ≡ i) × Made (alone 2) i (record_of (second_pass ∷ []) i).visits j l n) (made 2 second_pass.visits refl j f l n) i li;
+      once = λ i j a b f l n li. only_one (λ i. slice_get (of (record_of (second_pass ∷ []) i).posted j) a ≡ Some (State f l n) → slice_get (of (record_of (second_pass ∷ []) i).posted j) b ≡ Some (State f l n) → a ≡ b) (once j a b f l n) i li;
+      fates = λ i l n li. only_one (λ i. Has (row (record_of (second_pass ∷ []) i).rows l).kept n → IsPruned (record_of (second_pass ∷ []) i).pruned n ⊎ Has (record_of (second_pass ∷ []) i).visits (visit_of l n)) (second_fates l n) i li;
+      fine = only_one (λ i. (record_of (second_pass ∷ []) i).fault ≡ None) refl;
+      accounted = λ i place v li. only_one (λ i. slice_get (record_of (second_pass ∷ []) i).visits place ≡ Some v → Accounted (alone 2) i (record_of (second_pass ∷ []) i).held (record_of (second_pass ∷ []) i).posted [] (record_of (second_pass ∷ []) i).pruned place v) (second_accounted place v) i li;
+      arrived = arrived;
+      posted = λ i j li. only_one (λ i. Posted plain (of (record_of (second_pass ∷ []) i).posted j)) (all_posted j) i li;
+      totals = only_one (λ i. Totals (record_of (second_pass ∷ []) i).posted) totals;
+      pruned = λ i q li. only_one (λ i. Has (record_of (second_pass ∷ []) i).pruned q → (word_3 ≤ q.best) × Prunes (alone 2) q.best q.node) (λ h. absurd (has_none q h)) i li;
+      layers = 2;
+      same_layers = only_one (λ i. length (record_of (second_pass ∷ []) i).rows ≡ 2) refl;
+      ended = λ i j li lj. only_one (λ i. (to_you : ℕ) × Has (of (record_of (second_pass ∷ []) i).posted j) (Mark i 2 to_you 0)) (only_one (λ j. (to_you : ℕ) × Has (of (letters ∷ []) j) (Mark 0 2 to_you 0)) (0, (3, refl)) j lj) i li;
+      held = λ i h li. only_one (λ i. (record_of (second_pass ∷ []) i).held ≡ Some h → IsHeld (alone 2) i (record_of (second_pass ∷ []) i).visits h) (λ e. subst (IsHeld (alone 2) 0 second_pass.visits) (some_is (held (pos 3) 2 3) h e) (held_3 2)) i li;
+      is_best = second_best;
+    }
+  where
+    arrived : (i j : ℕ) → i < 1 → j < 1 → of (record_of (second_pass ∷ []) i).received j ≡ of (record_of (second_pass ∷ []) j).posted i
+    arrived zero zero li lj = refl
+    arrived (suc i) j li lj = absurd (one_shard i li)
+    arrived zero (suc j) li lj = absurd (one_shard j lj)
+
+pub second_law : LawSecondPass
+second_law = (second_ledger, second_closed, refl)
+
+-- no node was dropped in the second pass
+drops_none : (i l : ℕ) (n : Node) → i < 1 → Has (row (record_of (second_pass ∷ []) i).rows l).dropped n → ⊥
+drops_none zero zero n li h = has_none n h
+drops_none zero (suc zero) n li h = has_none n h
+drops_none zero (suc (suc l)) n li h = has_none n h
+drops_none (suc i) l n li h = one_shard i li
+
+pub best_way : LawBestWay
+best_way = (law (alone 2) (second_pass ∷ []) word_11 word_3 (inner_at [] refl refl 0 refl) (inl refl) second_ledger second_closed).0 drops_none

@@ -10,12 +10,12 @@ use Rattle.dp_claims.specs.Enough.{Has}
 use Rattle.dp_model.specs.declared.whole.Model.{Model}
 use Rattle.pass_ledger.specs.Letters.{of, sender, InGroups, Posted}
 use Rattle.pass_ledger.specs.Passes.{Pass, word_of}
-use Rattle.pass_ledger.specs.Records.{rec, Reaches, Own}
+use Rattle.pass_ledger.specs.Records.{record_of, Reaches, Own}
 use Rattle.pass_ledger.specs.Events.{append_at, take, CanTake, close, prune, visit, CanVisit, post}
 use Rattle.pass_ledger.specs.Worlds.{World, Seat, Turn, Event, with_record, with_seat, seat, happens, IsOffered, IsFree, IsLook, Allowed}
-use Rattle.pass_ledger.specs.declared.nodes.Node.{Node}
-use Rattle.pass_ledger.specs.declared.nodes.Letter.{Letter}
-use Rattle.pass_ledger.specs.declared.nodes.Letter.TheVariants.{State, Mark}
+use Rattle.state_layout.specs.declared.node.Node.{Node}
+use Rattle.pass_ledger.specs.declared.mail.Letter.{Letter}
+use Rattle.pass_ledger.specs.declared.mail.Letter.TheVariants.{State, Mark}
 use Rattle.pass_ledger.specs.declared.records.PrunedAt.{PrunedAt}
 use Rattle.pass_ledger.specs.declared.records.Unsent.{Unsent}
 use Rattle.pass_ledger.specs.declared.records.Held.{Held}
@@ -24,7 +24,9 @@ use Rattle.pass_ledger.specs.declared.records.ShardRecord.{ShardRecord}
 use Rattle.pass_ledger.proofs.Costs.{least_trans, self}
 use Rattle.pass_ledger.proofs.Lists.{has_none, has_cases, has_head, has_left}
 use Rattle.pass_ledger.proofs.Appends.{append_same, append_other, append_cases}
-use Rattle.pass_ledger.proofs.Steps.{own_take, own_close, own_prune, own_visit, own_post}
+use Rattle.pass_ledger.proofs.Steps.{own_take, own_close, own_prune}
+use Rattle.pass_ledger.proofs.Visits.{own_visit}
+use Rattle.pass_ledger.proofs.Posts.{own_post}
 
 abbrev pub from_is : ℕ → Letter → Bool
 from_is j x = nat_eq (sender x) j
@@ -39,16 +41,16 @@ IsKept p offered held = (word : ℕ) → offered ≡ Some word → (h : Held) ×
 
 pub record Good (p : Pass) (opening : ℕ) (w : World) : Type 0 where
   pub sizes : (length w.records ≡ p.shards) × (length w.mail ≡ p.shards) × (length w.seats ≡ p.shards)
-  pub own : (i : ℕ) → i < p.shards → Own p i (rec w.records i)
-  pub post : (i j : ℕ) → i < p.shards → j < p.shards → of (rec w.records i).received j ++ filter (from_is j) (of w.mail i) ≡ of (rec w.records j).posted i
+  pub own : (i : ℕ) → i < p.shards → Own p i (record_of w.records i)
+  pub post : (i j : ℕ) → i < p.shards → j < p.shards → of (record_of w.records i).received j ++ filter (from_is j) (of w.mail i) ≡ of (record_of w.records j).posted i
   pub mailed : (i : ℕ) (x : Letter) → i < p.shards → Has (of w.mail i) x → sender x < p.shards
   pub looks : (i : ℕ) → i < p.shards → w.best ≤ (seat w i).looked
-  pub prunes : (i : ℕ) (q : PrunedAt) → i < p.shards → Has (rec w.records i).pruned q → w.best ≤ q.best
+  pub prunes : (i : ℕ) (q : PrunedAt) → i < p.shards → Has (record_of w.records i).pruned q → w.best ≤ q.best
   pub opening_above : w.best ≤ opening
   pub offered_above : (i word : ℕ) → i < p.shards → (seat w i).offered ≡ Some word → w.best ≤ word
   pub is_one : (w.best ≡ opening) ⊎ ((i : ℕ) × (i < p.shards) × ((seat w i).offered ≡ Some w.best))
-  pub kept : (i : ℕ) → i < p.shards → IsKept p (seat w i).offered (rec w.records i).held
-  pub freed : (i : ℕ) → i < p.shards → IsFreed p (seat w i).offered (rec w.records i)
+  pub kept : (i : ℕ) → i < p.shards → IsKept p (seat w i).offered (record_of w.records i).held
+  pub freed : (i : ℕ) → i < p.shards → IsFreed p (seat w i).offered (record_of w.records i)
 
 -- what holds of a new element and of the others holds of all
 pub set_each : {A : Type 0} (P : ℕ → A → Type 0) (xs : List A) (d : A) (i : ℕ) (x : A) (n : ℕ) → length xs ≡ n → i < n → P i x → ((k : ℕ) → k < n → P k (get_or xs k d)) → (k : ℕ) → k < n → P k (get_or (slice_set xs i x) k d)
@@ -65,7 +67,7 @@ same_part {A} {B} f xs d i x n size li same k lk = set_each (λ m (y : A). f y �
 
 -- ---- an event that changes one shard's record, but for what it received and posted
 
-good_record : (p : Pass) (opening : ℕ) (w : World) → Good p opening w → (i : ℕ) → i < p.shards → (r : ShardRecord) → Own p i r → r.received ≡ (rec w.records i).received → r.posted ≡ (rec w.records i).posted
+good_record : (p : Pass) (opening : ℕ) (w : World) → Good p opening w → (i : ℕ) → i < p.shards → (r : ShardRecord) → Own p i r → r.received ≡ (record_of w.records i).received → r.posted ≡ (record_of w.records i).posted
     → ((q : PrunedAt) → Has r.pruned q → w.best ≤ q.best) → IsKept p (seat w i).offered r.held → IsFreed p (seat w i).offered r → Good p opening (with_record w i r)
 good_record p opening w good i li r own got put prunes kept freed =
     record {
@@ -100,8 +102,8 @@ good_seat p opening w good i li s looked same =
       opening_above = good.opening_above;
       offered_above = λ k word lk e. good.offered_above k word lk (sym (offered k lk) ∙ e);
       is_one = elim good.is_one [ inl e ↦ inl e | inr h ↦ inr (h.0, h.1, offered h.0 h.1 ∙ h.2) ];
-      kept = λ k lk. subst (λ (o : Option ℕ). IsKept p o (rec w.records k).held) (sym (offered k lk)) (good.kept k lk);
-      freed = λ k lk. subst (λ (o : Option ℕ). IsFreed p o (rec w.records k)) (sym (offered k lk)) (good.freed k lk);
+      kept = λ k lk. subst (λ (o : Option ℕ). IsKept p o (record_of w.records k).held) (sym (offered k lk)) (good.kept k lk);
+      freed = λ k lk. subst (λ (o : Option ℕ). IsFreed p o (record_of w.records k)) (sym (offered k lk)) (good.freed k lk);
     }
 
 -- ---- an offer
@@ -170,16 +172,16 @@ good_offer p opening w good i word can =
           | inr from ↦ elim (cases_eq from.0 i) [
             | inl e ↦
                 let was = subst (λ (k : ℕ). (seat w k).offered ≡ Some w.best) e from.2 in
-                let le = later_offer p (seat w i).offered (rec w.records i).held w.best word h (good.kept i li) was can.1.1 can.1.2 in
+                let le = later_offer p (seat w i).offered (record_of w.records i).held w.best word h (good.kept i li) was can.1.1 can.1.2 in
                 inr (i, li, now ∙ ap Some (both word w.best le ge))
             | inr ne ↦ inr (from.0, from.1, ap (λ (x : Seat). x.offered) (get_or-set_other w.seats i from.0 s _ ne) ∙ from.2 ∙ ap Some (sym (min_is_first w.best word ge)))
           ]
         ]
       ];
-      kept = set_each (λ k (x : Seat). IsKept p x.offered (rec w.records k).held) w.seats _ i s p.shards good.sizes.2 li
+      kept = set_each (λ k (x : Seat). IsKept p x.offered (record_of w.records k).held) w.seats _ i s p.shards good.sizes.2 li
           (λ v e. (h, can.1.1, subst (λ (u : ℕ). word_of p h.cost ≤ℤ pos u) (some_word word v e) (equal_word p word h can.1.2))) good.kept;
-      freed = set_each (λ k (x : Seat). IsFreed p x.offered (rec w.records k)) w.seats _ i s p.shards good.sizes.2 li
-          (λ j f y t m. is_offered p word (rec w.records i).held h can.1.1 can.1.2) good.freed;
+      freed = set_each (λ k (x : Seat). IsFreed p x.offered (record_of w.records k)) w.seats _ i s p.shards good.sizes.2 li
+          (λ j f y t m. is_offered p word (record_of w.records i).held h can.1.1 can.1.2) good.freed;
     }
   where
     now : (seat (happens w (Event.Offer i word)) i).offered ≡ Some word
@@ -216,24 +218,24 @@ good_take p opening w good i x rest can =
     let own = good.own i li in
     let mail = can.2 in
     let lj = good.mailed i x li (subst (λ (l : List Letter). Has l x) (sym mail) (0, refl)) in
-    let now : of (rec w.records i).received j ++ x ∷ filter (from_is j) rest ≡ of (rec w.records j).posted i =
-    ap (λ (l : List Letter). of (rec w.records i).received j ++ l) (sym (ap (filter (from_is j)) mail ∙ filter_yes (from_is j) x rest (eq-eqb j j refl))) ∙ good.post i j li lj in
-    let split : (of (rec w.records i).received j ++ x ∷ []) ++ filter (from_is j) rest ≡ of (rec w.records j).posted i = append_assoc (of (rec w.records i).received j) (x ∷ []) (filter (from_is j) rest) ∙ now in
-    let lawful = posted_front p.model (of (rec w.records i).received j ++ x ∷ []) (filter (from_is j) rest) (subst (Posted p.model) (sym split) ((good.own j lj).sends.lawful i)) in
-    let taken : CanTake p (rec w.records i) x = record { from = lj; lawful = lawful } in
-    let r = take (rec w.records i) x in
-    let long : j < length (rec w.records i).received = subst (λ (n : ℕ). j < n) (sym own.sizes.0) lj in
-    let mine : (b : ℕ) → b < p.shards → of r.received b ++ filter (from_is b) rest ≡ of (rec w.records b).posted i =
+    let now : of (record_of w.records i).received j ++ x ∷ filter (from_is j) rest ≡ of (record_of w.records j).posted i =
+    ap (λ (l : List Letter). of (record_of w.records i).received j ++ l) (sym (ap (filter (from_is j)) mail ∙ filter_yes (from_is j) x rest (eq-eqb j j refl))) ∙ good.post i j li lj in
+    let split : (of (record_of w.records i).received j ++ x ∷ []) ++ filter (from_is j) rest ≡ of (record_of w.records j).posted i = append_assoc (of (record_of w.records i).received j) (x ∷ []) (filter (from_is j) rest) ∙ now in
+    let lawful = posted_front p.model (of (record_of w.records i).received j ++ x ∷ []) (filter (from_is j) rest) (subst (Posted p.model) (sym split) ((good.own j lj).sends.lawful i)) in
+    let taken : CanTake p (record_of w.records i) x = record { from = lj; lawful = lawful } in
+    let r = take (record_of w.records i) x in
+    let long : j < length (record_of w.records i).received = subst (λ (n : ℕ). j < n) (sym own.sizes.0) lj in
+    let mine : (b : ℕ) → b < p.shards → of r.received b ++ filter (from_is b) rest ≡ of (record_of w.records b).posted i =
     λ b lb. elim (cases_eq b j) [
-      | inl e ↦ subst (λ (m : ℕ). of r.received m ++ filter (from_is m) rest ≡ of (rec w.records m).posted i) (sym e)
-          (ap (λ (l : List Letter). l ++ filter (from_is j) rest) (append_same (rec w.records i).received j x long) ∙ split)
-      | inr ne ↦ ap (λ (l : List Letter). l ++ filter (from_is b) rest) (append_other (rec w.records i).received j x b ne)
-          ∙ ap (λ (l : List Letter). of (rec w.records i).received b ++ l) (sym (ap (filter (from_is b)) mail ∙ filter_none (from_is b) x rest (other_sender b x ne)))
+      | inl e ↦ subst (λ (m : ℕ). of r.received m ++ filter (from_is m) rest ≡ of (record_of w.records m).posted i) (sym e)
+          (ap (λ (l : List Letter). l ++ filter (from_is j) rest) (append_same (record_of w.records i).received j x long) ∙ split)
+      | inr ne ↦ ap (λ (l : List Letter). l ++ filter (from_is b) rest) (append_other (record_of w.records i).received j x b ne)
+          ∙ ap (λ (l : List Letter). of (record_of w.records i).received b ++ l) (sym (ap (filter (from_is b)) mail ∙ filter_none (from_is b) x rest (other_sender b x ne)))
           ∙ good.post i b li lb
     ] in
     record {
       sizes = (length-set w.records i r ∙ good.sizes.0, length-set w.mail i rest ∙ good.sizes.1, good.sizes.2);
-      own = set_each (λ k (q : ShardRecord). Own p k q) w.records _ i r p.shards good.sizes.0 li (own_take p i (rec w.records i) own x taken) good.own;
+      own = set_each (λ k (q : ShardRecord). Own p k q) w.records _ i r p.shards good.sizes.0 li (own_take p i (record_of w.records i) own x taken) good.own;
       post = λ a b la lb. (
           let y = same_part (λ (q : ShardRecord). q.posted) w.records _ i r p.shards good.sizes.0 li refl b lb in
           both p opening w good i li rest r a b la lb (mine b lb) ∙ sym (ap (λ (l : List (List Letter)). of l a) y));
@@ -249,17 +251,17 @@ good_take p opening w good i x rest can =
     }
   where
     both : (p : Pass) (opening : ℕ) (w : World) → Good p opening w → (i : ℕ) → i < p.shards → (rest : List Letter) (r : ShardRecord) (a b : ℕ) → a < p.shards → b < p.shards
-        → of r.received b ++ filter (from_is b) rest ≡ of (rec w.records b).posted i → of (rec (slice_set w.records i r) a).received b ++ filter (from_is b) (of (slice_set w.mail i rest) a) ≡ of (rec w.records b).posted a
+        → of r.received b ++ filter (from_is b) rest ≡ of (record_of w.records b).posted i → of (record_of (slice_set w.records i r) a).received b ++ filter (from_is b) (of (slice_set w.mail i rest) a) ≡ of (record_of w.records b).posted a
     both p opening w good i li rest r a b la lb mine =
         elim (cases_eq a i) [
-          | inl e ↦ subst (λ (m : ℕ). of (rec (slice_set w.records i r) m).received b ++ filter (from_is b) (of (slice_set w.mail i rest) m) ≡ of (rec w.records b).posted m) (sym e)
+          | inl e ↦ subst (λ (m : ℕ). of (record_of (slice_set w.records i r) m).received b ++ filter (from_is b) (of (slice_set w.mail i rest) m) ≡ of (record_of w.records b).posted m) (sym e)
               (let lr : i < length w.records = subst (λ (n : ℕ). i < n) (sym good.sizes.0) li in
               let lm : i < length w.mail = subst (λ (n : ℕ). i < n) (sym good.sizes.1) li in
               ap (λ (q : ShardRecord). of q.received b ++ filter (from_is b) (of (slice_set w.mail i rest) i)) (get_or-set_same w.records i r _ lr)
               ∙ ap (λ (l : List Letter). of r.received b ++ filter (from_is b) l) (get_or-set_same w.mail i rest [] lm)
               ∙ mine)
           | inr ne ↦ ap (λ (q : ShardRecord). of q.received b ++ filter (from_is b) (of (slice_set w.mail i rest) a)) (get_or-set_other w.records i a r _ ne)
-              ∙ ap (λ (l : List Letter). of (rec w.records a).received b ++ filter (from_is b) l) (get_or-set_other w.mail i a rest [] ne)
+              ∙ ap (λ (l : List Letter). of (record_of w.records a).received b ++ filter (from_is b) l) (get_or-set_other w.mail i a rest [] ne)
               ∙ good.post a b la lb
         ]
 
@@ -294,20 +296,20 @@ good_post p opening w good i to x rest can =
     let free = can.1 in
     let lt = can.2.receiver in
     let own = good.own i li in
-    let r = post (rec w.records i) to x rest in
+    let r = post (record_of w.records i) to x rest in
     let lm : to < length w.mail = subst (λ (n : ℕ). to < n) (sym good.sizes.1) lt in
-    let lp : to < length (rec w.records i).posted = subst (λ (n : ℕ). to < n) (sym own.sizes.1) lt in
+    let lp : to < length (record_of w.records i).posted = subst (λ (n : ℕ). to < n) (sym own.sizes.1) lt in
     let lr : i < length w.records = subst (λ (n : ℕ). i < n) (sym good.sizes.0) li in
     let signed : from_is i x ≡ true = eq-eqb (sender x) i can.2.signed in
     record {
       sizes = (length-set w.records i r ∙ good.sizes.0, length-set w.mail to (of w.mail to ++ x ∷ []) ∙ good.sizes.1, good.sizes.2);
-      own = set_each (λ k (q : ShardRecord). Own p k q) w.records _ i r p.shards good.sizes.0 li (own_post p i (rec w.records i) own to x rest can.2) good.own;
+      own = set_each (λ k (q : ShardRecord). Own p k q) w.records _ i r p.shards good.sizes.0 li (own_post p i (record_of w.records i) own to x rest can.2) good.own;
       post = λ a b la lb. (
           let y = same_part (λ (q : ShardRecord). q.received) w.records _ i r p.shards good.sizes.0 li refl a la in
           ap (λ (l : List (List Letter)). of l b ++ filter (from_is b) (of (append_at w.mail to x) a)) y ∙ elim (cases_eq b i) [
-            | inl e ↦ subst (λ (m : ℕ). of (rec w.records a).received m ++ filter (from_is m) (of (append_at w.mail to x) a) ≡ of (rec (slice_set w.records i r) m).posted a) (sym e)
-                (post_mine w.mail (rec w.records i).posted to x i a (of (rec w.records a).received i) lm lp signed (good.post a i la li) ∙ sym (ap (λ (q : ShardRecord). of q.posted a) (get_or-set_same w.records i r _ lr)))
-            | inr ne ↦ ap (λ (l : List Letter). of (rec w.records a).received b ++ l) (mail_none w.mail to x b a lm (other_sender b x (λ e. ne (e ∙ can.2.signed))))
+            | inl e ↦ subst (λ (m : ℕ). of (record_of w.records a).received m ++ filter (from_is m) (of (append_at w.mail to x) a) ≡ of (record_of (slice_set w.records i r) m).posted a) (sym e)
+                (post_mine w.mail (record_of w.records i).posted to x i a (of (record_of w.records a).received i) lm lp signed (good.post a i la li) ∙ sym (ap (λ (q : ShardRecord). of q.posted a) (get_or-set_same w.records i r _ lr)))
+            | inr ne ↦ ap (λ (l : List Letter). of (record_of w.records a).received b ++ l) (mail_none w.mail to x b a lm (other_sender b x (λ e. ne (e ∙ can.2.signed))))
                 ∙ good.post a b la lb ∙ sym (ap (λ (q : ShardRecord). of q.posted a) (get_or-set_other w.records i b r _ ne))
           ]);
       mailed = λ k y lk h. elim (append_cases w.mail to x k y h) [
@@ -325,12 +327,12 @@ good_post p opening w good i to x rest can =
 
 -- ---- looks and visits
 
-good_pruned : (p : Pass) (opening : ℕ) (w : World) → Good p opening w → (i : ℕ) (n : Node) (rest : List Node) → (i < p.shards) × IsFree p w i × ((rec w.records i).fault ≡ None) × ((rec w.records i).waiting ≡ n ∷ rest) × IsLook p w.best n true
-    → Good p opening (with_record w i (prune (rec w.records i) n rest w.best))
+good_pruned : (p : Pass) (opening : ℕ) (w : World) → Good p opening w → (i : ℕ) (n : Node) (rest : List Node) → (i < p.shards) × IsFree p w i × ((record_of w.records i).fault ≡ None) × ((record_of w.records i).waiting ≡ n ∷ rest) × IsLook p w.best n true
+    → Good p opening (with_record w i (prune (record_of w.records i) n rest w.best))
 good_pruned p opening w good i n rest can =
-    good_record p opening w good i can.0 (prune (rec w.records i) n rest w.best)
-    (own_prune p i (rec w.records i) (good.own i can.0) n rest w.best (record { fine = can.2; first = can.3; prunes = can.4 })) refl refl
-    (λ q h. elim (has_cases (rec w.records i).pruned (record { node = n; best = w.best } ∷ []) q h) [
+    good_record p opening w good i can.0 (prune (record_of w.records i) n rest w.best)
+    (own_prune p i (record_of w.records i) (good.own i can.0) n rest w.best (record { fine = can.2; first = can.3; prunes = can.4 })) refl refl
+    (λ q h. elim (has_cases (record_of w.records i).pruned (record { node = n; best = w.best } ∷ []) q h) [
       | inl a ↦ good.prunes i q can.0 a
       | inr b ↦ elim (has_head (record { node = n; best = w.best }) [] q b) [
         | inl e ↦ subst (λ (x : PrunedAt). w.best ≤ x.best) e (at_most w.best)
@@ -355,14 +357,14 @@ kept_after p offered held after no_worse kept word e =
     (r.0, r.1, least_trans (word_of p r.0.cost) (word_of p k.0.cost) (pos word) r.2 k.2)
 
 good_visit : (p : Pass) (opening : ℕ) (w : World) → Good p opening w → (i l : ℕ) (n : Node) (rest : List Node) (made : List Unsent) (prunes : List PrunedAt) (held : Option Held) (fault : Option FaultHere) → i < p.shards
-    → CanVisit p i (rec w.records i) l n rest made prunes held fault → ((q : PrunedAt) → Has prunes q → q.best ≡ (seat w i).looked)
-    → Good p opening (with_record w i (visit (rec w.records i) l n rest made prunes held fault))
+    → CanVisit p i (record_of w.records i) l n rest made prunes held fault → ((q : PrunedAt) → Has prunes q → q.best ≡ (seat w i).looked)
+    → Good p opening (with_record w i (visit (record_of w.records i) l n rest made prunes held fault))
 good_visit p opening w good i l n rest made prunes held fault li can by_looked =
-    good_record p opening w good i li (visit (rec w.records i) l n rest made prunes held fault)
-    (own_visit p i (rec w.records i) (good.own i li) l n rest made prunes held fault can) refl refl
-    (λ q h. elim (has_cases (rec w.records i).pruned prunes q h) [ inl a ↦ good.prunes i q li a | inr b ↦ subst (λ (v : ℕ). w.best ≤ v) (sym (by_looked q b)) (good.looks i li) ])
-    (kept_after p (seat w i).offered (rec w.records i).held held can.no_worse (good.kept i li))
-    (λ j f y t m. absurd (some_waits (rec w.records i).waiting n rest can.first ((good.own i li).marks.visited j f (length (rec w.records i).rows) y t m refl).0))
+    good_record p opening w good i li (visit (record_of w.records i) l n rest made prunes held fault)
+    (own_visit p i (record_of w.records i) (good.own i li) l n rest made prunes held fault can) refl refl
+    (λ q h. elim (has_cases (record_of w.records i).pruned prunes q h) [ inl a ↦ good.prunes i q li a | inr b ↦ subst (λ (v : ℕ). w.best ≤ v) (sym (by_looked q b)) (good.looks i li) ])
+    (kept_after p (seat w i).offered (record_of w.records i).held held can.no_worse (good.kept i li))
+    (λ j f y t m. absurd (some_waits (record_of w.records i).waiting n rest can.first ((good.own i li).marks.visited j f (length (record_of w.records i).rows) y t m refl).0))
 
 -- ---- each event keeps it
 
@@ -372,9 +374,9 @@ drew w i = record (seat w i) { turn = Turn.Drew w.drawn; late = (seat w i).late 
 pub kept : (p : Pass) (opening : ℕ) (w : World) → Good p opening w → (e : Event) → Allowed p w e → Good p opening (happens w e)
 kept p opening w good (Event.Take i x rest) can = good_take p opening w good i x rest can
 kept p opening w good (Event.Close i new) can =
-    good_record p opening w good i can.0 (close (rec w.records i) new) (own_close p i (rec w.records i) (good.own i can.0) new can.2) refl refl (λ q. good.prunes i q can.0) (good.kept i can.0) (λ j f y t m. can.1)
+    good_record p opening w good i can.0 (close (record_of w.records i) new) (own_close p i (record_of w.records i) (good.own i can.0) new can.2) refl refl (λ q. good.prunes i q can.0) (good.kept i can.0) (λ j f y t m. can.1)
 kept p opening w good (Event.Look i n rest true) can =
-    good_seat p opening (with_record w i (prune (rec w.records i) n rest w.best)) (good_pruned p opening w good i n rest can) i can.0 (record (seat w i) { looked = w.best; turn = Turn.Idle }) (at_most w.best) refl
+    good_seat p opening (with_record w i (prune (record_of w.records i) n rest w.best)) (good_pruned p opening w good i n rest can) i can.0 (record (seat w i) { looked = w.best; turn = Turn.Idle }) (at_most w.best) refl
   where
     at_most : (a : ℕ) → a ≤ a
     at_most a = omega arith
@@ -386,7 +388,7 @@ kept p opening w good (Event.Draw i) can =
     let new = good_seat p opening w good i can.0 (drew w i) (good.looks i can.0) refl in
     record { sizes = new.sizes; own = new.own; post = new.post; mailed = new.mailed; looks = new.looks; prunes = new.prunes; opening_above = new.opening_above; offered_above = new.offered_above; is_one = new.is_one; kept = new.kept; freed = new.freed }
 kept p opening w good (Event.Visit i l n rest made prunes held fault) can =
-    good_seat p opening (with_record w i (visit (rec w.records i) l n rest made prunes held fault)) (good_visit p opening w good i l n rest made prunes held fault can.0 can.3 can.4) i can.0 (record (seat w i) { turn = Turn.Idle }) (good.looks i can.0) refl
+    good_seat p opening (with_record w i (visit (record_of w.records i) l n rest made prunes held fault)) (good_visit p opening w good i l n rest made prunes held fault can.0 can.3 can.4) i can.0 (record (seat w i) { turn = Turn.Idle }) (good.looks i can.0) refl
 kept p opening w good (Event.Offer i word) can = good_offer p opening w good i word can
 kept p opening w good (Event.Post i to x rest) can = good_post p opening w good i to x rest can
 kept p opening w good (Event.Halt i cause) can =

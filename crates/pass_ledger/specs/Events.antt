@@ -5,9 +5,9 @@ use Rattle.pass_ledger.specs.Letters.{of, sender, InGroups, InOrder, Posted, all
 use Rattle.pass_ledger.specs.Passes.{Pass, Prunes}
 use Rattle.pass_ledger.specs.Rows.{Received, IsCovered, IsRow}
 use Rattle.pass_ledger.specs.Records.{step_id, unsent, visit_of, IsSuccessor, IsTotal, Reaches, Accounted, IsFaultAt, MeetsHere}
-use Rattle.pass_ledger.specs.declared.nodes.Node.{Node}
-use Rattle.pass_ledger.specs.declared.nodes.Letter.{Letter}
-use Rattle.pass_ledger.specs.declared.nodes.Letter.TheVariants.{State, Mark}
+use Rattle.state_layout.specs.declared.node.Node.{Node}
+use Rattle.pass_ledger.specs.declared.mail.Letter.{Letter}
+use Rattle.pass_ledger.specs.declared.mail.Letter.TheVariants.{State, Mark}
 use Rattle.pass_ledger.specs.declared.records.PrunedAt.{PrunedAt}
 use Rattle.pass_ledger.specs.declared.records.LedgerRow.{LedgerRow}
 use Rattle.pass_ledger.specs.declared.records.Unsent.{Unsent}

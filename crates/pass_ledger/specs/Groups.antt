@@ -1,9 +1,10 @@
 -- Which letter may come next in a list of letters, told by its unfinished group.
-use Rattle.std.specs.Prelude.{◌≡◌, ℕ, ◌+◌, List, [], ◌∷◌, ◌++◌}
+use Rattle.std.specs.Prelude.{◌≡◌, ℕ, ◌+◌, ◌≤◌, ◌<◌, List, [], ◌∷◌, ◌++◌}
+use Rattle.dp_claims.specs.Enough.{Has}
 use Rattle.dp_model.specs.declared.whole.Model.{Model}
-use Rattle.pass_ledger.specs.Letters.{InOrder, Posted}
-use Rattle.pass_ledger.specs.declared.nodes.Letter.{Letter}
-use Rattle.pass_ledger.specs.declared.nodes.Letter.TheVariants.{State, Mark}
+use Rattle.pass_ledger.specs.Letters.{InGroups, InOrder, Posted, states_at}
+use Rattle.pass_ledger.specs.declared.mail.Letter.{Letter}
+use Rattle.pass_ledger.specs.declared.mail.Letter.TheVariants.{State, Mark}
 
 -- the unfinished group of a list: its layer, and how many states it has
 abbrev pub grown : ℕ × ℕ → Letter → ℕ × ℕ
@@ -35,3 +36,18 @@ abbrev pub LawNext : Type 0
 LawNext =
     (m : Model) (xs : List Letter) (x : Letter)
     → (Posted m xs → Suits (unfinished (1, 0) xs) x → IsLawful m x → Posted m (xs ++ x ∷ [])) × (Posted m (xs ++ x ∷ []) → Posted m xs × Suits (unfinished (1, 0) xs) x × IsLawful m x)
+
+-- the next letter grows the unfinished group
+abbrev pub LawGrown : Type 0
+LawGrown = (group : ℕ × ℕ) (xs : List Letter) (x : Letter) → unfinished group (xs ++ x ∷ []) ≡ grown (unfinished group xs) x
+
+-- A posted list has a mark of just the layers before its unfinished group.
+abbrev pub LawMarks : Type 0
+LawMarks =
+    (xs : List Letter) → InGroups 1 0 xs
+    → ((l : ℕ) → 1 ≤ l → l < (unfinished (1, 0) xs).0 → (from : ℕ) × (to_you : ℕ) × (total : ℕ) × Has xs (Mark from l to_you total))
+    × ((from l to_you total : ℕ) → Has xs (Mark from l to_you total) → l < (unfinished (1, 0) xs).0)
+
+-- how many states of the layer of its unfinished group stand in a posted list
+abbrev pub LawStates : Type 0
+LawStates = (xs : List Letter) → InGroups 1 0 xs → states_at (unfinished (1, 0) xs).0 xs ≡ (unfinished (1, 0) xs).1

@@ -5,10 +5,10 @@ use Rattle.dp_claims.specs.Enough.{Has, Different}
 use Rattle.pass_ledger.specs.Letters.{of, Posted, all_told_at}
 use Rattle.pass_ledger.specs.Passes.{Pass, word_of, StartsInner, IsTrusted, Prunes}
 use Rattle.pass_ledger.specs.Rows.{row, Received, IsCovered, IsRow}
-use Rattle.pass_ledger.specs.Records.{visit_of, Accounted, IsPruned, Made, IsHeld, Starts, rec, Together, Done, IsRooted, IsFound, IsMet}
-use Rattle.pass_ledger.specs.declared.nodes.Node.{Node}
-use Rattle.pass_ledger.specs.declared.nodes.Letter.{Letter}
-use Rattle.pass_ledger.specs.declared.nodes.Letter.TheVariants.{State, Mark}
+use Rattle.pass_ledger.specs.Records.{visit_of, Accounted, IsPruned, Made, IsHeld, Starts, record_of, Together, Done, IsRooted, IsFound, IsMet}
+use Rattle.state_layout.specs.declared.node.Node.{Node}
+use Rattle.pass_ledger.specs.declared.mail.Letter.{Letter}
+use Rattle.pass_ledger.specs.declared.mail.Letter.TheVariants.{State, Mark}
 use Rattle.pass_ledger.specs.declared.records.PrunedAt.{PrunedAt}
 use Rattle.pass_ledger.specs.declared.records.Visit.{Visit}
 use Rattle.pass_ledger.specs.declared.records.Held.{Held}
@@ -17,57 +17,57 @@ use Rattle.pass_ledger.specs.declared.records.ShardRecord.{ShardRecord}
 
 -- The ledger of a pass: a record for each shard, whose rows keep the share, and whose visits were kept nodes, each visited
 -- once.
-pub record Ledger (p : Pass) (recs : List ShardRecord) : Type 0 where
-  pub shards : length recs ≡ p.shards
-  pub rows : (i l : ℕ) → i < p.shards → IsRow p (rec recs i).start (rec recs i).received l (row (rec recs i).rows l)
-  pub visits : (i : ℕ) (v : Visit) → i < p.shards → Has (rec recs i).visits v → Has (row (rec recs i).rows v.layer).kept v.node
-  pub once : (i : ℕ) → i < p.shards → Different (rec recs i).visits
+pub record Ledger (p : Pass) (records : List ShardRecord) : Type 0 where
+  pub shards : length records ≡ p.shards
+  pub rows : (i l : ℕ) → i < p.shards → IsRow p (record_of records i).start (record_of records i).received l (row (record_of records i).rows l)
+  pub visits : (i : ℕ) (v : Visit) → i < p.shards → Has (record_of records i).visits v → Has (row (record_of records i).rows v.layer).kept v.node
+  pub once : (i : ℕ) → i < p.shards → Different (record_of records i).visits
 
 -- the marks of one sender for one layer have one total, the sum of what they tell their receivers
 abbrev pub Totals : List (List Letter) → Type 0
 Totals posted = (j from l to_you total : ℕ) → Has (of posted j) (Mark from l to_you total) → total ≡ all_told_at l posted
 
 -- the best word is the least of the opening word and the words of the held solutions
-pub record IsBest (p : Pass) (recs : List ShardRecord) (opening best : ℕ) : Type 0 where
+pub record IsBest (p : Pass) (records : List ShardRecord) (opening best : ℕ) : Type 0 where
   pub opening_above : best ≤ opening
-  pub held_above : (i : ℕ) (h : Held) → i < p.shards → (rec recs i).held ≡ Some h → pos best ≤ℤ word_of p h.cost
-  pub is_one : (best ≡ opening) ⊎ ((i : ℕ) × (h : Held) × (i < p.shards) × ((rec recs i).held ≡ Some h) × (pos best ≡ word_of p h.cost))
+  pub held_above : (i : ℕ) (h : Held) → i < p.shards → (record_of records i).held ≡ Some h → pos best ≤ℤ word_of p h.cost
+  pub is_one : (best ≡ opening) ⊎ ((i : ℕ) × (h : Held) × (i < p.shards) × ((record_of records i).held ≡ Some h) × (pos best ≡ word_of p h.cost))
 
 -- The ledger of a pass is closed, for the best word before the pass and that after it.
-pub record Closed (p : Pass) (recs : List ShardRecord) (opening best : ℕ) : Type 0 where
+pub record Closed (p : Pass) (records : List ShardRecord) (opening best : ℕ) : Type 0 where
   -- 1: the target's node is received for layer 0, by its owner alone
-  pub target : (i : ℕ) → i < p.shards → Starts p i (rec recs i).start
+  pub target : (i : ℕ) → i < p.shards → Starts p i (record_of records i).start
   -- 2: each received node is covered by a kept or dropped one of its row
-  pub covered : (i l : ℕ) (n : Node) → i < p.shards → Received p (rec recs i).start (rec recs i).received l n → IsCovered p (row (rec recs i).rows l) n
+  pub covered : (i l : ℕ) (n : Node) → i < p.shards → Received p (record_of records i).start (record_of records i).received l n → IsCovered p (row (record_of records i).rows l) n
   -- 3: each posted state was made by a step from a node that its sender visited in the layer before, and each once; each kept
   -- node is recorded as pruned or was visited, without a fault; and each step from a visited node is accounted for
-  pub made : (i j from l : ℕ) (n : Node) → i < p.shards → Has (of (rec recs i).posted j) (State from l n) → (from ≡ i) × Made p i (rec recs i).visits j l n
-  pub once : (i j a b from l : ℕ) (n : Node) → i < p.shards → slice_get (of (rec recs i).posted j) a ≡ Some (State from l n) → slice_get (of (rec recs i).posted j) b ≡ Some (State from l n) → a ≡ b
-  pub fates : (i l : ℕ) (n : Node) → i < p.shards → Has (row (rec recs i).rows l).kept n → IsPruned (rec recs i).pruned n ⊎ Has (rec recs i).visits (visit_of l n)
-  pub fine : (i : ℕ) → i < p.shards → (rec recs i).fault ≡ None
-  pub accounted : (i place : ℕ) (v : Visit) → i < p.shards → slice_get (rec recs i).visits place ≡ Some v → Accounted p i (rec recs i).held (rec recs i).posted [] (rec recs i).pruned place v
+  pub made : (i j from l : ℕ) (n : Node) → i < p.shards → Has (of (record_of records i).posted j) (State from l n) → (from ≡ i) × Made p i (record_of records i).visits j l n
+  pub once : (i j a b from l : ℕ) (n : Node) → i < p.shards → slice_get (of (record_of records i).posted j) a ≡ Some (State from l n) → slice_get (of (record_of records i).posted j) b ≡ Some (State from l n) → a ≡ b
+  pub fates : (i l : ℕ) (n : Node) → i < p.shards → Has (row (record_of records i).rows l).kept n → IsPruned (record_of records i).pruned n ⊎ Has (record_of records i).visits (visit_of l n)
+  pub fine : (i : ℕ) → i < p.shards → (record_of records i).fault ≡ None
+  pub accounted : (i place : ℕ) (v : Visit) → i < p.shards → slice_get (record_of records i).visits place ≡ Some v → Accounted p i (record_of records i).held (record_of records i).posted [] (record_of records i).pruned place v
   -- 4: what was received is what was posted, in groups of layers, and the totals are sums
-  pub arrived : (i j : ℕ) → i < p.shards → j < p.shards → of (rec recs i).received j ≡ of (rec recs j).posted i
-  pub posted : (i j : ℕ) → i < p.shards → Posted p.model (of (rec recs i).posted j)
-  pub totals : (i : ℕ) → i < p.shards → Totals (rec recs i).posted
+  pub arrived : (i j : ℕ) → i < p.shards → j < p.shards → of (record_of records i).received j ≡ of (record_of records j).posted i
+  pub posted : (i j : ℕ) → i < p.shards → Posted p.model (of (record_of records i).posted j)
+  pub totals : (i : ℕ) → i < p.shards → Totals (record_of records i).posted
   -- 5: each recorded pruning used a value that is not less than the best word, and not greater than the word of the floor
-  pub pruned : (i : ℕ) (q : PrunedAt) → i < p.shards → Has (rec recs i).pruned q → (best ≤ q.best) × Prunes p q.best q.node
+  pub pruned : (i : ℕ) (q : PrunedAt) → i < p.shards → Has (record_of records i).pruned q → (best ≤ q.best) × Prunes p q.best q.node
   -- 6: all shards have closed the same layers, and the totals of the layer after them are 0
   pub layers : ℕ
-  pub same_layers : (i : ℕ) → i < p.shards → length (rec recs i).rows ≡ layers
-  pub ended : (i j : ℕ) → i < p.shards → j < p.shards → (to_you : ℕ) × Has (of (rec recs i).posted j) (Mark i layers to_you 0)
+  pub same_layers : (i : ℕ) → i < p.shards → length (record_of records i).rows ≡ layers
+  pub ended : (i j : ℕ) → i < p.shards → j < p.shards → (to_you : ℕ) × Has (of (record_of records i).posted j) (Mark i layers to_you 0)
   -- 7: each held solution is the cheapest step to a base state from what its shard visited (that it is no worse than any
   -- other is part of 3), and the best word is the least of the opening word and the held ones
-  pub held : (i : ℕ) (h : Held) → i < p.shards → (rec recs i).held ≡ Some h → IsHeld p i (rec recs i).visits h
-  pub is_best : IsBest p recs opening best
+  pub held : (i : ℕ) (h : Held) → i < p.shards → (record_of records i).held ≡ Some h → IsHeld p i (record_of records i).visits h
+  pub is_best : IsBest p records opening best
 
 -- no node was dropped
 abbrev pub DropsNone : Pass → List ShardRecord → Type 0
-DropsNone p recs = (i l : ℕ) (n : Node) → i < p.shards → Has (row (rec recs i).rows l).dropped n → ⊥
+DropsNone p records = (i l : ℕ) (n : Node) → i < p.shards → Has (row (record_of records i).rows l).dropped n → ⊥
 
 -- all dropped nodes have floors, and this number is no worse than any of them
 abbrev pub IsFloorOfDropped : Pass → List ShardRecord → ℤ → Type 0
-IsFloorOfDropped p recs floor = (i l : ℕ) (n : Node) → i < p.shards → Has (row (rec recs i).rows l).dropped n → (f : ℤ) × (n.floor ≡ Some f) × (word_of p floor ≤ℤ word_of p f)
+IsFloorOfDropped p records floor = (i l : ℕ) (n : Node) → i < p.shards → Has (row (record_of records i).rows l).dropped n → (f : ℤ) × (n.floor ≡ Some f) × (word_of p floor ≤ℤ word_of p f)
 
 -- no legal list has a word less than this one
 abbrev pub NoneBelow : Pass → ℤ → Type 0
@@ -81,26 +81,26 @@ NoneBelowBoth p a b = (steps : List ℕ) (cost : ℤ) → Solution p.model steps
 -- better than the best word; where all dropped nodes have floors, none is better than both the best word and the best floor.
 abbrev pub LawClosed : Type 0
 LawClosed =
-    (p : Pass) (recs : List ShardRecord) (opening best : ℕ) → StartsInner p → IsTrusted p → Ledger p recs → Closed p recs opening best
-    → (DropsNone p recs → NoneBelow p (pos best)) × ((floor : ℤ) → IsFloorOfDropped p recs floor → NoneBelowBoth p (pos best) (word_of p floor))
+    (p : Pass) (records : List ShardRecord) (opening best : ℕ) → StartsInner p → IsTrusted p → Ledger p records → Closed p records opening best
+    → (DropsNone p records → NoneBelow p (pos best)) × ((floor : ℤ) → IsFloorOfDropped p records floor → NoneBelowBoth p (pos best) (word_of p floor))
 
 -- What rests on the records of all shards together, whether or not they are done: from each received node the parents lead
 -- back to the target, each held solution is the cost of a legal list, and each fault is met by a list.
-pub record IsSound (p : Pass) (recs : List ShardRecord) : Type 0 where
-  pub received : (i l : ℕ) (n : Node) → i < p.shards → Received p (rec recs i).start (rec recs i).received l n → IsRooted p recs l n
-  pub held : (i : ℕ) (h : Held) → i < p.shards → (rec recs i).held ≡ Some h → IsFound p recs h
-  pub fault : (i : ℕ) (f : FaultHere) → i < p.shards → (rec recs i).fault ≡ Some f → IsMet p recs f
+pub record IsSound (p : Pass) (records : List ShardRecord) : Type 0 where
+  pub received : (i l : ℕ) (n : Node) → i < p.shards → Received p (record_of records i).start (record_of records i).received l n → IsRooted p records l n
+  pub held : (i : ℕ) (h : Held) → i < p.shards → (record_of records i).held ≡ Some h → IsFound p records h
+  pub fault : (i : ℕ) (f : FaultHere) → i < p.shards → (record_of records i).fault ≡ Some f → IsMet p records f
 
 -- no recorded pruning used a value less than the best word
 abbrev pub PrunesAbove : Pass → List ShardRecord → ℕ → Type 0
-PrunesAbove p recs best = (i : ℕ) (q : PrunedAt) → i < p.shards → Has (rec recs i).pruned q → best ≤ q.best
+PrunesAbove p records best = (i : ℕ) (q : PrunedAt) → i < p.shards → Has (record_of records i).pruned q → best ≤ q.best
 
 abbrev pub AllDone : Pass → List ShardRecord → Type 0
-AllDone p recs = (i : ℕ) → i < p.shards → Done p i (rec recs i)
+AllDone p records = (i : ℕ) → i < p.shards → Done p i (record_of records i)
 
 -- There is no order of events in it: the records of all shards are sound, and where all are done the ledger is closed, which
 -- says too that every posted letter was received.
 abbrev pub LawRecords : Type 0
 LawRecords =
-    (p : Pass) (recs : List ShardRecord) → StartsInner p → length recs ≡ p.shards → Together p recs
-    → IsSound p recs × ((opening best : ℕ) → IsBest p recs opening best → PrunesAbove p recs best → AllDone p recs → Ledger p recs × Closed p recs opening best)
+    (p : Pass) (records : List ShardRecord) → StartsInner p → length records ≡ p.shards → Together p records
+    → IsSound p records × ((opening best : ℕ) → IsBest p records opening best → PrunesAbove p records best → AllDone p records → Ledger p records × Closed p records opening best)

@@ -1,14 +1,13 @@
 -- Letters between shards: which lists of them a sender posts to a receiver.
-use Rattle.std.specs.Prelude.{◌≡◌, ℕ, ◌+◌, true, nat_eq, if◌then◌else◌, sum_by, List, [], ◌∷◌, get_or, IfSome, ℤ, pos, neg_ℤ, ◌≤ℤ◌}
-use Rattle.dp_model.specs.Costs.{InRange}
-use Rattle.dp_model.specs.Typing.{is_state}
+use Rattle.std.specs.Prelude.{◌≡◌, ℕ, ◌+◌, nat_eq, if◌then◌else◌, sum_by, List, [], ◌∷◌, get_or, IfSome}
 use Rattle.dp_steps.specs.Bounds.{IsBounded}
 use Rattle.dp_steps.specs.States.{Inner}
 use Rattle.dp_claims.specs.Enough.{Has}
+use Rattle.state_layout.specs.Conditions.{IsNodeOf}
 use Rattle.dp_model.specs.declared.whole.Model.{Model}
-use Rattle.pass_ledger.specs.declared.nodes.Node.{Node}
-use Rattle.pass_ledger.specs.declared.nodes.Letter.{Letter}
-use Rattle.pass_ledger.specs.declared.nodes.Letter.TheVariants.{State, Mark}
+use Rattle.state_layout.specs.declared.node.Node.{Node}
+use Rattle.pass_ledger.specs.declared.mail.Letter.{Letter}
+use Rattle.pass_ledger.specs.declared.mail.Letter.TheVariants.{State, Mark}
 
 abbrev pub sender : Letter → ℕ
 sender (State from layer node) = from
@@ -29,17 +28,12 @@ InGroups l n [] = Unit {0}
 InGroups l n (State from layer node ∷ rest) = (layer ≡ l) × InGroups l (n + 1) rest
 InGroups l n (Mark from layer to_you total ∷ rest) = (layer ≡ l) × (to_you ≡ n) × InGroups (l + 1) 0 rest
 
--- what a floor may be: between -(2^63 - 2) and 2^63 - 2
-abbrev pub HasWord : ℤ → Type 0
-HasWord f = (neg_ℤ (pos 9223372036854775806) ≤ℤ f) × (f ≤ℤ pos 9223372036854775806)
-
--- The node of a letter is in order: its state is an inner state of the model, its cost so far is in range, and its floor,
--- if it has one, is that cost joined with the tightest bound of its state.
+-- The node of a letter is in order: its state is an inner state of the model, its cost so far is in range, and its floor, if
+-- it has one, has an order word and is that cost joined with the tightest bound of its state.
 pub record InOrder (m : Model) (n : Node) : Type 0 where
-  pub state : is_state m.objects m.variables n.state ≡ true
+  pub is_node : IsNodeOf m n
   pub inner : Inner m n.state
-  pub cost : IfSome n.cost InRange
-  pub floor : IfSome n.floor (λ f. IsBounded m n.state n.cost f × HasWord f)
+  pub floor : IfSome n.floor (IsBounded m n.state n.cost)
 
 -- The letters of one sender to one shard: groups for layers 1, 2, 3 and so on, and the nodes in order. Each prefix of such
 -- a list is one.

@@ -7,7 +7,7 @@ use Rattle.dp_claims.specs.Dominance.{Covers}
 use Rattle.dp_claims.specs.Honest.{Honest}
 use Rattle.dp_model.specs.declared.parts.PlainState.{PlainState}
 use Rattle.dp_model.specs.declared.whole.Model.{Model}
-use Rattle.pass_ledger.specs.declared.nodes.Node.{Node}
+use Rattle.state_layout.specs.declared.node.Node.{Node}
 
 -- A pass: the model, whether pruning is on, how many shards there are, how many nodes of a layer each keeps at most, and
 -- which shard owns a state.

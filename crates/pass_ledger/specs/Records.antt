@@ -10,10 +10,10 @@ use Rattle.dp_model.specs.declared.parts.PlainState.{PlainState}
 use Rattle.pass_ledger.specs.Letters.{of, sender, InOrder, Posted, all_states_at}
 use Rattle.pass_ledger.specs.Passes.{Pass, word_of, IsStart, Prunes}
 use Rattle.pass_ledger.specs.Rows.{row, Received, IsCovered, IsRow}
-use Rattle.pass_ledger.specs.declared.nodes.StepId.{StepId}
-use Rattle.pass_ledger.specs.declared.nodes.Node.{Node}
-use Rattle.pass_ledger.specs.declared.nodes.Letter.{Letter}
-use Rattle.pass_ledger.specs.declared.nodes.Letter.TheVariants.{State, Mark}
+use Rattle.path_log.specs.declared.logs.StepId.{StepId}
+use Rattle.state_layout.specs.declared.node.Node.{Node}
+use Rattle.pass_ledger.specs.declared.mail.Letter.{Letter}
+use Rattle.pass_ledger.specs.declared.mail.Letter.TheVariants.{State, Mark}
 use Rattle.pass_ledger.specs.declared.records.PrunedAt.{PrunedAt}
 use Rattle.pass_ledger.specs.declared.records.LedgerRow.{LedgerRow}
 use Rattle.pass_ledger.specs.declared.records.Visit.{Visit}
@@ -200,38 +200,38 @@ pub record Done (p : Pass) (i : ℕ) (r : ShardRecord) : Type 0 where
 abbrev pub blank : ShardRecord
 blank = record { start = None; received = []; rows = []; waiting = []; visits = []; unsent = []; pruned = []; posted = []; held = None; fault = None }
 
-abbrev pub rec : List ShardRecord → ℕ → ShardRecord
-rec recs i = get_or recs i blank
+abbrev pub record_of : List ShardRecord → ℕ → ShardRecord
+record_of records i = get_or records i blank
 
 -- one list begins the other
 abbrev pub IsPrefix : List Letter → List Letter → Type 0
 IsPrefix xs ys = (rest : List Letter) × (xs ++ rest ≡ ys)
 
 -- Each record is its shard's own, and what a shard received of a sender is a prefix of what that one posted to it.
-pub record Together (p : Pass) (recs : List ShardRecord) : Type 0 where
-  pub own : (i : ℕ) → i < p.shards → Own p i (rec recs i)
-  pub prefix : (i j : ℕ) → i < p.shards → j < p.shards → IsPrefix (of (rec recs i).received j) (of (rec recs j).posted i)
+pub record Together (p : Pass) (records : List ShardRecord) : Type 0 where
+  pub own : (i : ℕ) → i < p.shards → Own p i (record_of records i)
+  pub prefix : (i j : ℕ) → i < p.shards → j < p.shards → IsPrefix (of (record_of records i).received j) (of (record_of records j).posted i)
 
 -- the visit that a step names
 abbrev pub visit_at : List ShardRecord → StepId → Option Visit
-visit_at recs id = slice_get (rec recs id.shard).visits id.place
+visit_at records id = slice_get (record_of records id.shard).visits id.place
 
 -- From a node the parents lead back to the target's node by these transitions, the last one first. Each parent is a visit.
 abbrev pub LeadsBack : Pass → List ShardRecord → Node → List ℕ → Type 0
-LeadsBack p recs n [] = IsStart p n
-LeadsBack p recs n (t ∷ back) = (id : StepId) × (v : Visit) × (n.parent ≡ Some id) × (n.transition ≡ t) × (visit_at recs id ≡ Some v) × LeadsBack p recs v.node back
+LeadsBack p records n [] = IsStart p n
+LeadsBack p records n (t ∷ back) = (id : StepId) × (v : Visit) × (n.parent ≡ Some id) × (n.transition ≡ t) × (visit_at records id ≡ Some v) × LeadsBack p records v.node back
 
 -- they do so along a path to its state, with its cost so far, of as many steps as its layer says
-pub record IsRooted (p : Pass) (recs : List ShardRecord) (l : ℕ) (n : Node) : Type 0 where
+pub record IsRooted (p : Pass) (records : List ShardRecord) (l : ℕ) (n : Node) : Type 0 where
   pub back : List ℕ
-  pub leads : LeadsBack p recs n back
+  pub leads : LeadsBack p records n back
   pub path : Path p.model (reverse back) n.state n.cost
   pub long : length back ≡ l
 
 -- the parents of the visit that a held solution names lead back along a legal list of its cost
 abbrev pub IsFound : Pass → List ShardRecord → Held → Type 0
-IsFound p recs held = (v : Visit) × (back : List ℕ) × (visit_at recs held.parent ≡ Some v) × LeadsBack p recs v.node back × Solution p.model (reverse back ++ held.transition ∷ []) held.cost
+IsFound p records held = (v : Visit) × (back : List ℕ) × (visit_at records held.parent ≡ Some v) × LeadsBack p records v.node back × Solution p.model (reverse back ++ held.transition ∷ []) held.cost
 
 -- the parents of the visit that a fault names lead back along a list that meets it
 abbrev pub IsMet : Pass → List ShardRecord → FaultHere → Type 0
-IsMet p recs fault = (v : Visit) × (back : List ℕ) × (visit_at recs fault.at ≡ Some v) × LeadsBack p recs v.node back × Meets p.model p.prune (reverse back ++ option_to_list fault.last) fault.spot fault.kind
+IsMet p records fault = (v : Visit) × (back : List ℕ) × (visit_at records fault.at ≡ Some v) × LeadsBack p records v.node back × Meets p.model p.prune (reverse back ++ option_to_list fault.last) fault.spot fault.kind

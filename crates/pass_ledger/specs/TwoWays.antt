@@ -1,6 +1,6 @@
 -- A worked model: one integer variable `a`, which begins at 0 and ends at 3, and two ways from 0 to 3. `p` leads from 0 to 1
 -- at weight 1, `q` from 0 to 2 at weight 2, `e` from 1 to 3 at weight 10, and `d` from 2 to 3 at weight 1.
-use Rattle.std.specs.Prelude.{◌≡◌, ℕ, ◌&&◌, true, false, IsTrue, List, [], ◌∷◌, Some, None, ℤ, pos, codes}
+use Rattle.std.specs.Prelude.{◌≡◌, ℕ, ◌&&◌, true, false, IsTrue, List, [], ◌∷◌, Some, pos, codes}
 use Rattle.std.specs.List.{list_all}
 use Rattle.std.proofs.Common.{refl, ap, ◌∙◌}
 use Rattle.std.proofs.lemmas.Bool.{and_from}
@@ -54,7 +54,7 @@ without_values t = record { transition = t; args = [] }
 abbrev pub AreBounds : List Num → Type 0
 AreBounds bounds = IsTrue (list_all (λ (n : Num). is_num [] variables [] n 0) bounds)
 
-typed_var : is_num [] variables [] (nums.Var 0) 0 ≡ true
+pub typed_var : is_num [] variables [] (nums.Var 0) 0 ≡ true
 unfolding nums.out-Num denote.Hole.Carrier.out
 typed_var = ap (λ (f : NumTest). f 0) (nums.fold_out-Num ArgTest CondTest NumTest SetTest arg_typed (cond_typed [] variables []) (num_typed variables []) (set_typed variables []) (nums.Var 0))
 

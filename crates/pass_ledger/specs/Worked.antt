@@ -1,18 +1,17 @@
 -- The ledgers of both passes of a search of the worked model, by one shard and without pruning. The first keeps one node of
 -- a layer, drops one, and finds the way of cost 11; the second keeps two, drops none, and finds the way of cost 3.
-use Rattle.std.specs.Prelude.{◌≡◌, ℕ, ◌<◌, false, List, [], ◌∷◌, length, sum_by, Option, Some, None, ℤ, pos}
+use Rattle.std.specs.Prelude.{◌≡◌, ℕ, false, List, [], ◌∷◌, length, sum_by, Option, Some, None, ℤ, pos}
 use Rattle.std.proofs.Common.{refl}
 use Rattle.std.proofs.Math.Nat.{zero-lt-suc}
-use Rattle.dp_model.specs.declared.parts.PlainState.{PlainState}
 use Rattle.dp_model.specs.declared.whole.Model.{Model}
 use Rattle.pass_ledger.specs.Passes.{Pass}
 use Rattle.pass_ledger.specs.Records.{step_id, visit_of}
 use Rattle.pass_ledger.specs.Ledgers.{Ledger, Closed, NoneBelow}
 use Rattle.pass_ledger.specs.TwoWays.{at, two_ways}
-use Rattle.pass_ledger.specs.declared.nodes.StepId.{StepId}
-use Rattle.pass_ledger.specs.declared.nodes.Node.{Node}
-use Rattle.pass_ledger.specs.declared.nodes.Letter.{Letter}
-use Rattle.pass_ledger.specs.declared.nodes.Letter.TheVariants.{State, Mark}
+use Rattle.path_log.specs.declared.logs.StepId.{StepId}
+use Rattle.state_layout.specs.declared.node.Node.{Node}
+use Rattle.pass_ledger.specs.declared.mail.Letter.{Letter}
+use Rattle.pass_ledger.specs.declared.mail.Letter.TheVariants.{State, Mark}
 use Rattle.pass_ledger.specs.declared.records.LedgerRow.{LedgerRow}
 use Rattle.pass_ledger.specs.declared.records.Held.{Held}
 use Rattle.pass_ledger.specs.declared.records.ShardRecord.{ShardRecord}

@@ -4,11 +4,11 @@ use Rattle.std.specs.List.{range_with_len}
 use Rattle.dp_claims.specs.Enough.{Has}
 use Rattle.pass_ledger.specs.Letters.{of}
 use Rattle.pass_ledger.specs.Passes.{Pass, word_of, StartsInner, IsStart, Prunes}
-use Rattle.pass_ledger.specs.Records.{rec, Together, IsMet}
+use Rattle.pass_ledger.specs.Records.{record_of, Together, IsMet}
 use Rattle.pass_ledger.specs.Events.{append_at, take, close, CanClose, prune, visit, CanVisit, post, CanPost}
 use Rattle.pass_ledger.specs.Ledgers.{Ledger, Closed, AllDone, PrunesAbove}
-use Rattle.pass_ledger.specs.declared.nodes.Node.{Node}
-use Rattle.pass_ledger.specs.declared.nodes.Letter.{Letter}
+use Rattle.state_layout.specs.declared.node.Node.{Node}
+use Rattle.pass_ledger.specs.declared.mail.Letter.{Letter}
 use Rattle.pass_ledger.specs.declared.records.PrunedAt.{PrunedAt}
 use Rattle.pass_ledger.specs.declared.records.LedgerRow.{LedgerRow}
 use Rattle.pass_ledger.specs.declared.records.Unsent.{Unsent}
@@ -66,17 +66,17 @@ abbrev pub with_seat : World → ℕ → Seat → World
 with_seat w i s = record w { seats = slice_set w.seats i s }
 
 abbrev pub happens : World → Event → World
-happens w (Event.Take i x rest) = record w { records = slice_set w.records i (take (rec w.records i) x); mail = slice_set w.mail i rest }
-happens w (Event.Close i new) = with_record w i (close (rec w.records i) new)
+happens w (Event.Take i x rest) = record w { records = slice_set w.records i (take (record_of w.records i) x); mail = slice_set w.mail i rest }
+happens w (Event.Close i new) = with_record w i (close (record_of w.records i) new)
 happens w (Event.Look i n rest true) =
-    record w { records = slice_set w.records i (prune (rec w.records i) n rest w.best); seats = slice_set w.seats i (record (seat w i) { looked = w.best; turn = Turn.Idle }) }
+    record w { records = slice_set w.records i (prune (record_of w.records i) n rest w.best); seats = slice_set w.seats i (record (seat w i) { looked = w.best; turn = Turn.Idle }) }
 happens w (Event.Look i n rest false) = with_seat w i (record (seat w i) { looked = w.best; turn = Turn.Looked })
 happens w (Event.Draw i) =
     record w { drawn = w.drawn + 1; seats = slice_set w.seats i (record (seat w i) { turn = Turn.Drew w.drawn; late = (seat w i).late + (if nat_lt w.drawn w.budget then 0 else 1) }) }
 happens w (Event.Visit i l n rest made prunes held fault) =
-    record w { records = slice_set w.records i (visit (rec w.records i) l n rest made prunes held fault); seats = slice_set w.seats i (record (seat w i) { turn = Turn.Idle }) }
+    record w { records = slice_set w.records i (visit (record_of w.records i) l n rest made prunes held fault); seats = slice_set w.seats i (record (seat w i) { turn = Turn.Idle }) }
 happens w (Event.Offer i word) = record w { best = min w.best word; seats = slice_set w.seats i (record (seat w i) { offered = Some word }) }
-happens w (Event.Post i to x rest) = record w { records = slice_set w.records i (post (rec w.records i) to x rest); mail = append_at w.mail to x }
+happens w (Event.Post i to x rest) = record w { records = slice_set w.records i (post (record_of w.records i) to x rest); mail = append_at w.mail to x }
 happens w (Event.Halt i cause) = record w { cause = max w.cause cause }
 happens w (Event.Seen i) = w
 
@@ -89,12 +89,12 @@ IsOffered p (Some word) (Some held) = pos word ≡ word_of p held.cost
 
 -- where a visit betters what its shard holds, the shard offers that word before it does anything else
 abbrev pub IsFree : Pass → World → ℕ → Type 0
-IsFree p w i = IsOffered p (seat w i).offered (rec w.records i).held
+IsFree p w i = IsOffered p (seat w i).offered (record_of w.records i).held
 
 -- why a shard halts: 1 where one of its draws gave a number not below the budget, 3 after a fault, and 2 where memory ran
 -- out, which may be at any time
 abbrev pub Raises : World → ℕ → ℕ → Type 0
-Raises w i cause = ((cause ≡ 1) × (0 < (seat w i).late)) ⊎ ((cause ≡ 2) ⊎ ((cause ≡ 3) × (f : FaultHere) × ((rec w.records i).fault ≡ Some f)))
+Raises w i cause = ((cause ≡ 1) × (0 < (seat w i).late)) ⊎ ((cause ≡ 2) ⊎ ((cause ≡ 3) × (f : FaultHere) × ((record_of w.records i).fault ≡ Some f)))
 
 -- the best word prunes the node, or it does not
 abbrev pub IsLook : Pass → ℕ → Node → Bool → Type 0
@@ -104,14 +104,14 @@ IsLook p best n false = Prunes p best n → ⊥
 -- When an event may happen.
 abbrev pub Allowed : Pass → World → Event → Type 0
 Allowed p w (Event.Take i x rest) = (i < p.shards) × IsFree p w i × (of w.mail i ≡ x ∷ rest)
-Allowed p w (Event.Close i new) = (i < p.shards) × IsFree p w i × CanClose p (rec w.records i) new
-Allowed p w (Event.Look i n rest pruned) = (i < p.shards) × IsFree p w i × ((rec w.records i).fault ≡ None) × ((rec w.records i).waiting ≡ n ∷ rest) × IsLook p w.best n pruned
+Allowed p w (Event.Close i new) = (i < p.shards) × IsFree p w i × CanClose p (record_of w.records i) new
+Allowed p w (Event.Look i n rest pruned) = (i < p.shards) × IsFree p w i × ((record_of w.records i).fault ≡ None) × ((record_of w.records i).waiting ≡ n ∷ rest) × IsLook p w.best n pruned
 Allowed p w (Event.Draw i) = (i < p.shards) × IsFree p w i × ((seat w i).turn ≡ Turn.Looked)
 Allowed p w (Event.Visit i l n rest made prunes held fault) =
     (i < p.shards) × IsFree p w i × ((number : ℕ) × ((seat w i).turn ≡ Turn.Drew number) × (number < w.budget))
-    × CanVisit p i (rec w.records i) l n rest made prunes held fault × ((q : PrunedAt) → Has prunes q → q.best ≡ (seat w i).looked)
-Allowed p w (Event.Offer i word) = (i < p.shards) × ((h : Held) × ((rec w.records i).held ≡ Some h) × (pos word ≡ word_of p h.cost))
-Allowed p w (Event.Post i to x rest) = (i < p.shards) × IsFree p w i × CanPost p i (rec w.records i) to x rest
+    × CanVisit p i (record_of w.records i) l n rest made prunes held fault × ((q : PrunedAt) → Has prunes q → q.best ≡ (seat w i).looked)
+Allowed p w (Event.Offer i word) = (i < p.shards) × ((h : Held) × ((record_of w.records i).held ≡ Some h) × (pos word ≡ word_of p h.cost))
+Allowed p w (Event.Post i to x rest) = (i < p.shards) × IsFree p w i × CanPost p i (record_of w.records i) to x rest
 Allowed p w (Event.Halt i cause) = (i < p.shards) × Raises w i cause
 Allowed p w (Event.Seen i) = i < p.shards
 
@@ -184,7 +184,7 @@ draws (e ∷ events) = is_draw e + draws events
 abbrev pub IsRaised : Pass → World → Type 0
 IsRaised p w =
     (i : ℕ) × (i < p.shards)
-    × (((w.cause ≡ 1) × (0 < (seat w i).late) × (w.budget < w.drawn)) ⊎ ((w.cause ≡ 2) ⊎ ((w.cause ≡ 3) × (f : FaultHere) × ((rec w.records i).fault ≡ Some f) × IsMet p w.records f)))
+    × (((w.cause ≡ 1) × (0 < (seat w i).late) × (w.budget < w.drawn)) ⊎ ((w.cause ≡ 2) ⊎ ((w.cause ≡ 3) × (f : FaultHere) × ((record_of w.records i).fault ≡ Some f) × IsMet p w.records f)))
 
 -- What holds after a run: the records are together, so each received list is a prefix of the posted one; no shard looked at a
 -- value less than the best word, or pruned by one; the best word is the least of the opening word and the offers; the numbers

@@ -1,5 +1,6 @@
 ghost use Rattle.pass_ledger.specs.Counts.{LawEnough};
-ghost use Rattle.pass_ledger.specs.Groups.{LawEmpty, LawNext, LawPrefix};
+ghost use Rattle.pass_ledger.specs.Groups.{LawEmpty, LawGrown, LawMarks, LawNext, LawPrefix, LawStates};
+ghost use Rattle.pass_ledger.specs.Logs.{LawLogs};
 ghost use Rattle.pass_ledger.specs.Ledgers.{LawClosed, LawRecords};
 ghost use Rattle.pass_ledger.specs.Worlds.{LawRuns};
 
@@ -27,9 +28,18 @@ pub fn law_enough()
 {}
 
 /// The empty list of letters is lawful, each prefix of a lawful list is lawful, and which letter may come next is told by
-/// the unfinished group.
+/// the unfinished group: its layer, before which each layer has its mark, and how many states of it have come.
 pub fn law_letters()
     ensures empty { LawEmpty }
     ensures front { LawPrefix }
     ensures next { LawNext }
+    ensures grown { LawGrown }
+    ensures marks { LawMarks }
+    ensures states { LawStates }
+{}
+
+/// Where each shard's log of steps has its visited nodes in order, parents that lead back to the target in the records do so
+/// in the logs.
+pub fn law_logs()
+    ensures { LawLogs }
 {}

@@ -1,5 +1,7 @@
-use crate::nodes::{Letter, Node, StepId};
+use crate::mail::Letter;
 use dp_model::{FaultKind, Seq, Spot};
+use path_log::StepId;
+use state_layout::Node;
 
 /// A node that was pruned, and the best word that pruned it.
 #[derive(Debug, Drop)]
