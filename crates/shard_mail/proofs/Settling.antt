@@ -1,5 +1,5 @@
 -- What is known of each poster when a mailbox is settled, and of the taker's view while it is drained.
-use Rattle.std.proofs.Common.{◌≡◌, ℕ, zero, suc, ◌<◌, List, [], ◌∷◌, ◌++◌, length, slice_get, Some, None, Result, Ok, Err, IfErr, refl, sym, ap, ◌∙◌, subst, ⊎_elim, append_assoc, arith}
+use Rattle.std.proofs.Common.{◌≡◌, ℕ, zero, suc, ◌<◌, List, [], ◌∷◌, ◌++◌, length, slice_get, Some, Result, Ok, Err, IfErr, refl, sym, ap, ◌∙◌, subst, ⊎_elim, append_assoc, arith}
 use Rattle.std.proofs.lemmas.Option.{none-some}
 use Rattle.shard_mail.specs.declared.view.View.{View}
 use Rattle.shard_mail.specs.Mails.{letters_of, Ended, IsRest, IsBegun}

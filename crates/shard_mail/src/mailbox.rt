@@ -4,7 +4,7 @@ ghost use Rattle.shard_mail.specs.Names.{name_of};
 ghost use Rattle.shard_mail.specs.Mails.{LawfulUnder};
 ghost use Rattle.shard_mail.specs.Ends.{IsPosterOf, IsTakerOf, new_taker, posted_by, taken_by, IsNextFor, HasTakenAll, AreNewPosters, ArePostersOf, IsSettled, IsBegunOf};
 
-use crate::ends::{Pass, Poster, Settled, Taker};
+use crate::ends::{Poster, Settled, Taker};
 use crate::rule::{Mailing, Post, Take};
 use crate::signed::Signed;
 use crate::steps::{drain, end_posters, make_posters, open};

@@ -13,7 +13,7 @@ use crate::signed::Signed;
 use std::alloc::{AllocError, Global};
 use std::sync::Wait;
 
-/// Fixes the terms and the number of senders.
+/// Fixes the terms and the number of senders, in the taker's view alone: neither is kept.
 pub(crate) fn open<T: Signed, N: Names>(
     queue: &Queue<T>,
     pass: &mut Pass<T>,

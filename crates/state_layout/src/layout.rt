@@ -1,14 +1,19 @@
 //! The layout of a model's states, and the calls that need it.
 
-ghost use Rattle.std.specs.Prelude.{◌≡◌, ◌↔◌, IsTrue, IfOk};
+ghost use Rattle.std.specs.Prelude.{◌≡◌, ◌↔◌, ◌≤◌, IsTrue, IfOk};
 ghost use Rattle.dp_model.specs.declared.whole.Model.{Model as DpModel};
 ghost use Rattle.dp_model.specs.Typing.{type_count};
+ghost use Rattle.dp_claims.specs.Dominance.{Dominates};
 ghost use Rattle.state_layout.specs.Slots.{slot_of};
+ghost use Rattle.state_layout.specs.Signatures.{signature_of, owner_of};
+ghost use Rattle.state_layout.specs.Tests.{dominates_by};
 ghost use Rattle.state_layout.specs.Conditions.{IsLayoutOf, IsStateOf, IsStateFor, IsPackedOf, IsPackedFor};
 
 use crate::copies::copy_state;
+use crate::dominance::are_at_least;
 use crate::packed::Packed;
 use crate::sames::are_same;
+use crate::words::{hash_of, words_of};
 use dp_base::Seq;
 use dp_model::{Model as DpModel, ObjectType, PlainState, Preference, VarKind, Variable};
 use std::alloc::{AllocError, Global};
@@ -76,6 +81,40 @@ impl Layout {
         ensures { IsTrue result ↔ (a.now ≡ b.now) }
     {
         are_same(a.state(), b.state())
+    }
+
+    /// The words of the values of all variables but the resources, in order of definition: one for an integer variable (in
+    /// two's complement) or an element variable; for a set one for each 64 members of its object type, rounded up, with
+    /// member m as bit m mod 64 of word m div 64. States of which one dominates the other have one signature.
+    pub fn signature(&self, alloc: Global, p: &Packed) -> Result<Seq<u64>, AllocError>
+        requires { IsPackedFor self.now p.now }
+        ensures { IfOk result (λ words. words ≡ signature_of self.now p.now) }
+    {
+        let values = p.state().values().list();
+        Ok(Seq::of(words_of(alloc, &self.slots, values)?))
+    }
+
+    /// Which of so many shards owns a state: FNV-1a of 64 bits over the bytes of its signature, low byte first, modulo
+    /// their number. It takes no memory.
+    pub fn owner(&self, p: &Packed, shards: u32) -> u32
+        requires packed { IsPackedFor self.now p.now }
+        requires shards { 1 ≤ shards }
+        ensures { result ≡ owner_of self.now p.now shards }
+    {
+        let hash = hash_of(&self.slots, p.state().values().list());
+        (hash % shards as u64) as u32
+    }
+
+    /// Whether a state dominates another: it has the same values on all variables but the resources, and is at least as
+    /// good on each resource. Each state dominates itself. It takes no memory.
+    pub fn dominates(&self, a: &Packed, b: &Packed) -> bool
+        requires left { IsPackedFor self.now a.now }
+        requires right { IsPackedFor self.now b.now }
+        ensures test { result ≡ dominates_by self.now a.now b.now }
+        ensures dominates { (m : DpModel) → IsLayoutOf m self.now → IsTrue result ↔ Dominates m a.now b.now }
+    {
+        let theirs = b.state().values().list();
+        are_at_least(&self.slots, a.state().values().list(), theirs)
     }
 }
 

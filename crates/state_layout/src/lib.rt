@@ -2,11 +2,15 @@
 #![tactic(auto)]
 
 mod copies;
+mod dominance;
+mod laws;
 mod layout;
 mod node;
 mod packed;
 mod sames;
+mod words;
 
+pub use laws::law_signature;
 pub use layout::{Layout, Slot};
 pub use node::Node;
 pub use packed::Packed;

@@ -25,7 +25,7 @@ fn are_same_values(xs: &[PlainValue], ys: &[PlainValue]) -> bool
     true
 }
 
-fn is_same_value(x: &PlainValue, y: &PlainValue) -> bool
+pub(crate) fn is_same_value(x: &PlainValue, y: &PlainValue) -> bool
     ensures { IsTrue result ↔ (x.now ≡ y.now) }
 {
     match (x, y) {
@@ -35,7 +35,7 @@ fn is_same_value(x: &PlainValue, y: &PlainValue) -> bool
     }
 }
 
-fn are_same_sets(a: &Seq<u32>, b: &Seq<u32>) -> bool
+pub(crate) fn are_same_sets(a: &Seq<u32>, b: &Seq<u32>) -> bool
     ensures { IsTrue result ↔ (a.now ≡ b.now) }
 {
     a.list() == b.list()

@@ -74,7 +74,7 @@ fn reads_in_few_calls(rt: HostRuntime) -> Result<(), Fail> {
 }
 
 /// A name, a limit, and how many bytes come, if the file is not too long.
-static LIMITS: [(&str, usize, Option<usize>); 6] = [
+static LIMITS: [(&str, u64, Option<usize>); 6] = [
     ("three", 10, Some(3)),
     ("three", 3, Some(3)),
     ("three", 2, None),

@@ -85,7 +85,7 @@ fn writes_faults(rt: HostRuntime) -> Result<(), Fail> {
 }
 
 fn verdicts(alloc: Global) -> Result<Vec<Verdict>, AllocError> {
-    vec![in alloc;
+    Ok(vec![in alloc;
         Verdict::Optimal(-1029),
         Verdict::Infeasible,
         Verdict::Stopped(u64::MAX),
@@ -95,7 +95,7 @@ fn verdicts(alloc: Global) -> Result<Vec<Verdict>, AllocError> {
         Verdict::Illegal(2, Reason::NotBase),
         Verdict::Illegal(3, Reason::Forced),
         Verdict::Illegal(4, Reason::NotEnabled),
-    ]
+    ]?)
 }
 
 const OTHER_LINES: &str = "\

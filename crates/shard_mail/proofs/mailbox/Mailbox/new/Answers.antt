@@ -8,5 +8,5 @@ pub with_rule-requires : goal.with_rule-requires
 with_rule-requires g c = delivery.opened g.row.T-Terms.coded g.T.Signed.lawful g.T.Signed.sender_of g.met.T.Signed.starts g.met.T.Signed.begins
 
 pub returns-clause-posters : goal.returns-clause-posters
-returns-clause-posters g c = 
+returns-clause-posters g c =
     rw c.of.ensures (subst (λ (n : ℕ). ArePostersOf record { id = c.in_ok-queue.queue.web; senders = n } c.in_ok-posters.posters.items) (ap (λ v. v.senders) c.open.ensures.view) (new_are_of _ _ _ c.in_ok-posters.ensures.posters))
