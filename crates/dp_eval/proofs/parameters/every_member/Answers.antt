@@ -1,7 +1,7 @@
 use Rattle.std.proofs.Common.{arith, ◌+◌, ◌≡◌}
 use Rattle.std.proofs.lemmas.Grind.{common_steps}
 use Rattle.dp_eval.proofs.Steps.{range-more}
-use Rattle.dp_eval.proofs.evaluate.every_member.Goals as goal
+use Rattle.dp_eval.proofs.parameters.every_member.Goals as goal
 
 pub loop-member-preserved : goal.loop-member-preserved
 loop-member-preserved c =
