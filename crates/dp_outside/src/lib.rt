@@ -24,6 +24,3 @@ pub use real::{FileShelf, OutSink};
 pub use shelves::Shelf;
 pub use sinks::Sink;
 pub use writing::put_all;
-
-#[cfg(test)]
-mod tests;

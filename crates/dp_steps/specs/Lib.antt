@@ -1,2 +1,4 @@
 pub mod States
+pub mod Bounds
 pub mod Lists
+pub mod Faults

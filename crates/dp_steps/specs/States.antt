@@ -1,5 +1,5 @@
 -- Which states are allowed and base, which transitions are enabled in a state, and where they lead.
-use Rattle.std.specs.Prelude.{◌≡◌, ℕ, ◌<◌, ◌^◌, Bool, true, false, ◌&&◌, nat_lt, if◌then◌else◌, ◌⊎◌, List, [], ◌∷◌, ◌++◌, slice_get, slice_set, fold, Option, Some, None, option_and_then, option_map, option_to_list, Result, Ok, Err, ℤ, pos, negsuc}
+use Rattle.std.specs.Prelude.{◌≡◌, ℕ, ◌<◌, ◌^◌, Bool, true, false, ◌&&◌, nat_lt, if◌then◌else◌, ◌⊎◌, List, [], ◌∷◌, ◌++◌, slice_set, fold, Option, Some, None, option_to_list, Result, Ok, Err, ℤ, pos, negsuc}
 use Rattle.dp_model.specs.Costs.{better_of}
 use Rattle.dp_base.specs.Results.{◌>>=◌, in_turn}
 use Rattle.dp_model.specs.StepTexts.{ground_of}
@@ -15,7 +15,6 @@ use Rattle.dp_model.specs.declared.parts.VarKind.TheVariants as kinds
 use Rattle.dp_model.specs.declared.parts.Effect.{Effect}
 use Rattle.dp_model.specs.declared.parts.Effect.TheVariants as effects
 use Rattle.dp_model.specs.declared.parts.Transition.{Transition}
-use Rattle.dp_model.specs.declared.parts.Ground.{Ground}
 use Rattle.dp_model.specs.declared.parts.BaseCase.{BaseCase}
 use Rattle.dp_model.specs.declared.parts.PlainValue.{PlainValue}
 use Rattle.dp_model.specs.declared.parts.PlainValue.TheVariants as values

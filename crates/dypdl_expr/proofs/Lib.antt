@@ -2,3 +2,4 @@ pub mod TokenSteps
 pub mod ReadSteps
 pub mod Unique
 pub mod Whole
+pub mod OneAtLeast

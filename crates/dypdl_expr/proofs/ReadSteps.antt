@@ -2,10 +2,9 @@
 use Rattle.std.proofs.Common.{◌≡◌, ℕ, zero, suc, ◌-◌, ◌≤◌, ◌<◌, List, [], ◌∷◌, ◌++◌, length, refl, sym, ap, subst, arith}
 use Rattle.dypdl_expr.specs.Tokens.{Token, Open, Close, Bar, Word}
 use Rattle.dypdl_expr.specs.Grammar.{IsWord, First, Items, ListBody, BarsBody, Begins}
-use Rattle.dypdl_expr.specs.Refusals.{IsBadWord, ListFails, BarsFails, Fails, MemoryOr}
+use Rattle.dypdl_expr.specs.Refusals.{IsBadWord, ListFails, BarsFails, Fails}
 use Rattle.dypdl_expr.specs.declared.expr.Expr.{Expr}
 use Rattle.dypdl_expr.specs.declared.expr.ExprEnd.{ExprEnd}
-use Rattle.dypdl_expr.specs.declared.expr.ExprEnd.TheVariants.{BadToken, Unbalanced, Empty, Rest, TooNested, Memory}
 
 -- the items of a list so far: the first one and those that were read after it
 pub record RowSoFar (Item : List Token → Expr → List Token → Type 0) (head : Expr) (tokens : List Token) (items : List Expr) (rest : List Token) : Type 0 where
@@ -15,7 +14,7 @@ pub record RowSoFar (Item : List Token → Expr → List Token → Type 0) (head
 
 -- ---- an expression takes at least one token
 
-abbrev Shortens : (List Token → Expr → List Token → Type 0) → Type 0
+abbrev pub Shortens : (List Token → Expr → List Token → Type 0) → Type 0
 Shortens Item = (tokens : List Token) (e : Expr) (rest : List Token) → Item tokens e rest → length rest < length tokens
 
 items_shorten : (Item : List Token → Expr → List Token → Type 0) → Shortens Item → (tokens : List Token) (es : List Expr) (rest : List Token) → Items Item tokens es rest → length rest ≤ length tokens
@@ -71,15 +70,6 @@ pub bars_form : (levels at : ℕ) (tokens : List Token) (e : Expr) (rest : List 
 bars_form levels at tokens e rest some body =
     let one : levels ≡ suc (levels - 1) = omega arith in
     subst (λ (n : ℕ). Begins n (Bar at ∷ tokens) e rest) (sym one) body
-
--- what is refused stays refused under another name
-pub memory_or : (P Q : ExprEnd → Type 0) → ((r : ExprEnd) → P r → Q r) → (r : ExprEnd) → MemoryOr P r → MemoryOr Q r
-memory_or P Q h Memory is = tt
-memory_or P Q h (BadToken at) is = h (BadToken at) is
-memory_or P Q h (Unbalanced at) is = h (Unbalanced at) is
-memory_or P Q h (Empty at) is = h (Empty at) is
-memory_or P Q h (Rest at) is = h (Rest at) is
-memory_or P Q h (TooNested at) is = h (TooNested at) is
 
 pub word_fails : (outer levels at : ℕ) (word : List ℕ) (rest : List Token) → 0 < levels → (r : ExprEnd) → IsBadWord at word r → Fails outer levels (Word at word ∷ rest) r
 word_fails outer levels at word rest some r is =

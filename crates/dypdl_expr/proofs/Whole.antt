@@ -1,9 +1,10 @@
 -- What is known where a whole text was read.
-use Rattle.std.proofs.Common.{◌≡◌, ℕ, Bool, true, false, cond, List, [], ◌∷◌, Result, Ok, Err, refl, inr}
+use Rattle.std.proofs.Common.{◌≡◌, ℕ, List, [], ◌∷◌, Result, Ok, Err, refl, inr}
 use Rattle.std.specs.Prelude.{IfOk, IfErr, MatchResult}
-use Rattle.dypdl_expr.specs.Tokens.{Token, has_control}
+use Rattle.dp_base.proofs.Memory.{memory_or, memory_or-from}
+use Rattle.dypdl_expr.specs.Tokens.{Token}
 use Rattle.dypdl_expr.specs.Grammar.{Begins}
-use Rattle.dypdl_expr.specs.Refusals.{WholeFails, MemoryOr, stray}
+use Rattle.dypdl_expr.specs.Refusals.{WholeFails, is_memory, MemoryOr, stray}
 use Rattle.dypdl_expr.specs.Lexemes.{followed_by, after_expression}
 use Rattle.dypdl_expr.specs.declared.expr.Expr.{Expr}
 use Rattle.dypdl_expr.specs.declared.expr.ExprEnd.{ExprEnd}
@@ -18,16 +19,12 @@ one_more : (levels : ℕ) (all : List Token) (e : Expr) (next : Token) (rest : L
 one_more levels [] e next rest is = absurd (nothing_begins levels e (next ∷ rest) is)
 one_more levels (t ∷ ts) e next rest is = inr (e, next, rest, is, refl)
 
-word_refused : (P : ExprEnd → Type 0) (at : ℕ) (bad : Bool) → P (cond bad (BadToken at) (Rest at)) → MemoryOr P (cond bad (BadToken at) (Rest at))
-word_refused P at true is = is
-word_refused P at false is = is
-
 pub one_too_many : (levels outer : ℕ) (all : List Token) (e : Expr) (next : Lexeme) (rest : List Token) → (next ≡ End → ⊥) → Begins levels all e (followed_by next rest) → MemoryOr (WholeFails levels all) (after_expression outer next)
 one_too_many levels outer all e End rest some is = absurd (some refl)
 one_too_many levels outer all e (Open at) rest some is = one_more levels all e (token.Open at) rest is
 one_too_many levels outer all e (Close at) rest some is = one_more levels all e (token.Close at) rest is
 one_too_many levels outer all e (Bar at) rest some is = one_more levels all e (token.Bar at) rest is
-one_too_many levels outer all e (Word at word) rest some is = word_refused (WholeFails levels all) at (has_control word.now) (one_more levels all e (token.Word at word.now) rest is)
+one_too_many levels outer all e (Word at word) rest some is = memory_or-from is_memory (WholeFails levels all) (after_expression outer (Word at word)) (one_more levels all e (token.Word at word.now) rest is)
 
 -- ---- both directions, of what was answered
 
@@ -45,9 +42,4 @@ module _ (levels : ℕ) (all : List Token) where
   pub only_refusal : (answer : Result Expr ExprEnd) → IfOk answer (λ e. Begins levels all e []) → IfErr answer (λ r. MemoryOr (WholeFails levels all) r)
       → (r : ExprEnd) → WholeFails levels all r → MatchResult answer (λ _. ⊥) (λ found. MemoryOr (λ first. first ≡ r) found)
   only_refusal (Ok f) ok err r is = whole_apart levels all f r ok is
-  only_refusal (Err Memory) ok err r is = tt
-  only_refusal (Err (BadToken at)) ok err r is = one_whole_refusal levels all (BadToken at) r err is
-  only_refusal (Err (Unbalanced at)) ok err r is = one_whole_refusal levels all (Unbalanced at) r err is
-  only_refusal (Err (Empty at)) ok err r is = one_whole_refusal levels all (Empty at) r err is
-  only_refusal (Err (Rest at)) ok err r is = one_whole_refusal levels all (Rest at) r err is
-  only_refusal (Err (TooNested at)) ok err r is = one_whole_refusal levels all (TooNested at) r err is
+  only_refusal (Err f) ok err r is = memory_or is_memory (WholeFails levels all) (λ first. first ≡ r) (λ first bad. one_whole_refusal levels all first r bad is) f err

@@ -1,5 +1,6 @@
 -- The first refusal of a text that is no expression, from left to right.
-use Rattle.std.specs.Prelude.{◌≡◌, ℕ, zero, suc, List, [], ◌∷◌, true, ◌⊎◌, if◌then◌else◌, ⊤}
+use Rattle.std.specs.Prelude.{◌≡◌, ℕ, zero, suc, List, [], ◌∷◌, Bool, true, false, ◌⊎◌, if◌then◌else◌, ⊤}
+use Rattle.dp_base.specs.Results as results
 use Rattle.dypdl_expr.specs.Tokens.{Token, Open, Close, Bar, Word, tokens_of, offset, has_control}
 use Rattle.dypdl_expr.specs.Grammar.{First, Items, Begins, most_levels}
 use Rattle.dypdl_expr.specs.declared.expr.Expr.{Expr}
@@ -82,7 +83,11 @@ WholeFails levels (token ∷ tokens) r =
 abbrev pub Refused : List ℕ → ExprEnd → Type 0
 Refused text r = WholeFails most_levels (tokens_of text) r
 
+-- memory ran out
+abbrev pub is_memory : ExprEnd → Bool
+is_memory Memory = true
+is_memory r = false
+
 -- memory ran out, or P says what was refused
 abbrev pub MemoryOr : (ExprEnd → Type 0) → ExprEnd → Type 0
-MemoryOr P Memory = ⊤
-MemoryOr P r = P r
+MemoryOr P r = results.MemoryOr is_memory P r

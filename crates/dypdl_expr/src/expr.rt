@@ -1,3 +1,5 @@
+//! Expressions, and why a text is none.
+
 ghost use Rattle.std.specs.Prelude.{◌≡◌};
 ghost use Rattle.dypdl_expr.specs.declared.expr.ExprEnd.TheVariants.{Memory};
 

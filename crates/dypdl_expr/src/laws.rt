@@ -1,4 +1,6 @@
-ghost use Rattle.std.specs.Prelude.{◌≡◌, ℕ, List};
+//! What holds of all texts.
+
+ghost use Rattle.std.specs.Prelude.{◌≡◌, ◌⊎◌, ℕ, List};
 ghost use Rattle.dypdl_expr.specs.Grammar.{Reads};
 ghost use Rattle.dypdl_expr.specs.Refusals.{Refused};
 ghost use Rattle.dypdl_expr.specs.declared.expr.Expr.{Expr};
@@ -11,4 +13,10 @@ pub fn one_reading()
         → Reads text e → Refused text r → ⊥ }
     ensures one_refusal { (text : List ℕ) (r s : ExprEnd)
         → Refused text r → Refused text s → r ≡ s }
+{}
+
+/// A law: each text is an expression or has a first refusal.
+pub fn some_reading()
+    ensures { (text : List ℕ)
+        → ((e : Expr) × Reads text e) ⊎ ((r : ExprEnd) × Refused text r) }
 {}

@@ -8,8 +8,5 @@ mod reading;
 mod tokens;
 
 pub use expr::{Expr, ExprEnd};
-pub use laws::one_reading;
+pub use laws::{one_reading, some_reading};
 pub use reading::read_expr;
-
-#[cfg(test)]
-mod tests;

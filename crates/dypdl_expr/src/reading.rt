@@ -1,3 +1,5 @@
+//! Reads the expression that a text is.
+
 ghost use Rattle.std.specs.Prelude.{◌≡◌, ◌≤◌, ℕ, List, [], length, IfOk, IfErr, MatchResult};
 ghost use Rattle.dypdl_expr.specs.Grammar.{IsWord, First, ListBody, BarsBody, Begins, Reads};
 ghost use Rattle.dypdl_expr.specs.Refusals.{IsBadWord, FirstFails, ListFails, BarsFails, Fails, WholeFails, Refused, MemoryOr};

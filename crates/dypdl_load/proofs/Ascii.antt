@@ -4,7 +4,8 @@ use Rattle.std.specs.List.{list_all}
 use Rattle.std.specs.Str.{IsAscii}
 use Rattle.std.proofs.lemmas.Bool.{and_parts, or_cases, leb-true, eqb-true}
 use Rattle.std.proofs.lemmas.Str.Ascii.{IsAscii-nil, IsAscii-cons}
-use Rattle.dypdl_load.specs.FirstForm.{is_name_byte, is_letter, is_digit}
+use Rattle.dp_base.specs.Bytes.{is_digit}
+use Rattle.dypdl_load.specs.FirstForm.{is_name_byte, is_letter}
 
 name_byte_small : (b : ℕ) → is_name_byte b ≡ true → b < 128
 name_byte_small b e = letter (or_cases (is_letter b) (is_digit b || eqb b 95) e) where

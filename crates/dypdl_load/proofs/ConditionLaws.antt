@@ -9,7 +9,8 @@ use Rattle.dp_model.specs.declared.trees.Cond.TheVariants as conds
 use Rattle.dp_model.specs.declared.trees.NumOp.TheVariants as operations
 use Rattle.dp_model.specs.declared.trees.Compare.TheVariants as comparisons
 use Rattle.dp_model.specs.declared.parts.Effect.{Effect}
-use Rattle.dypdl_load.specs.FirstForm.{Number, NewValue, Constant, Added, line, number_text, condition_text, value_text, change_text, IsNumber, IsWord, is_digit, is_among, IsCondition, IsNewValue, IsChange}
+use Rattle.dp_base.specs.Bytes.{line, is_digit}
+use Rattle.dypdl_load.specs.FirstForm.{Number, NewValue, Constant, Added, number_text, condition_text, value_text, change_text, IsNumber, IsWord, is_among, IsCondition, IsNewValue, IsChange}
 use Rattle.dypdl_load.specs.Meaning.{number_value, variable_number, condition_of, value_of, effect_of}
 use Rattle.dypdl_load.specs.Reading.{literal_at, line_at, constant, begins}
 use Rattle.dypdl_load.specs.ReadFirst.{comparison_at, condition_at, condition_line_at, value_at, change_at}

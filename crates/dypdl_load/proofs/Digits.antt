@@ -5,7 +5,7 @@ use Rattle.std.proofs.lemmas.Bool.{and_parts, leb-true, both_ways, true_from_ne_
 use Rattle.std.proofs.lemmas.List.Folds.{list_all_at}
 use Rattle.std.proofs.lemmas.List.Sums.{fold_more}
 use Rattle.std.proofs.Math.Nat.{pow-le-pow_right, mul-le-mul_right}
-use Rattle.dypdl_load.specs.FirstForm.{is_digit}
+use Rattle.dp_base.specs.Bytes.{is_digit}
 use Rattle.dypdl_load.specs.Meaning.{digits_value}
 
 abbrev pub step : ℕ → ℕ → ℕ

@@ -5,7 +5,8 @@ use Rattle.std.specs.List.{flat_map, AllByRecursion}
 use Rattle.std.specs.Str.{bytes_eq}
 use Rattle.dp_model.specs.declared.trees.Cond.{Cond}
 use Rattle.dp_model.specs.declared.parts.Transition.{Transition}
-use Rattle.dypdl_load.specs.FirstForm.{Condition, Move, DomainForm, line, condition_text, variable_text, move_text, base_text, domain_text, IsWord, IsCondition, IsMove, IsDomain, AreDistinct}
+use Rattle.dp_base.specs.Bytes.{line}
+use Rattle.dypdl_load.specs.FirstForm.{Condition, Move, DomainForm, condition_text, variable_text, move_text, base_text, domain_text, IsWord, IsCondition, IsMove, IsDomain, AreDistinct}
 use Rattle.dypdl_load.specs.Meaning.{condition_of, transition_of}
 use Rattle.dypdl_load.specs.Reading.{◌>>=◌, with_value, many, differ, with_front, begins}
 use Rattle.dypdl_load.specs.ReadFirst.{condition_line_at, variable_line_at, variables_at, base_at, heads_at, bodies_at, domain_of}

@@ -12,5 +12,7 @@ pub mod TransitionLaws
 pub mod DomainLaws
 pub mod ProblemLaws
 pub mod Typed
+pub mod Limited
+pub mod Same
 pub mod Meanings
 pub mod Seen

@@ -22,7 +22,7 @@ use Rattle.dypdl_load.proofs.Ascii.{name_ascii}
 use Rattle.dypdl_load.proofs.Readers.{bind_some, then_some, some_is}
 use Rattle.dypdl_load.proofs.DomainLaws.{parts_of, domain_takes, domain_again}
 use Rattle.dypdl_load.proofs.ProblemLaws.{values_of, problem_takes, problem_again}
-use Rattle.dypdl_load.proofs.Typed.{same_model}
+use Rattle.dypdl_load.proofs.Same.{same_model}
 
 -- the model of the parts is the model of the forms
 made_is : (d : DomainForm) (p : ProblemForm) → model_made (parts_of d) (values_of p) ≡ model_of d p

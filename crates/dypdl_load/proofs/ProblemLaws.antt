@@ -4,7 +4,8 @@ use Rattle.std.specs.Prelude.{codes}
 use Rattle.std.specs.List.{flat_map, AllByRecursion}
 use Rattle.dp_model.specs.declared.parts.PlainValue.{PlainValue}
 use Rattle.dp_model.specs.declared.parts.PlainValue.TheVariants as values
-use Rattle.dypdl_load.specs.FirstForm.{Number, Setting, ProblemForm, line, number_text, setting_text, problem_text, IsNumber, IsProblem}
+use Rattle.dp_base.specs.Bytes.{line}
+use Rattle.dypdl_load.specs.FirstForm.{Number, Setting, ProblemForm, number_text, setting_text, problem_text, IsNumber, IsProblem}
 use Rattle.dypdl_load.specs.Meaning.{number_value}
 use Rattle.dypdl_load.specs.Reading.{◌>>=◌, behind, line_at, and_then, mapped, word_at}
 use Rattle.dypdl_load.specs.ReadFirst.{setting_at, settings_at, problem_of}

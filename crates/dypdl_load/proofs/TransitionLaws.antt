@@ -7,7 +7,8 @@ use Rattle.std.proofs.lemmas.Bool.{lt-ltb, ltb-true, eq-eqb, ne_eqb, both_ways, 
 use Rattle.std.proofs.lemmas.List.{length-map}
 use Rattle.std.proofs.lemmas.Slice.Eq.{bytes_eq-Decides}
 use Rattle.dp_model.specs.declared.trees.Num.TheVariants as nums
-use Rattle.dypdl_load.specs.FirstForm.{Number, Condition, Change, line, number_text, change_text, precondition_text, move_text, IsNumber, IsWord, IsCondition, IsChange, IsMove, AreDistinct, is_among}
+use Rattle.dp_base.specs.Bytes.{line}
+use Rattle.dypdl_load.specs.FirstForm.{Number, Condition, Change, number_text, change_text, precondition_text, move_text, IsNumber, IsWord, IsCondition, IsChange, IsMove, AreDistinct, is_among}
 use Rattle.dypdl_load.specs.Meaning.{number_value, variable_number, condition_of, effect_of, transition_of}
 use Rattle.dypdl_load.specs.Reading.{some, differ, begins}
 use Rattle.dypdl_load.specs.ReadFirst.{preconditions_at, set_alike, changes_at, transition_made, cost_at, rules_at, transition_at, named_alike, transitions_at}
@@ -44,7 +45,7 @@ numbers_agree vs v w a b = step (bytes_eq v w) refl where
   step true h = eq-eqb _ _ (ap (variable_number vs) ((bytes_eq-Decides v w).0 h))
   step false h = ne_eqb _ _ (λ e. both_ways (bytes_eq v w) h ((bytes_eq-Decides v w).1 (sym (place_holds vs v a) ∙ ap (λ (n : ℕ). get_or vs n []) e ∙ place_holds vs w b)))
 
-changes_agree : (vs : List (List ℕ)) (c d : Change) → IsChange vs c → IsChange vs d → set_alike (effect_of vs c) (effect_of vs d) ≡ bytes_eq c.variable d.variable
+pub changes_agree : (vs : List (List ℕ)) (c d : Change) → IsChange vs c → IsChange vs d → set_alike (effect_of vs c) (effect_of vs d) ≡ bytes_eq c.variable d.variable
 changes_agree vs c d f g = numbers_agree vs c.variable d.variable f.0 g.0
 
 pub changes_reader : (vs : List (List ℕ)) → AllByRecursion IsWord vs

@@ -1,14 +1,13 @@
 -- What is read of texts that fit is well typed over their variables, and equal parts make equal models.
-use Rattle.std.proofs.Common.{◌≡◌, ℕ, zero, suc, ◌+◌, ◌*◌, ◌^◌, ◌<◌, ◌≤◌, Bool, true, false, cond, not, ◌&&◌, ◌||◌, if◌then◌else◌, List, [], ◌∷◌, length, map, Some, refl, ap, subst, ◌∙◌, ℤ, pos, neg_ℤ, arith}
+use Rattle.std.proofs.Common.{◌≡◌, ℕ, zero, suc, ◌+◌, ◌*◌, ◌^◌, ◌<◌, ◌≤◌, Bool, true, false, cond, eqb, not, ◌&&◌, ◌||◌, if◌then◌else◌, List, [], ◌∷◌, length, map, Some, refl, ap, subst, ◌∙◌, ℤ, pos, neg_ℤ, arith}
 use Rattle.std.specs.Prelude.{IsTrue}
 use Rattle.std.specs.List.{list_all, list_any, position_or_len, AllByRecursion}
 use Rattle.std.specs.Str.{bytes_eq}
-use Rattle.std.proofs.Math.Bool.{Bool-set}
 use Rattle.std.proofs.Math.Nat.{pow-le-pow_right}
-use Rattle.std.proofs.lemmas.Bool.{and_from}
+use Rattle.std.proofs.lemmas.Bool.{and_from, and_parts}
 use Rattle.std.proofs.lemmas.Int.{ints}
 use denote.Hole.Carrier
-use Rattle.dp_model.specs.Typing.{ArgTest, CondTest, NumTest, SetTest, arg_typed, cond_typed, num_typed, set_typed, kind_at, is_number_kind, is_in_range, is_num, is_cond, is_effect, is_transition, is_base_case, are_trees, are_variables, are_tables, are_held, is_state}
+use Rattle.dp_model.specs.Typing.{ArgTest, CondTest, NumTest, SetTest, arg_typed, cond_typed, num_typed, set_typed, kind_at, is_number_kind, is_in_range, is_num, is_cond, is_effect, is_transition, is_base_case, are_variables, are_held, effect_variable, are_different}
 use Rattle.dp_model.specs.declared.trees.Cond.{Cond}
 use Rattle.dp_model.specs.declared.trees.Cond as conds
 use Rattle.dp_model.specs.declared.trees.Num.{Num}
@@ -17,16 +16,20 @@ use Rattle.dp_model.specs.declared.trees.NumOp.{NumOp}
 use Rattle.dp_model.specs.declared.trees.NumOp.TheVariants as operations
 use Rattle.dp_model.specs.declared.trees.Compare.{Compare}
 use Rattle.dp_model.specs.declared.trees.Compare.TheVariants as comparisons
+use Rattle.dp_model.specs.declared.parts.Effect.{Effect}
 use Rattle.dp_model.specs.declared.parts.Transition.{Transition}
 use Rattle.dp_model.specs.declared.parts.Variable.{Variable}
 use Rattle.dp_model.specs.declared.parts.PlainValue.{PlainValue}
 use Rattle.dp_model.specs.declared.parts.PlainValue.TheVariants as values
-use Rattle.dp_model.specs.declared.whole.Model.{Model}
-use Rattle.dypdl_load.specs.FirstForm.{Number, Condition, NewValue, Constant, Added, Change, Move, DomainForm, Setting, ProblemForm, IsNumber, IsCondition, IsNewValue, IsChange, IsMove, IsDomain, IsProblem, is_among}
-use Rattle.dypdl_load.specs.Meaning.{digits_value, number_value, variable_number, condition_of, value_of, effect_of, transition_of, variable_of, ModelParts, parts}
-use Rattle.dypdl_load.specs.ReadFirst.{domain_of, problem_of}
+use Rattle.dypdl_load.specs.FirstForm.{Number, Condition, NewValue, Constant, Added, Change, Move, DomainForm, Setting, ProblemForm, IsNumber, IsCondition, IsNewValue, IsChange, IsMove, IsDomain, IsProblem, is_among, AreDistinct}
+use Rattle.dypdl_load.specs.Meaning.{digits_value, number_value, variable_number, condition_of, value_of, effect_of, transition_of, variable_of}
+use Rattle.dypdl_load.specs.Reading.{differ}
+use Rattle.dypdl_load.specs.ReadFirst.{domain_of, problem_of, set_alike}
 use Rattle.dypdl_load.specs.Parts.{base_cases_made, is_typed, is_held}
+use Rattle.dypdl_load.proofs.Differ.{differ_of}
 use Rattle.dypdl_load.proofs.Digits.{fold_small}
+use Rattle.dypdl_load.proofs.Seen.{eqb-comm}
+use Rattle.dypdl_load.proofs.TransitionLaws.{changes_agree}
 use Rattle.dypdl_load.proofs.DomainLaws.{parts_of, domain_takes}
 use Rattle.dypdl_load.proofs.ProblemLaws.{values_of, problem_takes}
 
@@ -93,9 +96,25 @@ constant_typed vs n h = number_fixed (map variable_of vs) 0 (number_value n) ∙
 
 -- ---- what holds for each
 
-all_pass : {X Y : Type 0} (P : X → Type 0) (f : X → Y) (test : Y → Bool) → ((x : X) → P x → test (f x) ≡ true) → (xs : List X) → AllByRecursion P xs → list_all test (map f xs) ≡ true
+pub all_pass : {X Y : Type 0} (P : X → Type 0) (f : X → Y) (test : Y → Bool) → ((x : X) → P x → test (f x) ≡ true) → (xs : List X) → AllByRecursion P xs → list_all test (map f xs) ≡ true
 all_pass P f test h [] all = refl
 all_pass P f test h (x ∷ xs) all = and_from (test (f x)) (list_all test (map f xs)) (h x all.0) (all_pass P f test h xs all.1)
+
+-- ---- effects of different variables
+
+any_flipped : (e : Effect) (es : List Effect) → list_any (λ (other : Effect). eqb (effect_variable other) (effect_variable e)) es ≡ list_any (set_alike e) es
+any_flipped e [] = refl
+any_flipped e (x ∷ es) = rw (eqb-comm (effect_variable x) (effect_variable e), any_flipped e es) refl
+
+differ_different : (es : List Effect) → differ set_alike es ≡ true → are_different es ≡ true
+differ_different [] h = refl
+differ_different (e ∷ es) h =
+    let p = and_parts (not (list_any (set_alike e) es)) (differ set_alike es) h in
+    and_from _ _ (ap not (any_flipped e es) ∙ p.0) (differ_different es p.1)
+
+changes_different : (vs : List (List ℕ)) (cs : List Change) → AllByRecursion (IsChange vs) cs → AreDistinct (map (λ (c : Change). c.variable) cs) → are_different (map (effect_of vs) cs) ≡ true
+changes_different vs cs h once =
+    differ_different (map (effect_of vs) cs) (differ_of set_alike (effect_of vs) (λ (c : Change). c.variable) (IsChange vs) (changes_agree vs) cs h once)
 
 module _ (vs : List (List ℕ)) where
   condition_typed : (c : Condition) → IsCondition vs c → is_cond [] (map variable_of vs) [] (condition_of vs c) 0 ≡ true
@@ -116,7 +135,8 @@ module _ (vs : List (List ℕ)) where
   move_typed : (t : Move) → IsMove vs t → is_transition [] (map variable_of vs) [] (transition_of vs t) ≡ true
   move_typed t h =
       and_from _ _ (conditions_typed t.preconditions h.preconditions)
-      (and_from _ _ (all_pass (IsChange vs) (effect_of vs) (is_effect [] (map variable_of vs) [] 0) change_typed t.changes h.changes) (constant_typed vs t.cost h.cost))
+      (and_from _ _ (all_pass (IsChange vs) (effect_of vs) (is_effect [] (map variable_of vs) [] 0) change_typed t.changes h.changes)
+      (and_from _ _ (changes_different vs t.changes h.changes h.once) (constant_typed vs t.cost h.cost)))
 
   moves_typed : (ts : List Move) → AllByRecursion (IsMove vs) ts → list_all (is_transition [] (map variable_of vs) []) (map (transition_of vs) ts) ≡ true
   moves_typed ts h = all_pass (IsMove vs) (transition_of vs) (is_transition [] (map variable_of vs) []) move_typed ts h
@@ -149,42 +169,3 @@ read_held x problem y e =
 pub integers : (ws : List (List ℕ)) → are_variables [] (map variable_of ws) ≡ true
 integers [] = refl
 integers (w ∷ ws) = integers ws
-
--- ---- the facts that a model keeps are equations between truth values, of which there is one proof
-
-abbrev Facts : ModelParts → Type 0
-Facts x =
-    IsTrue (are_variables x.objects x.variables)
-    × IsTrue (are_tables x.objects x.tables)
-    × IsTrue (are_trees x.objects x.variables x.tables x.transitions x.constraints x.base_cases x.bounds)
-    × IsTrue (is_state x.objects x.variables x.target)
-
-facts_once : (x : ModelParts) → IsProp (Facts x)
-facts_once x = hlevel Bool-set
-
-abbrev with_facts : (x : ModelParts) → Facts x → Model
-with_facts x f = record {
-  domain = x.domain;
-  problem = x.problem;
-  minimize = x.minimize;
-  join = x.join;
-  objects = x.objects;
-  variables = x.variables;
-  tables = x.tables;
-  transitions = x.transitions;
-  «ground» = x.«ground»;
-  constraints = x.constraints;
-  base_cases = x.base_cases;
-  bounds = x.bounds;
-  target = x.target;
-  kinds = f.0;
-  cells = f.1;
-  typed = f.2;
-  held = f.3;
-}
-
-same_with_facts : (x y : ModelParts) → x ≡ y → (f : Facts x) (g : Facts y) → with_facts x f ≡ with_facts y g
-same_with_facts x y e f = subst (λ (z : ModelParts). (g : Facts z) → with_facts x f ≡ with_facts z g) e (λ g. ap (with_facts x) (facts_once x f g))
-
-pub same_model : (m n : Model) → parts m ≡ parts n → m ≡ n
-same_model m n e = same_with_facts (parts m) (parts n) e (m.kinds, m.cells, m.typed, m.held) (n.kinds, n.cells, n.typed, n.held)

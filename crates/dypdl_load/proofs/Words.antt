@@ -7,7 +7,8 @@ use Rattle.std.specs.Str.{bytes_eq}
 use Rattle.std.proofs.lemmas.Bool.{and_parts, and_from, and_left, or_cases, leb-true, ltb-true, le-leb, lt-ltb, ne_eqb, true≢false}
 use Rattle.std.proofs.lemmas.Option.{cond_some}
 use Rattle.std.proofs.lemmas.Slice.Eq.{bytes_eq-Decides}
-use Rattle.dypdl_load.specs.FirstForm.{Number, number_text, IsNumber, IsWord, is_digit, is_name_byte, is_among, starts_with_letter, reserved}
+use Rattle.dp_base.specs.Bytes.{is_digit}
+use Rattle.dypdl_load.specs.FirstForm.{Number, number_text, IsNumber, IsWord, is_name_byte, is_among, starts_with_letter, reserved}
 use Rattle.dypdl_load.specs.Meaning.{digits_value, number_value, variable_number}
 use Rattle.dypdl_load.specs.Reading.{◌>>=◌, front_at, begins, digits_at, number_at, is_word, word_at, variable_at, pair_at}
 use Rattle.dypdl_load.proofs.Digits.{digit_bounds}

@@ -3,6 +3,7 @@
 use Rattle.std.specs.Prelude.{◌≡◌, ℕ, ◌≤◌, ◌<◌, Bool, false, IsTrue, not, ◌&&◌, ◌||◌, nat_le, ◌==◌, if◌then◌else◌, List, [], ◌∷◌, ◌++◌, length, map, codes}
 use Rattle.std.specs.List.{flat_map, list_any, list_all, AllByRecursion}
 use Rattle.std.specs.Str.{bytes_eq}
+use Rattle.dp_base.specs.Bytes.{is_digit, line}
 
 -- a number: an optional minus sign and its digits, as bytes
 pub record Number : Type 0 where
@@ -45,10 +46,6 @@ pub record ProblemForm : Type 0 where
   pub name : List ℕ
   pub target : List Setting
 
--- a line, without its indent and its end
-abbrev pub line : List ℕ → List ℕ
-line text = text ++ 10 ∷ []
-
 abbrev pub number_text : Number → List ℕ
 number_text n = (if n.negative then codes "-" else []) ++ n.digits
 
@@ -90,9 +87,6 @@ abbrev pub problem_text : ProblemForm → List ℕ
 problem_text p = line (codes "domain: " ++ p.domain) ++ line (codes "problem: " ++ p.name) ++ line (codes "target:") ++ flat_map setting_text p.target
 
 -- 1 to 6 digits
-abbrev pub is_digit : ℕ → Bool
-is_digit b = nat_le 48 b && nat_le b 57
-
 pub record IsNumber (n : Number) : Type 0 where
   pub some : 0 < length n.digits
   pub few : length n.digits ≤ 6

@@ -1,6 +1,7 @@
 -- What the structs of the readers hold, without where it lies in memory, and the model that is made of it.
 use Rattle.std.specs.Prelude.{◌≡◌, ℕ, Bool, true, ◌⊎◌, List, [], ◌∷◌, length, map, Option, Some, None, Result, Ok, Err, pos}
-use Rattle.dp_model.specs.Typing.{are_trees, is_state}
+use Rattle.dp_model.specs.Limits.{are_few_names, are_few_rules}
+use Rattle.dp_model.specs.Typing.{are_trees, are_grounded, is_state}
 use Rattle.dp_model.specs.declared.trees.Cond.{Cond}
 use Rattle.dp_model.specs.declared.trees.Num.TheVariants as nums
 use Rattle.dp_model.specs.declared.parts.Transition.{Transition}
@@ -30,6 +31,18 @@ target_made values = record { values = values }
 -- what was read in a domain is well typed over its variables
 abbrev pub is_typed : (List ℕ × List (List ℕ)) × (List Transition × List Cond) → Bool
 is_typed x = are_trees [] (map variable_of x.0.1) [] x.1.0 [] (base_cases_made x.1.1) []
+
+-- the ground transitions made of what was read in a domain give each parameter a value
+abbrev pub is_grounded : (List ℕ × List (List ℕ)) × (List Transition × List Cond) → Bool
+is_grounded x = are_grounded [] (map variable_of x.0.1) x.1.0 (ground (length x.1.0))
+
+-- the lists of what was read in a domain are no longer than the language allows
+
+abbrev pub has_few_names : (List ℕ × List (List ℕ)) × (List Transition × List Cond) → Bool
+has_few_names x = are_few_names [] (map variable_of x.0.1) []
+
+abbrev pub has_few_rules : (List ℕ × List (List ℕ)) × (List Transition × List Cond) → Bool
+has_few_rules x = are_few_rules x.1.0 (ground (length x.1.0)) [] (base_cases_made x.1.1) []
 
 -- what was read in a problem gives each of the domain's variables a value
 abbrev pub is_held : (List ℕ × List (List ℕ)) × (List Transition × List Cond) → (values : List PlainValue) → Bool

@@ -1,6 +1,7 @@
 -- Reading the two texts of the first form.
 use Rattle.std.specs.Prelude.{ℕ, Bool, false, ◌==◌, List, [], ◌∷◌, codes, Option, Some}
 use Rattle.std.specs.Str.{bytes_eq}
+use Rattle.dp_model.specs.Typing.{effect_variable}
 use Rattle.dp_model.specs.declared.trees.Num.{Num}
 use Rattle.dp_model.specs.declared.trees.Cond.{Cond}
 use Rattle.dp_model.specs.declared.trees.Compare.{Compare}
@@ -9,11 +10,10 @@ use Rattle.dp_model.specs.declared.trees.Cond.TheVariants as conds
 use Rattle.dp_model.specs.declared.trees.NumOp.TheVariants as operations
 use Rattle.dp_model.specs.declared.trees.Compare.TheVariants as comparisons
 use Rattle.dp_model.specs.declared.parts.Effect.{Effect}
-use Rattle.dp_model.specs.declared.parts.Effect.TheVariants as effects
 use Rattle.dp_model.specs.declared.parts.Transition.{Transition}
 use Rattle.dp_model.specs.declared.parts.PlainValue.{PlainValue}
 use Rattle.dp_model.specs.declared.parts.PlainValue.TheVariants as values
-use Rattle.dypdl_load.specs.FirstForm.{line}
+use Rattle.dp_base.specs.Bytes.{line}
 use Rattle.dypdl_load.specs.Reading.{◌>>=◌, Reader, behind, before, line_at, constant, and_then, with_value, mapped, such_that, either, many, many_all, some, differ, with_front, whole, number_at, word_at, variable_at, pair_at}
 
 -- ---- conditions, values and effects
@@ -41,13 +41,8 @@ change_at variables = mapped (λ x. Effect.Number x.0 x.1) (line_at (codes "    
 unfoldable pub preconditions_at : List (List ℕ) → Reader (List Cond)
 preconditions_at variables = some (many (codes "      - ") (condition_line_at variables (codes "      - ")) 256)
 
--- the variable that an effect sets
-abbrev pub variable_set : Effect → ℕ
-variable_set (effects.Number i e) = i
-variable_set (effects.Members i e) = i
-
 abbrev pub set_alike : Effect → Effect → Bool
-set_alike e f = variable_set e == variable_set f
+set_alike e f = effect_variable e == effect_variable f
 
 unfoldable pub changes_at : List (List ℕ) → Reader (List Effect)
 changes_at variables = such_that (differ set_alike) (some (many_all (codes "      ") (change_at variables)))

@@ -5,7 +5,8 @@ use Rattle.std.specs.List.{prefix_len, starts_with, position, list_any}
 use Rattle.std.specs.Str.{bytes_eq}
 use Rattle.dypdl_load.specs.declared.stop.Stop.{Stop}
 use Rattle.dypdl_load.specs.declared.stop.Stop.TheVariants as stops
-use Rattle.dypdl_load.specs.FirstForm.{is_digit, is_name_byte, starts_with_letter, is_among, reserved}
+use Rattle.dp_base.specs.Bytes.{is_digit}
+use Rattle.dypdl_load.specs.FirstForm.{is_name_byte, starts_with_letter, is_among, reserved}
 use Rattle.dypdl_load.specs.Meaning.{digits_value}
 
 -- the names that a slice of texts holds

@@ -5,7 +5,7 @@ ghost use Rattle.std.specs.List.{range_with_len};
 ghost use Rattle.std.specs.Str.{IsAscii};
 ghost use Rattle.dypdl_load.specs.Meaning.{ground_transition, variable_of, parts};
 ghost use Rattle.dypdl_load.specs.Reading.{names};
-ghost use Rattle.dypdl_load.specs.Parts.{base_cases_made, domain_parts, is_held, is_typed, model_made};
+ghost use Rattle.dypdl_load.specs.Parts.{base_cases_made, domain_parts, has_few_names, has_few_rules, is_grounded, is_held, is_typed, model_made};
 
 use crate::domain::DomainParts;
 use crate::scan::text_of;
@@ -68,6 +68,9 @@ pub fn model_of(
     requires words { All (λ w. IsAscii w.now) domain.variables.items }
     requires few { length domain.transitions.items ≤ 65536 }
     requires typed { IsTrue (is_typed (domain_parts domain)) }
+    requires grounded { IsTrue (is_grounded (domain_parts domain)) }
+    requires few_names { IsTrue (has_few_names (domain_parts domain)) }
+    requires few_rules { IsTrue (has_few_rules (domain_parts domain)) }
     requires held { IsTrue (is_held (domain_parts domain) values.items) }
     ensures { IfOk result (λ m. parts m ≡ model_made (domain_parts domain.entry) (problem, values.items)) }
 {

@@ -1,8 +1,9 @@
 //! Conditions, new values and effects of integer variables.
 
 ghost use Rattle.std.specs.Prelude.{◌≡◌, ◌<◌, ◌^◌, IfOk, length, codes};
+ghost use Rattle.dp_model.specs.Typing.{effect_variable};
 ghost use Rattle.dypdl_load.specs.Reading.{Gives, names, many, many_all, with_front};
-ghost use Rattle.dypdl_load.specs.ReadFirst.{comparison_at, condition_at, condition_line_at, value_at, change_at, changes_at, preconditions_at, variable_set, set_alike};
+ghost use Rattle.dypdl_load.specs.ReadFirst.{comparison_at, condition_at, condition_line_at, value_at, change_at, changes_at, preconditions_at, set_alike};
 ghost use Rattle.dypdl_load.specs.Reading.{differ};
 
 use crate::scan::{literal, number, variable, variable_and_number};
@@ -111,7 +112,7 @@ fn effect<'a>(
 }
 
 fn variable_of(effect: &Effect) -> u32
-    ensures { result ≡ variable_set effect.now }
+    ensures { result ≡ effect_variable effect.now }
 {
     match effect {
         Effect::Number(variable, _) | Effect::Members(variable, _) => *variable,

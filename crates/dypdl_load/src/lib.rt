@@ -12,6 +12,3 @@ mod stop;
 mod transitions;
 
 pub use first_form::{FirstEnd, load_first, one_meaning};
-
-#[cfg(test)]
-mod tests;

@@ -3,12 +3,13 @@
 ghost use Rattle.std.specs.Prelude.{◌≡◌, ◌≤◌, ◌<◌, ◌^◌, ◌==◌, IfOk, IfSome, IsTrue, length, pos, map, position};
 ghost use Rattle.std.specs.List.{list_all, prefix_len};
 ghost use Rattle.std.specs.Str.{bytes_eq, IsAscii};
-ghost use Rattle.dypdl_load.specs.FirstForm.{is_digit, is_name_byte, is_among, reserved, starts_with_letter};
+ghost use Rattle.dp_base.specs.Bytes.{is_digit as digit_test};
+ghost use Rattle.dypdl_load.specs.FirstForm.{is_name_byte, is_among, reserved, starts_with_letter};
 ghost use Rattle.dypdl_load.specs.Meaning.{digits_value};
 ghost use Rattle.dypdl_load.specs.Reading.{Gives, literal_at, number_at, differ, digits_at, names, line_at, pair_at, word_at, variable_at};
 
 use crate::stop::Stop;
-use dp_model::Text;
+use dp_base::{Text, is_digit};
 use std::alloc::{AllocError, Global};
 use std::collections::BTreeSet;
 
@@ -23,24 +24,18 @@ pub fn literal<'a>(text: &[u8], bytes: &'a [u8]) -> Result<&'a [u8], Stop>
     }
 }
 
-fn is_a_digit(byte: u8) -> bool
-    ensures { result ≡ is_digit byte }
-{
-    byte >= b'0' && byte <= b'9'
-}
-
 fn is_a_name_byte(byte: u8) -> bool
     ensures { result ≡ is_name_byte byte }
 {
-    (byte >= b'a' && byte <= b'z') || is_a_digit(byte) || byte == b'_'
+    (byte >= b'a' && byte <= b'z') || is_digit(byte) || byte == b'_'
 }
 
 /// How many bytes in front are digits.
 fn digit_count(bytes: &[u8]) -> usize
-    ensures count { result ≡ prefix_len is_digit bytes.now }
+    ensures count { result ≡ prefix_len digit_test bytes.now }
     ensures within { result ≤ length bytes.now }
 {
-    bytes.iter().take_while(|b| is_a_digit(**b)).count()
+    bytes.iter().take_while(|b| is_digit(**b)).count()
 }
 
 /// How many bytes in front may stand in a word.
@@ -56,7 +51,7 @@ fn name_len(bytes: &[u8]) -> usize
 fn digits(bytes: &[u8]) -> Result<(&[u8], &[u8]), Stop>
     ensures read { Gives (λ x. (x.0.now, x.1.now)) result (digits_at bytes.now) }
     ensures few { IfOk result (λ x. length x.0.now ≤ 6) }
-    ensures digits { IfOk result (λ x. IsTrue (list_all is_digit x.0.now)) }
+    ensures digits { IfOk result (λ x. IsTrue (list_all digit_test x.0.now)) }
 {
     let count = digit_count(bytes);
     if count == 0 || count > 6 {
@@ -68,7 +63,7 @@ fn digits(bytes: &[u8]) -> Result<(&[u8], &[u8]), Stop>
 /// The number that the digits stand for.
 fn value_of(digits: &[u8]) -> u32
     requires few { length digits.now ≤ 6 }
-    requires digits { IsTrue (list_all is_digit digits.now) }
+    requires digits { IsTrue (list_all digit_test digits.now) }
     ensures value { result ≡ digits_value digits.now }
     ensures small { result < 2 ^ 20 }
 {

@@ -6,6 +6,7 @@ use Rattle.dp_base.specs.Bytes.{line}
 use Rattle.dp_base.specs.declared.place.Place.{Place}
 use Rattle.dp_model.specs.StepTexts.{ground_of, step_text}
 use Rattle.dp_model.specs.Typing.{effect_variable}
+use Rattle.dp_model.specs.declared.answers.FaultAt.{FaultAt}
 use Rattle.dp_model.specs.declared.answers.FaultKind.{FaultKind}
 use Rattle.dp_model.specs.declared.answers.FaultKind.TheVariants as kinds
 use Rattle.dp_model.specs.declared.answers.Spot.{Spot}
@@ -16,7 +17,6 @@ use Rattle.dp_model.specs.declared.answers.Found.{Found}
 use Rattle.dp_model.specs.declared.answers.Verdict.{Verdict}
 use Rattle.dp_model.specs.declared.answers.Verdict.TheVariants as verdicts
 use Rattle.dp_model.specs.declared.parts.Effect.{Effect}
-use Rattle.dp_model.specs.declared.parts.Effect.TheVariants as effects
 use Rattle.dp_model.specs.declared.parts.Transition.{Transition}
 use Rattle.dp_model.specs.declared.parts.Variable.{Variable}
 use Rattle.dp_model.specs.declared.whole.Model.{Model}
@@ -72,11 +72,14 @@ spot_text m (spots.Weight g) = step_text m g ++ codes " weight"
 spot_text m (spots.Cost g) = step_text m g ++ codes " cost"
 spot_text m (spots.Effect g i) = step_text m g ++ codes " effect " ++ effect_text m (ground_of m g) i
 
+abbrev pub fault_text : Model → FaultAt → List ℕ
+fault_text m f = codes "verdict fault " ++ kind_text f.kind ++ codes " at " ++ spot_text m f.spot ++ codes " after " ++ decimal (length f.steps)
+
 abbrev pub verdict_text : Model → Verdict → List ℕ
 verdict_text m (verdicts.Optimal c) = line (codes "verdict optimal " ++ signed_decimal c)
 verdict_text m verdicts.Infeasible = line (codes "verdict infeasible")
 verdict_text m (verdicts.Stopped v) = line (codes "verdict stopped " ++ decimal v)
-verdict_text m (verdicts.Fault f) = line (codes "verdict fault " ++ kind_text f.kind ++ codes " at " ++ spot_text m f.spot ++ codes " after " ++ decimal (length f.steps)) ++ step_lines m f.steps
+verdict_text m (verdicts.Fault f) = line (fault_text m f) ++ step_lines m f.steps
 verdict_text m (verdicts.Legal c) = line (codes "verdict legal " ++ signed_decimal c)
 verdict_text m (verdicts.Illegal n r) = line (codes "verdict illegal " ++ decimal n ++ codes " " ++ reason_text r)
 

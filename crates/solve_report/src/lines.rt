@@ -1,96 +1,70 @@
-ghost use Rattle.std.specs.Prelude.{◌≡◌, ◌≤◌, OnOk, OnErr};
-ghost use Rattle.dp_outside.specs.Outside.{Rose, Takes, TakesFront};
-ghost use Rattle.solve_top.specs.Outcomes.{file_name as name_of, outcome_text, NoMeaning, ReadFault, TooLong, NotYet, NoMemory};
+ghost use Rattle.std.specs.Prelude.{◌≡◌};
+ghost use Rattle.dp_base.specs.Bytes.{line};
+ghost use Rattle.solve_report.specs.Lines.{solution_text, pass_line};
+ghost use Rattle.solve_report.specs.Pieces.{pieces_text};
+ghost use Rattle.solve_report.specs.Puts.{Puts};
 
-use super::pieces::{Piece, put_line};
-use dp_model::Place;
+use crate::pieces::{Held, Piece, add_pieces, add_text, end_line};
+use crate::steps::{length_of, put_steps};
+use dp_model::{Found, Model};
 use dp_outside::{Failed, Sink};
 
-/// The name of an input file: 1 is the domain, 2 the problem, 3 the list of steps.
-fn file_name(file: u8) -> &'static str
-    ensures { result.now ≡ name_of file }
+/// Writes a line of one text.
+pub fn put_line<S: Sink>(out: &mut S, text: &str) -> Result<(), Failed>
+    ensures { Puts (S.taken out.old) (S.taken out.new) (S.faults out.old) (S.faults out.new)
+        (line text.now) result }
 {
-    match file {
-        1 => "domain",
-        2 => "problem",
-        _ => "list",
-    }
+    let mut held = Held::new();
+    add_text(out, &mut held, text)?;
+    end_line(out, &mut held)
 }
 
-/// Writes which words have a meaning. It takes no memory.
-pub fn put_usage<S: Sink>(out: &mut S) -> Result<(), Failed>
-    ensures ok { OnOk result (Takes (S.taken out.old) (S.taken out.new) (outcome_text NoMeaning)) }
-    ensures err { OnErr result
-        (TakesFront (S.taken out.old) (S.taken out.new) (outcome_text NoMeaning)) }
-    ensures failed { OnErr result (Rose (S.faults out.old) (S.faults out.new)) }
-    ensures count { S.faults out.old ≤ S.faults out.new }
+/// Writes a line of pieces, one after another.
+pub fn put_pieces<S: Sink>(out: &mut S, pieces: &[Piece<'_>]) -> Result<(), Failed>
+    ensures { Puts (S.taken out.old) (S.taken out.new) (S.faults out.old) (S.faults out.new)
+        (line (pieces_text pieces.now)) result }
 {
-    put_line(
-        out,
-        &[Piece::Text(
-            "usage: solve DOMAIN PROBLEM; replay DOMAIN PROBLEM LIST; show DOMAIN PROBLEM; gen KIND SIZE SEED",
-        )],
-    )
+    let mut held = Held::new();
+    add_pieces(out, &mut held, pieces)?;
+    end_line(out, &mut held)
 }
 
-/// Writes that a read of a file failed. It takes no memory.
-pub fn put_read_fault<S: Sink>(out: &mut S, file: u8) -> Result<(), Failed>
-    ensures ok { OnOk result
-        (Takes (S.taken out.old) (S.taken out.new) (outcome_text (ReadFault file))) }
-    ensures err { OnErr result
-        (TakesFront (S.taken out.old) (S.taken out.new) (outcome_text (ReadFault file))) }
-    ensures failed { OnErr result (Rose (S.faults out.old) (S.faults out.new)) }
-    ensures count { S.faults out.old ≤ S.faults out.new }
-{
-    put_line(
-        out,
-        &[Piece::Text("read fault "), Piece::Text(file_name(file))],
-    )
-}
-
-/// Writes that a file has more bytes than are read. It takes no memory.
-pub fn put_too_long<S: Sink>(out: &mut S, file: u8) -> Result<(), Failed>
-    ensures ok { OnOk result
-        (Takes (S.taken out.old) (S.taken out.new) (outcome_text (TooLong file))) }
-    ensures err { OnErr result
-        (TakesFront (S.taken out.old) (S.taken out.new) (outcome_text (TooLong file))) }
-    ensures failed { OnErr result (Rose (S.faults out.old) (S.faults out.new)) }
-    ensures count { S.faults out.old ≤ S.faults out.new }
-{
-    put_line(
-        out,
-        &[Piece::Text("too long "), Piece::Text(file_name(file))],
-    )
-}
-
-/// Writes that a text is not of a form that is read yet, and at which place. It takes no memory.
-pub fn put_not_yet<S: Sink>(out: &mut S, place: Place) -> Result<(), Failed>
-    ensures ok { OnOk result
-        (Takes (S.taken out.old) (S.taken out.new) (outcome_text (NotYet place))) }
-    ensures err { OnErr result
-        (TakesFront (S.taken out.old) (S.taken out.new) (outcome_text (NotYet place))) }
-    ensures failed { OnErr result (Rose (S.faults out.old) (S.faults out.new)) }
-    ensures count { S.faults out.old ≤ S.faults out.new }
+/// Writes the line of a solution, and a line for each of its steps.
+pub fn put_solution<S: Sink>(out: &mut S, model: &Model, found: &Found) -> Result<(), Failed>
+    ensures { Puts (S.taken out.old) (S.taken out.new) (S.faults out.old) (S.faults out.new)
+        (solution_text model.now found.now) result }
 {
     let pieces = [
-        Piece::Text("refused "),
-        Piece::Text(file_name(place.file)),
-        Piece::Text(":"),
-        Piece::Number(u64::from(place.line)),
-        Piece::Text(":"),
-        Piece::Number(u64::from(place.column)),
-        Piece::Text(" 90 NotYet"),
+        Piece::Text("solution "),
+        Piece::Signed(found.cost),
+        Piece::Text(" "),
+        Piece::Number(length_of(&found.steps)),
     ];
-    put_line(out, &pieces)
+    put_pieces(out, &pieces)?;
+    put_steps(out, model, found.steps.list())
 }
 
-/// Writes that memory ran out. It takes none.
-pub fn put_memory<S: Sink>(out: &mut S) -> Result<(), Failed>
-    ensures ok { OnOk result (Takes (S.taken out.old) (S.taken out.new) (outcome_text NoMemory)) }
-    ensures err { OnErr result
-        (TakesFront (S.taken out.old) (S.taken out.new) (outcome_text NoMemory)) }
-    ensures failed { OnErr result (Rose (S.faults out.old) (S.faults out.new)) }
-    ensures count { S.faults out.old ≤ S.faults out.new }
+/// Writes the line of a pass: its number from 1, how many nodes each shard kept per layer, and how many nodes it
+/// visited and dropped.
+pub fn put_pass<S: Sink>(
+    out: &mut S,
+    pass: u32,
+    share: u64,
+    visited: u64,
+    dropped: u64,
+) -> Result<(), Failed>
+    ensures { Puts (S.taken out.old) (S.taken out.new) (S.faults out.old) (S.faults out.new)
+        (pass_line pass share visited dropped) result }
 {
-    put_line(out, &[Piece::Text("memory")])
+    let pieces = [
+        Piece::Text("pass "),
+        Piece::Number(u64::from(pass)),
+        Piece::Text(" share "),
+        Piece::Number(share),
+        Piece::Text(" visited "),
+        Piece::Number(visited),
+        Piece::Text(" dropped "),
+        Piece::Number(dropped),
+    ];
+    put_pieces(out, &pieces)
 }

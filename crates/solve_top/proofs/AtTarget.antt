@@ -15,9 +15,11 @@ use Rattle.dp_model.specs.declared.answers.Verdict.TheVariants as verdicts
 use Rattle.dp_model.specs.declared.whole.Model.{Model}
 use Rattle.solve_top.specs.Outcomes.{KeepsWord}
 use Rattle.solve_top.specs.Solving.{Concluded}
+use Rattle.solve_top.specs.declared.status.Status.{Status}
+use Rattle.solve_top.specs.declared.status.Status.TheVariants as statuses
 use Rattle.solve_top.proofs.Expanding.{one_cost, not_both}
 use Rattle.dp_outside.proofs.Steps.{Takes-more}
-use Rattle.solve_top.proofs.ReportPuts.{TakesFront-append, TakesFront-longer}
+use Rattle.solve_report.proofs.Written.{TakesFront-append, TakesFront-longer}
 
 -- no list is better than the one without steps
 none_better : (m : Model) (steps : List ℕ) (other : ℤ) → m.minimize ≡ true → Base m m.target (pos 0) → Solution m steps other → IsBetter m.minimize other (pos 0) → ⊥
@@ -44,14 +46,14 @@ module _ (m : Model) (options : Options) (before after : Option (List ℕ)) (fou
   text_of : (ending : Ending) → solution_text m found ++ ending_text m ending ≡ record_text m (run_of ending)
   text_of ending = search (rules, common_steps)
 
-  as_printed : (status : ℕ) (ending : Ending) →
-      ((status ≡ ending_status ending) × Takes before after (solution_text m found ++ ending_text m ending)) ⊎ ((status ≡ 5) × TakesFront before after (solution_text m found ++ ending_text m ending)) →
-      ((status ≡ ending_status ending) × Takes before after (record_text m (run_of ending))) ⊎ ((status ≡ 5) × TakesFront before after (record_text m (run_of ending)))
-  as_printed status ending printed = subst (λ (t : List ℕ). ((status ≡ ending_status ending) × Takes before after t) ⊎ ((status ≡ 5) × TakesFront before after t)) (text_of ending) printed
+  as_printed : (status : Status) (ending : Ending) →
+      ((status ≡ ending_status ending) × Takes before after (solution_text m found ++ ending_text m ending)) ⊎ ((status ≡ statuses.WriteFault) × TakesFront before after (solution_text m found ++ ending_text m ending)) →
+      ((status ≡ ending_status ending) × Takes before after (record_text m (run_of ending))) ⊎ ((status ≡ statuses.WriteFault) × TakesFront before after (record_text m (run_of ending)))
+  as_printed status ending printed = subst (λ (t : List ℕ). ((status ≡ ending_status ending) × Takes before after t) ⊎ ((status ≡ statuses.WriteFault) × TakesFront before after t)) (text_of ending) printed
 
   -- the run is over, with a right ending
-  ended : (status : ℕ) (ending : Ending) → RightEnding m options (run_of ending) ending → KeepsWord m ending →
-      ((status ≡ ending_status ending) × Takes before after (solution_text m found ++ ending_text m ending)) ⊎ ((status ≡ 5) × TakesFront before after (solution_text m found ++ ending_text m ending)) →
+  ended : (status : Status) (ending : Ending) → RightEnding m options (run_of ending) ending → KeepsWord m ending →
+      ((status ≡ ending_status ending) × Takes before after (solution_text m found ++ ending_text m ending)) ⊎ ((status ≡ statuses.WriteFault) × TakesFront before after (solution_text m found ++ ending_text m ending)) →
       Concluded m options before after status
   ended status ending right word printed = record {
     run = run_of ending;
@@ -69,12 +71,12 @@ module _ (m : Model) (options : Options) (before after : Option (List ℕ)) (fou
   }
 
   -- a write of the solution failed
-  pub failed_solution : TakesFront before after (solution_text m found) → Concluded m options before after 5
-  failed_solution front = ended 5 OutOfMemory tt tt (inr (refl, TakesFront-longer before after (solution_text m found) (ending_text m OutOfMemory) front))
+  pub failed_solution : TakesFront before after (solution_text m found) → Concluded m options before after statuses.WriteFault
+  failed_solution front = ended statuses.WriteFault OutOfMemory tt tt (inr (refl, TakesFront-longer before after (solution_text m found) (ending_text m OutOfMemory) front))
 
   -- the solution was printed, and then that it is optimal
-  pub optimal : (mid : Option (List ℕ)) (status : ℕ) → Takes before mid (solution_text m found) →
-      ((status ≡ 0) × Takes mid after (ending_text m (Ended (verdicts.Optimal (pos 0))))) ⊎ ((status ≡ 5) × TakesFront mid after (ending_text m (Ended (verdicts.Optimal (pos 0))))) →
+  pub optimal : (mid : Option (List ℕ)) (status : Status) → Takes before mid (solution_text m found) →
+      ((status ≡ statuses.Success) × Takes mid after (ending_text m (Ended (verdicts.Optimal (pos 0))))) ⊎ ((status ≡ statuses.WriteFault) × TakesFront mid after (ending_text m (Ended (verdicts.Optimal (pos 0))))) →
       Concluded m options before after status
   optimal mid status told printed = ended status (Ended (verdicts.Optimal (pos 0)))
       ((ap Some free, inr (refl, (pos 0, base))), λ _ inner. not_both m m.target (pos 0) base inner)

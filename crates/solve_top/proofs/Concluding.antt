@@ -4,7 +4,6 @@ use Rattle.std.specs.Prelude.{IfSome, IfNone, OnErr, OnOk, ◌<ℤ◌}
 use Rattle.std.specs.Result.{is_err}
 use Rattle.std.specs.List.{flat_map, AllByRecursion}
 use Rattle.std.proofs.lemmas.Int.{ints}
-use Rattle.std.proofs.lemmas.Grind.{common_steps}
 use Rattle.dp_outside.specs.Outside.{Takes, TakesFront}
 use Rattle.dp_outside.proofs.Steps.{Takes-more}
 use Rattle.dp_outside.specs.declared.failing.Failed.{Failed}
@@ -20,12 +19,10 @@ use Rattle.solve_top.specs.Outcomes.{KeepsWord}
 use Rattle.solve_top.specs.Search.{HoldsAtMost, IsSolved, IsExhaustive}
 use Rattle.solve_top.specs.Solving.{Passes, History, HistoryOf, Concluded, held_after, pass_of, verdict_of, solutions_of}
 use Rattle.solve_top.specs.declared.solving.Progress.{Progress}
+use Rattle.solve_top.specs.declared.status.Status.{Status}
+use Rattle.solve_top.specs.declared.status.Status.TheVariants as statuses
 use Rattle.solve_top.proofs.Passing.{passes_more, right_record, text_more, last_but_dropped, last_kept_all, nothing_last, some_pass, dropping_more}
-use Rattle.solve_top.proofs.ReportPuts.{TakesFront-append, TakesFront-longer}
-
-takes_nothing : (told : Option (List ℕ)) → Takes told told []
-takes_nothing None = tt
-takes_nothing (Some bytes) = (bytes, refl, grind (arith, common_steps))
+use Rattle.solve_report.proofs.Written.{Takes-nothing, TakesFront-append, TakesFront-longer}
 
 -- what is known where a call failed
 pub of_err : {P : Type 0} (r : Result (Unit {0}) Failed) → true ≡ is_err r → OnErr r P → P
@@ -60,9 +57,9 @@ verdict_right m options None count visited ps h last = (nothing_last (solutions_
 verdict_right m options (Some f) count visited ps h last = (h.last, inl last)
 
 -- the ending of a record that was told so far
-pub concluded : (m : Model) (options : Options) (before mid after : Option (List ℕ)) (status : ℕ) (held : Option Found) (count visited : ℕ) (ps : List Pass) (end : Ending) →
+pub concluded : (m : Model) (options : Options) (before mid after : Option (List ℕ)) (status : Status) (held : Option Found) (count visited : ℕ) (ps : List Pass) (end : Ending) →
     Passes m held count visited ps → AllButLastDropped ps → Takes before mid (flat_map (pass_text m) ps) → visited ≤ options.budget → RightEnding m options (record { at_target = None; passes = ps; ending = end }) end → KeepsWord m end →
-    ((status ≡ ending_status end) × Takes mid after (ending_text m end)) ⊎ ((status ≡ 5) × TakesFront mid after (ending_text m end)) → Concluded m options before after status
+    ((status ≡ ending_status end) × Takes mid after (ending_text m end)) ⊎ ((status ≡ statuses.WriteFault) × TakesFront mid after (ending_text m end)) → Concluded m options before after status
 concluded m options before mid after status held count visited ps end known dropping told within right word printed = record {
   run = record { at_target = None; passes = ps; ending = end };
   right = right_record m options held count visited ps end known dropping within right;
@@ -74,8 +71,8 @@ concluded m options before mid after status held count visited ps end known drop
 }
 
 -- the text of an ending was printed, or a front of it
-abbrev Ends : Model → Option (List ℕ) → Option (List ℕ) → ℕ → Ending → Type 0
-Ends m mid after status end = ((status ≡ ending_status end) × Takes mid after (ending_text m end)) ⊎ ((status ≡ 5) × TakesFront mid after (ending_text m end))
+abbrev Ends : Model → Option (List ℕ) → Option (List ℕ) → Status → Ending → Type 0
+Ends m mid after status end = ((status ≡ ending_status end) × Takes mid after (ending_text m end)) ⊎ ((status ≡ statuses.WriteFault) × TakesFront mid after (ending_text m end))
 
 -- after one pass more
 module _ (m : Model) (options : Options) (before old : Option (List ℕ)) (progress : Progress) (found : Option Found) (visited dropped : ℕ)
@@ -91,7 +88,7 @@ module _ (m : Model) (options : Options) (before old : Option (List ℕ)) (progr
       (Takes-more before old mid (flat_map (pass_text m) h.passes) (pass_text m (pass_of progress found visited dropped)) h.told told)
 
   -- a write of the pass failed
-  pub failed_pass : (after : Option (List ℕ)) → TakesFront old after (pass_text m (pass_of progress found visited dropped)) → Concluded m options before after 5
+  pub failed_pass : (after : Option (List ℕ)) → TakesFront old after (pass_text m (pass_of progress found visited dropped)) → Concluded m options before after statuses.WriteFault
   failed_pass after front =
       let p = pass_of progress found visited dropped in
       record {
@@ -106,7 +103,7 @@ module _ (m : Model) (options : Options) (before old : Option (List ℕ)) (progr
       }
 
   -- the budget ended the pass
-  pub stopped : (mid after : Option (List ℕ)) (status seen : ℕ) → Takes old mid (pass_text m (pass_of progress found visited dropped)) → progress.visited + visited ≡ options.budget →
+  pub stopped : (mid after : Option (List ℕ)) (status : Status) (seen : ℕ) → Takes old mid (pass_text m (pass_of progress found visited dropped)) → progress.visited + visited ≡ options.budget →
       seen ≡ progress.visited + visited → Ends m mid after status (Ended (verdicts.Stopped seen)) → Concluded m options before after status
   stopped mid after status seen told spent same ends =
       let p = pass_of progress found visited dropped in
@@ -114,8 +111,15 @@ module _ (m : Model) (options : Options) (before old : Option (List ℕ)) (progr
       concluded m options before mid after status (held_after progress.held found) (progress.passes + 1) (progress.visited + visited) (h.passes ++ p ∷ []) (Ended (verdicts.Stopped (progress.visited + visited)))
       grown (last_but_dropped h.passes p h.dropping) (told_on mid told) within ((spent, sym grown.spent), λ none. absurd (some_pass h.passes p none)) tt printed
 
+  -- memory ran out in the pass
+  pub ran_out_in : (mid after : Option (List ℕ)) (status : Status) → Takes old mid (pass_text m (pass_of progress found visited dropped)) → Ends m mid after status OutOfMemory → Concluded m options before after status
+  ran_out_in mid after status told ends =
+      let p = pass_of progress found visited dropped in
+      concluded m options before mid after status (held_after progress.held found) (progress.passes + 1) (progress.visited + visited) (h.passes ++ p ∷ []) OutOfMemory
+      grown (last_but_dropped h.passes p h.dropping) (told_on mid told) within tt tt ends
+
   -- the pass lost nothing
-  pub finished : (mid after : Option (List ℕ)) (status : ℕ) (verdict : Verdict) → m.minimize ≡ true → dropped ≡ 0 → IsExhaustive m (held_after progress.held found) → Takes old mid (pass_text m (pass_of progress found visited dropped)) →
+  pub finished : (mid after : Option (List ℕ)) (status : Status) (verdict : Verdict) → m.minimize ≡ true → dropped ≡ 0 → IsExhaustive m (held_after progress.held found) → Takes old mid (pass_text m (pass_of progress found visited dropped)) →
       verdict ≡ verdict_of (held_after progress.held found) → Ends m mid after status (Ended verdict) → Concluded m options before after status
   finished mid after status verdict least none all told same ends =
       let p = pass_of progress found visited dropped in
@@ -135,7 +139,7 @@ module _ (m : Model) (options : Options) (before old : Option (List ℕ)) (progr
 pub begins : (m : Model) (before : Option (List ℕ)) → History m before before None 0 0
 begins m before = record {
   passes = [];
-  told = takes_nothing before;
+  told = Takes-nothing before;
   known = record { counted = refl; numbered = tt; spent = refl; legal = tt; improving = tt; last = refl };
   dropping = tt;
 }
@@ -145,8 +149,8 @@ all_dropped [] h = tt
 all_dropped (p ∷ []) h = tt
 all_dropped (p ∷ q ∷ ps) h = (h.0, all_dropped (q ∷ ps) h.1)
 
--- memory ran out in a pass
-pub ran_out : (m : Model) (options : Options) (before mid after : Option (List ℕ)) (status : ℕ) (held : Option Found) (count visited : ℕ) → History m before mid held count visited → visited ≤ options.budget →
+-- memory ran out before a pass
+pub ran_out : (m : Model) (options : Options) (before mid after : Option (List ℕ)) (status : Status) (held : Option Found) (count visited : ℕ) → History m before mid held count visited → visited ≤ options.budget →
     Ends m mid after status OutOfMemory → Concluded m options before after status
 ran_out m options before mid after status held count visited h within ends =
     concluded m options before mid after status held count visited h.passes OutOfMemory h.known (all_dropped h.passes h.dropping) h.told within tt tt ends

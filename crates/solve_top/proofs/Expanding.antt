@@ -119,9 +119,9 @@ Expanded-grows m s cost g next later best better covers no_worse h = record {
 }
 
 -- there is no step by a number that names no ground transition
-pub Expanded-past : (m : Model) (s : PlainState) (cost : Option ℤ) (g : ℕ) (next : List Node) (best : Option Found) → length m.ground ≤ g → Expanded m s cost g next best
+pub Expanded-past : (m : Model) (s : PlainState) (cost : Option ℤ) (g : ℕ) (next : List Node) (best : Option Found) → length m.dp_ground ≤ g → Expanded m s cost g next best
 Expanded-past m s cost g next best past =
-    let none : ground_of m g ≡ None = ap (λ (o : Option Ground). option_and_then (λ (x : Ground). option_map (λ (t : Transition). (t, x.args)) (slice_get m.transitions x.transition)) o) (slice_get_past m.ground g past) in
+    let none : ground_of m g ≡ None = ap (λ (o : Option Ground). option_and_then (λ (x : Ground). option_map (λ (t : Transition). (t, x.args)) (slice_get m.transitions x.transition)) o) (slice_get_past m.dp_ground g past) in
     record {
       inner = λ weight x step inner. absurd (cc (sym step.move.1 ∙ none));
       base = λ weight x value step base. absurd (cc (sym step.move.1 ∙ none));

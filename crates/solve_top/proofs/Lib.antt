@@ -1,5 +1,3 @@
-pub mod ReportPieces
-pub mod ReportPuts
 pub mod WordsLists
 pub mod Values
 pub mod Layers

@@ -14,6 +14,9 @@ use Rattle.solve_top.specs.declared.program.NoModel.{NoModel}
 use Rattle.solve_top.specs.declared.program.NoModel.TheVariants as causes
 use Rattle.solve_top.specs.Plain.{IsPlain}
 use Rattle.solve_top.specs.Solving.{Concluded}
+use Rattle.solve_top.specs.Statuses.{code_of}
+use Rattle.solve_top.specs.declared.status.Status.{Status}
+use Rattle.solve_top.specs.declared.status.Status.TheVariants as statuses
 use Rattle.solve_top.proofs.Loaded.{plain}
 
 -- a model that was loaded is plain
@@ -21,22 +24,48 @@ pub loaded_plain : (files : List ℕ → Option (List ℕ)) (job : SolveJob) (m 
 loaded_plain files job m h = plain h.0 h.1 m h.6
 
 -- a model that was loaded was solved
-pub solved : (words : List (List ℕ)) (files : List ℕ → Option (List ℕ)) (job : SolveJob) (m : Model) (before after : Option (List ℕ)) (status : ℕ) → Asks words job → OfTexts files job (λ d p. Means d p m) → Concluded m job.options before after status →
+pub solved : (words : List (List ℕ)) (files : List ℕ → Option (List ℕ)) (job : SolveJob) (m : Model) (before after : Option (List ℕ)) (status : Status) → Asks words job → OfTexts files job (λ d p. Means d p m) → Concluded m job.options before after status →
     (outcome : Outcome) × ComesOf words files outcome × Printed before after outcome status
 solved words files job m before after status asks texts c = (Solving m job.options c.run, (job, asks, refl, texts, c.right, c.word), c.printed)
 
-not_four : (e : Ending) → ending_status e ≡ 4 → ⊥
-not_four (Ended (verdicts.Optimal c)) h = omega (arith, h)
-not_four (Ended verdicts.Infeasible) h = omega (arith, h)
-not_four (Ended (verdicts.Stopped v)) h = omega (arith, h)
-not_four (Ended (verdicts.Fault f)) h = omega (arith, h)
-not_four (Ended (verdicts.Legal c)) h = omega (arith, h)
-not_four (Ended (verdicts.Illegal n r)) h = omega (arith, h)
-not_four OutOfMemory h = omega (arith, h)
+not_read_fault : (e : Ending) → ending_status e ≡ statuses.ReadFault → ⊥
+not_read_fault (Ended (verdicts.Optimal c)) h = absurd cc
+not_read_fault (Ended verdicts.Infeasible) h = absurd cc
+not_read_fault (Ended (verdicts.Stopped v)) h = absurd cc
+not_read_fault (Ended (verdicts.Fault f)) h = absurd cc
+not_read_fault (Ended (verdicts.Legal c)) h = absurd cc
+not_read_fault (Ended (verdicts.Illegal n r)) h = absurd cc
+not_read_fault OutOfMemory h = absurd cc
 
 -- no search ends with the status of a read fault
-pub no_read_fault : (m : Model) (options : Options) (before after : Option (List ℕ)) (status : ℕ) → Concluded m options before after status → status ≡ 4 → ⊥
-no_read_fault m options before after status c h = elim c.printed [ inl p ↦ not_four c.run.ending (sym p.0 ∙ h) | inr p ↦ omega (arith, p.0, h) ]
+pub no_read_fault : (m : Model) (options : Options) (before after : Option (List ℕ)) (status : Status) → Concluded m options before after status → status ≡ statuses.ReadFault → ⊥
+no_read_fault m options before after status c h = elim c.printed [ inl p ↦ not_read_fault c.run.ending (sym p.0 ∙ h) | inr p ↦ let e : statuses.WriteFault ≡ statuses.ReadFault = sym p.0 ∙ h in absurd cc ]
+
+-- a status is known by its number
+
+pub read_fault_code : (status : Status) → code_of status ≡ 4 → status ≡ statuses.ReadFault
+read_fault_code statuses.Success h = absurd (omega (arith, h))
+read_fault_code statuses.Usage h = absurd (omega (arith, h))
+read_fault_code statuses.Refused h = absurd (omega (arith, h))
+read_fault_code statuses.ReadFault h = refl
+read_fault_code statuses.WriteFault h = absurd (omega (arith, h))
+read_fault_code statuses.Memory h = absurd (omega (arith, h))
+read_fault_code statuses.TooLong h = absurd (omega (arith, h))
+read_fault_code statuses.Negative h = absurd (omega (arith, h))
+read_fault_code statuses.Stopped h = absurd (omega (arith, h))
+read_fault_code statuses.Fault h = absurd (omega (arith, h))
+
+pub write_fault_code : (status : Status) → code_of status ≡ 5 → status ≡ statuses.WriteFault
+write_fault_code statuses.Success h = absurd (omega (arith, h))
+write_fault_code statuses.Usage h = absurd (omega (arith, h))
+write_fault_code statuses.Refused h = absurd (omega (arith, h))
+write_fault_code statuses.ReadFault h = absurd (omega (arith, h))
+write_fault_code statuses.WriteFault h = refl
+write_fault_code statuses.Memory h = absurd (omega (arith, h))
+write_fault_code statuses.TooLong h = absurd (omega (arith, h))
+write_fault_code statuses.Negative h = absurd (omega (arith, h))
+write_fault_code statuses.Stopped h = absurd (omega (arith, h))
+write_fault_code statuses.Fault h = absurd (omega (arith, h))
 
 -- why there is no model, where the first file was not read
 pub first_cause : (words : List (List ℕ)) (files : List ℕ → Option (List ℕ)) (job : SolveJob) (e : NoModel) → (e ≡ causes.ReadFault 1) ⊎ ((e ≡ causes.TooLong 1) × IfSome (files job.domain) IsLong) ⊎ (e ≡ causes.Memory) → Asks words job → ComesOf words files (outcome_of e)

@@ -31,15 +31,15 @@ grounded m t p x args (Some y) e h =
     subst (λ (u : Transition × List ℕ). IsPlainTransition (length m.variables) u.0 × (u.1 ≡ [])) is
     (All-got (IsPlainTransition (length m.variables)) m.transitions x.transition y p.transitions e, args)
 
-ground_found : (m : Model) (f : ℕ) (t : Transition × List ℕ) → IsPlain m → (o : Option Ground) → slice_get m.ground f ≡ o → option_and_then (λ (x : Ground). option_map (λ (y : Transition). (y, x.args)) (slice_get m.transitions x.transition)) o ≡ Some t → PlainGround m t
+ground_found : (m : Model) (f : ℕ) (t : Transition × List ℕ) → IsPlain m → (o : Option Ground) → slice_get m.dp_ground f ≡ o → option_and_then (λ (x : Ground). option_map (λ (y : Transition). (y, x.args)) (slice_get m.transitions x.transition)) o ≡ Some t → PlainGround m t
 ground_found m f t p None e h = absurd (cc)
 ground_found m f t p (Some x) e h =
-    let g = All-got (λ (g : Ground). (g.transition < length m.transitions) × (g.args ≡ [])) m.ground f x p.grounds e in
+    let g = All-got (λ (g : Ground). (g.transition < length m.transitions) × (g.args ≡ [])) m.dp_ground f x p.grounds e in
     grounded m t p x g.1 (slice_get m.transitions x.transition) refl h
 
 pub plain_ground : (m : Model) (f : ℕ) (t : Transition × List ℕ) → IsPlain m → ground_of m f ≡ Some t → IsPlainTransition (length m.variables) t.0 × (t.1 ≡ [])
 unfolding PlainGround
-plain_ground m f t p h = ground_found m f t p (slice_get m.ground f) refl h
+plain_ground m f t p h = ground_found m f t p (slice_get m.dp_ground f) refl h
 
 -- no transition is forced, so each is considered
 pub always_considered : (m : Model) (s : PlainState) (g : ℕ) → IsPlain m → Considered m s g

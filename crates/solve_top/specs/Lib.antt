@@ -1,4 +1,5 @@
 pub mod Words
+pub mod Statuses
 pub mod Records
 pub mod Outcomes
 pub mod Jobs

@@ -1,5 +1,5 @@
 -- What a run of the program may come to: the text that it prints, its status, and when it may come.
-use Rattle.std.specs.Prelude.{◌≡◌, ℕ, ◌≤◌, ◌<◌, ◌==◌, if◌then◌else◌, ◌⊎◌, List, ◌++◌, length, Option, IfSome, codes, decimal, ℤ}
+use Rattle.std.specs.Prelude.{◌≡◌, ℕ, ◌≤◌, ◌<◌, ◌⊎◌, List, ◌++◌, length, Option, None, IfSome, codes, ℤ}
 use Rattle.dp_outside.specs.Outside.{Takes, TakesFront}
 use Rattle.dp_base.specs.declared.place.Place.{Place}
 use Rattle.dp_model.specs.declared.answers.Options.{Options}
@@ -8,6 +8,9 @@ use Rattle.dp_model.specs.Costs.{IsBetter}
 use Rattle.dp_steps.specs.Lists.{Solution}
 use Rattle.solve_top.specs.Records.{Record, Ending, Ended, OutOfMemory, Right, record_text, ending_status}
 use Rattle.dp_base.specs.Bytes.{line}
+use Rattle.solve_report.specs.Lines.{file_name, refusal_text}
+use Rattle.solve_top.specs.declared.status.Status.{Status}
+use Rattle.solve_top.specs.declared.status.Status.TheVariants as statuses
 use Rattle.dp_model.specs.declared.answers.Verdict.TheVariants as verdicts
 use Rattle.dypdl_load.specs.Meaning.{Means, IsRefusedAt}
 use Rattle.solve_top.specs.Words.{SolveJob, Asks}
@@ -26,27 +29,20 @@ pub data Outcome : Type 0 where
   -- the model was searched
   Solving : (model : Model) (options : Options) (run : Record) → Outcome
 
--- 1 is the domain, 2 the problem, 3 the list of steps
-abbrev pub file_name : ℕ → List ℕ
-file_name file = if file == 1 then codes "domain" else (if file == 2 then codes "problem" else codes "list")
-
-abbrev pub place_text : Place → List ℕ
-place_text place = file_name place.file ++ codes ":" ++ decimal place.line ++ codes ":" ++ decimal place.column
-
 abbrev pub outcome_text : Outcome → List ℕ
 outcome_text NoMeaning = line (codes "usage: solve DOMAIN PROBLEM; replay DOMAIN PROBLEM LIST; show DOMAIN PROBLEM; gen KIND SIZE SEED")
 outcome_text (ReadFault file) = line (codes "read fault " ++ file_name file)
 outcome_text (TooLong file) = line (codes "too long " ++ file_name file)
-outcome_text (NotYet place) = line (codes "refused " ++ place_text place ++ codes " 90 NotYet")
+outcome_text (NotYet place) = refusal_text place None 90
 outcome_text NoMemory = line (codes "memory")
 outcome_text (Solving model options run) = record_text model run
 
-abbrev pub outcome_status : Outcome → ℕ
-outcome_status NoMeaning = 2
-outcome_status (ReadFault file) = 4
-outcome_status (TooLong file) = 7
-outcome_status (NotYet place) = 3
-outcome_status NoMemory = 6
+abbrev pub outcome_status : Outcome → Status
+outcome_status NoMeaning = statuses.Usage
+outcome_status (ReadFault file) = statuses.ReadFault
+outcome_status (TooLong file) = statuses.TooLong
+outcome_status (NotYet place) = statuses.Refused
+outcome_status NoMemory = statuses.Memory
 outcome_status (Solving model options run) = ending_status run.ending
 
 -- a file is read up to 16,777,216 bytes
@@ -89,7 +85,7 @@ ComesOf words files NoMemory = Unit {0}
 ComesOf words files (Solving model options run) =
     (job : SolveJob) × Asks words job × (options ≡ job.options) × OfTexts files job (λ d p. Means d p model) × Right model options run × KeepsWord model run.ending
 
--- The sink took the outcome's text and the status is the outcome's; or a write failed, the status is 5, and the sink took a front of the text.
-abbrev pub Printed : Option (List ℕ) → Option (List ℕ) → Outcome → ℕ → Type 0
+-- The sink took the outcome's text and the status is the outcome's; or a write failed, the status is that, and the sink took a front of the text.
+abbrev pub Printed : Option (List ℕ) → Option (List ℕ) → Outcome → Status → Type 0
 Printed before after outcome status =
-    ((status ≡ outcome_status outcome) × Takes before after (outcome_text outcome)) ⊎ ((status ≡ 5) × TakesFront before after (outcome_text outcome))
+    ((status ≡ outcome_status outcome) × Takes before after (outcome_text outcome)) ⊎ ((status ≡ statuses.WriteFault) × TakesFront before after (outcome_text outcome))

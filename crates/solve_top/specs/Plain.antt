@@ -96,8 +96,8 @@ pub record IsPlain (m : Model) : Type 0 where
   pub constraints : m.constraints ≡ []
   pub kinds : (v : ℕ) → kind_of m v ≡ kinds.Integer
   pub transitions : All (IsPlainTransition (length m.variables)) m.transitions
-  pub few : length m.ground ≤ 65536
-  pub grounds : All (λ (g : Ground). (g.transition < length m.transitions) × (g.args ≡ [])) m.ground
+  pub few : length m.dp_ground ≤ 65536
+  pub grounds : All (λ (g : Ground). (g.transition < length m.transitions) × (g.args ≡ [])) m.dp_ground
   pub base : HasPlainBase (length m.variables) m.base_cases
   pub target : IsPlainTarget (length m.variables) m.target
 

@@ -1,6 +1,6 @@
 -- What a run of `solve` prints once a model is loaded, as a record: its passes with the better solutions found in
 -- them, and how it ended; the text and the status of such a record; and which records are right for a model.
-use Rattle.std.specs.Prelude.{◌≡◌, ℕ, ◌+◌, ◌-◌, ◌^◌, ◌<◌, ◌≤◌, Bool, ◌⊎◌, List, [], ◌∷◌, ◌++◌, length, slice_get, Option, Some, None, IfSome, option_to_list, ℤ, codes, decimal}
+use Rattle.std.specs.Prelude.{◌≡◌, ℕ, ◌+◌, ◌-◌, ◌^◌, ◌<◌, ◌≤◌, Bool, ◌⊎◌, List, [], ◌∷◌, ◌++◌, Option, Some, None, IfSome, option_to_list, ℤ, codes}
 use Rattle.std.specs.List.{flat_map, sum_by, AllByRecursion}
 use Rattle.dp_model.specs.Costs.{IsBetter}
 use Rattle.dp_base.specs.Bytes.{line}
@@ -12,6 +12,8 @@ use Rattle.dp_model.specs.declared.answers.Verdict.{Verdict}
 use Rattle.dp_model.specs.declared.answers.Verdict.TheVariants as verdicts
 use Rattle.dp_model.specs.declared.answers.Options.{Options}
 use Rattle.dp_model.specs.declared.whole.Model.{Model}
+use Rattle.solve_top.specs.declared.status.Status.{Status}
+use Rattle.solve_top.specs.declared.status.Status.TheVariants as statuses
 
 -- a pass, with the better solution that is printed before it, if one is
 pub record Pass : Type 0 where
@@ -50,17 +52,17 @@ record_text m r = solution_lines m r.at_target ++ flat_map (pass_text m) r.passe
 
 -- ---- its status
 
-abbrev pub verdict_status : Verdict → ℕ
-verdict_status (verdicts.Optimal c) = 0
-verdict_status verdicts.Infeasible = 10
-verdict_status (verdicts.Stopped v) = 11
-verdict_status (verdicts.Fault f) = 12
-verdict_status (verdicts.Legal c) = 0
-verdict_status (verdicts.Illegal n r) = 10
+abbrev pub verdict_status : Verdict → Status
+verdict_status (verdicts.Optimal c) = statuses.Success
+verdict_status verdicts.Infeasible = statuses.Negative
+verdict_status (verdicts.Stopped v) = statuses.Stopped
+verdict_status (verdicts.Fault f) = statuses.Fault
+verdict_status (verdicts.Legal c) = statuses.Success
+verdict_status (verdicts.Illegal n r) = statuses.Negative
 
-abbrev pub ending_status : Ending → ℕ
+abbrev pub ending_status : Ending → Status
 ending_status (Ended v) = verdict_status v
-ending_status OutOfMemory = 6
+ending_status OutOfMemory = statuses.Memory
 
 -- ---- which records are right
 

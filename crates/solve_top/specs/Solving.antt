@@ -1,5 +1,5 @@
 -- What a search has printed so far, and what it came to.
-use Rattle.std.specs.Prelude.{◌≡◌, ℕ, ◌+◌, ◌^◌, ◌<◌, ◌≤◌, ◌⊎◌, true, false, List, length, Option, Some, None}
+use Rattle.std.specs.Prelude.{◌≡◌, ℕ, ◌+◌, ◌^◌, ◌<◌, ◌≤◌, ◌⊎◌, List, length, Option, Some, None}
 use Rattle.std.specs.List.{flat_map, AllByRecursion}
 use Rattle.dp_outside.specs.Outside.{Takes, TakesFront}
 use Rattle.dp_steps.specs.Lists.{Solution}
@@ -14,6 +14,9 @@ use Rattle.dp_model.specs.declared.answers.Verdict.TheVariants as verdicts
 use Rattle.solve_top.specs.Search.{IsSolved, IsExhaustive}
 use Rattle.solve_top.specs.declared.solving.Progress.{Progress}
 use Rattle.solve_top.specs.declared.search.passes.PassEnd.{PassEnd}
+use Rattle.solve_top.specs.declared.search.halts.Halt.TheVariants as halts
+use Rattle.solve_top.specs.declared.status.Status.{Status}
+use Rattle.solve_top.specs.declared.status.Status.TheVariants as statuses
 
 -- the solutions of the passes, in order
 abbrev pub solutions_of : List Pass → List Found
@@ -36,11 +39,11 @@ pub record History (m : Model) (before after : Option (List ℕ)) (held : Option
   pub dropping : AllByRecursion (λ (p : Pass). 0 < p.dropped) passes
 
 -- A record that is right was printed, or a write failed, and a front of it was.
-pub record Concluded (m : Model) (options : Options) (before after : Option (List ℕ)) (status : ℕ) : Type 0 where
+pub record Concluded (m : Model) (options : Options) (before after : Option (List ℕ)) (status : Status) : Type 0 where
   pub run : Record
   pub right : Right m options run
   pub word : KeepsWord m run.ending
-  pub printed : ((status ≡ ending_status run.ending) × Takes before after (record_text m run)) ⊎ ((status ≡ 5) × TakesFront before after (record_text m run))
+  pub printed : ((status ≡ ending_status run.ending) × Takes before after (record_text m run)) ⊎ ((status ≡ statuses.WriteFault) × TakesFront before after (record_text m run))
 
 -- how far a search has come: the passes made, the share of the next, the visits, and the solution that is held
 pub record IsOngoing (options : Options) (progress : Progress) : Type 0 where
@@ -73,8 +76,8 @@ verdict_of (Some f) = verdicts.Optimal f.cost
 -- what is known of a pass that was made with what was left of the budget
 pub record IsEnd (m : Model) (options : Options) (progress : Progress) (end : PassEnd) : Type 0 where
   pub within : progress.visited + end.tally.visited ≤ options.budget
-  pub halted : end.halted ≡ true → progress.visited + end.tally.visited ≡ options.budget
-  pub visited : end.halted ≡ false → 0 < end.tally.visited
-  pub small_share : 0 < end.tally.dropped → progress.share < 2 ^ 50
+  pub spent : end.halt ≡ Some halts.Budget → progress.visited + end.tally.visited ≡ options.budget
+  pub visited : end.halt ≡ None → 0 < end.tally.visited
+  pub small_share : end.halt ≡ None → 0 < end.tally.dropped → progress.share < 2 ^ 50
   pub solved : IsSolved m end.tally.best
-  pub exhaustive : end.halted ≡ false → end.tally.dropped ≡ 0 → IsExhaustive m end.tally.best
+  pub exhaustive : end.halt ≡ None → end.tally.dropped ≡ 0 → IsExhaustive m end.tally.best

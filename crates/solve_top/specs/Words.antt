@@ -2,7 +2,7 @@
 use Rattle.std.specs.Prelude.{◌≡◌, ℕ, ◌≤◌, false, IsTrue, List, [], ◌∷◌, length, codes}
 use Rattle.std.specs.List.{list_all}
 use Rattle.dp_model.specs.declared.answers.Options.{Options}
-use Rattle.dypdl_load.specs.FirstForm.{is_digit}
+use Rattle.dp_base.specs.Bytes.{is_digit}
 use Rattle.dypdl_load.specs.Meaning.{digits_value}
 
 -- to solve the model in these files with these options

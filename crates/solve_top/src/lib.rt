@@ -2,9 +2,11 @@
 #![tactic(auto)]
 
 mod program;
-mod report;
 mod search;
 mod solving;
+mod status;
 mod words;
 
 pub use program::run;
+pub use solving::run_out;
+pub use status::Status;

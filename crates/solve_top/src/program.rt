@@ -1,27 +1,28 @@
-ghost use Rattle.std.specs.Prelude.{◌≡◌, ◌≤◌, ◌⊎◌, ℕ, List, map, string_bytes, length, IfOk, IfErr, IfSome, OnOk, OnErr};
+ghost use Rattle.std.specs.Prelude.{◌≡◌, ◌≤◌, ◌⊎◌, ◌++◌, ℕ, List, map, string_bytes, length, IfOk, IfErr, IfSome};
 ghost use Rattle.dp_outside.specs.Outside.{Rose};
 ghost use Rattle.dypdl_load.specs.Meaning.{Means};
 ghost use Rattle.solve_top.specs.Words.{Asks};
 ghost use Rattle.solve_top.specs.Jobs.{job_of};
-ghost use Rattle.solve_top.specs.Outcomes.{Outcome, IsText, IsLong, OfTexts, ComesOf, Printed};
+ghost use Rattle.solve_report.specs.Lines.{file_name as name_of_file};
+ghost use Rattle.solve_report.specs.Puts.{Puts};
+ghost use Rattle.dp_base.specs.Bytes.{line};
+ghost use Rattle.solve_top.specs.Statuses.{code_of};
+ghost use Rattle.solve_top.specs.declared.status.Status.{Status};
+ghost use Rattle.solve_top.specs.Outcomes.{Outcome, NoMeaning, IsText, IsLong, OfTexts, ComesOf, Printed};
 ghost use Rattle.solve_top.specs.Runs.{outcome_of};
 ghost use Rattle.solve_top.specs.declared.program.NoModel.TheVariants as causes;
 
-use crate::report::{put_not_yet, put_read_fault, put_too_long, put_usage};
-use crate::solving::{WRITE_FAULT, run_out, solve};
+use crate::solving::{run_out, solve};
+use crate::status::{Status, status_after};
 use crate::words::{Job, read_words};
-use dp_model::{Model, Place};
+use dp_base::{FILE_LIMIT, Place};
+use dp_model::Model;
 use dp_outside::{Failed, Gate, ReadEnd, Shelf, Sink, read_all};
 use dypdl_load::{FirstEnd, load_first};
+use solve_report::{Piece, file_name, put_line, put_pieces, put_refusal};
 use std::alloc::Global;
 use std::sync::Wait;
 use std::thread::Threads;
-
-#[cfg(test)]
-mod tests;
-
-/// How many bytes of a file are read.
-const LONGEST: u64 = 16_777_216;
 
 /// Why there is no model to search. File 1 is the domain, and 2 the problem.
 #[derive(Debug, Drop)]
@@ -30,17 +31,6 @@ enum NoModel {
     TooLong(u8),
     NotYet(Place),
     Memory,
-}
-
-/// The status of a run whose last text was written so.
-fn status_after(written: Result<(), Failed>, status: u8) -> u8
-    ensures ok { OnOk written (result ≡ status) }
-    ensures err { OnErr written (result ≡ 5) }
-{
-    match written {
-        Ok(()) => status,
-        Err(Failed) => WRITE_FAULT,
-    }
 }
 
 fn read_file<F: Shelf>(
@@ -56,7 +46,7 @@ fn read_file<F: Shelf>(
     ensures count { F.faults shelf.old ≤ F.faults shelf.new }
     ensures telling { (other : List ℕ) → F.bytes_under shelf.new other ≡ F.bytes_under shelf.old other }
 {
-    match read_all(alloc, shelf, name, LONGEST) {
+    match read_all(alloc, shelf, name, FILE_LIMIT as u64) {
         Ok(bytes) => Ok(bytes),
         Err(ReadEnd::Fault) => Err(NoModel::ReadFault(file)),
         Err(ReadEnd::TooLong) => Err(NoModel::TooLong(file)),
@@ -80,29 +70,59 @@ fn load<F: Shelf>(alloc: Global, shelf: &mut F, job: &Job<'_>) -> Result<Model, 
     }
 }
 
+/// Prints a line of words and the name of a file.
+fn put_file_line<S: Sink>(out: &mut S, words: &str, file: u8) -> Result<(), Failed>
+    ensures { Puts (S.taken out.old) (S.taken out.new) (S.faults out.old) (S.faults out.new)
+        (line (words.now ++ name_of_file file)) result }
+{
+    put_pieces(out, &[Piece::Text(words), Piece::Text(file_name(file))])
+}
+
 /// Prints why there is no model, and answers the status.
-fn put_cause<S: Sink>(out: &mut S, cause: &NoModel) -> u8
+fn put_cause<S: Sink>(out: &mut S, cause: &NoModel) -> Status
     ensures printed { Printed (S.taken out.old) (S.taken out.new) (outcome_of cause.now) result }
-    ensures read_fault { result ≡ 4 → (file : ℕ) × (cause.now ≡ causes.ReadFault file) }
-    ensures failed { result ≡ 5 → Rose (S.faults out.old) (S.faults out.new) }
+    ensures read_fault { result ≡ Status.ReadFault → (file : ℕ) × (cause.now ≡ causes.ReadFault file) }
+    ensures failed { result ≡ Status.WriteFault → Rose (S.faults out.old) (S.faults out.new) }
 {
     match cause {
-        NoModel::ReadFault(file) => status_after(put_read_fault(out, *file), 4),
-        NoModel::TooLong(file) => status_after(put_too_long(out, *file), 7),
-        NoModel::NotYet(place) => status_after(put_not_yet(out, *place), 3),
+        NoModel::ReadFault(file) => {
+            status_after(put_file_line(out, "read fault ", *file), Status::ReadFault)
+        }
+        NoModel::TooLong(file) => {
+            status_after(put_file_line(out, "too long ", *file), Status::TooLong)
+        }
+        NoModel::NotYet(place) => status_after(put_refusal(out, *place, None, 90), Status::Refused),
         NoModel::Memory => run_out(out),
     }
 }
 
+/// Prints which words have a meaning, and answers the status.
+fn put_usage<S: Sink>(out: &mut S) -> Status
+    ensures printed { Printed (S.taken out.old) (S.taken out.new) NoMeaning result }
+    ensures read_fault { result ≡ Status.ReadFault → ⊥ }
+    ensures failed { result ≡ Status.WriteFault → Rose (S.faults out.old) (S.faults out.new) }
+{
+    let written = put_line(
+        out,
+        "usage: solve DOMAIN PROBLEM; replay DOMAIN PROBLEM LIST; show DOMAIN PROBLEM; gen KIND SIZE SEED",
+    );
+    status_after(written, Status::Usage)
+}
+
 /// Does what the words ask for.
-fn perform<F: Shelf, S: Sink>(alloc: Global, words: &Vec<String>, shelf: &mut F, out: &mut S) -> u8
+fn perform<F: Shelf, S: Sink>(
+    alloc: Global,
+    words: &Vec<String>,
+    shelf: &mut F,
+    out: &mut S,
+) -> Status
     ensures printed { (outcome : Outcome) × ComesOf (map string_bytes words.now.items) (F.bytes_under shelf.old) outcome
         × Printed (S.taken out.old) (S.taken out.new) outcome result }
-    ensures read_fault { result ≡ 4 → Rose (F.faults shelf.old) (F.faults shelf.new) }
-    ensures write_fault { result ≡ 5 → Rose (S.faults out.old) (S.faults out.new) }
+    ensures read_fault { result ≡ Status.ReadFault → Rose (F.faults shelf.old) (F.faults shelf.new) }
+    ensures write_fault { result ≡ Status.WriteFault → Rose (S.faults out.old) (S.faults out.new) }
 {
     let Some(job) = read_words(words) else {
-        return status_after(put_usage(out), 2);
+        return put_usage(out);
     };
     match load(alloc, shelf, &job) {
         Ok(model) => solve(alloc, out, &model, &job.options),
@@ -111,19 +131,7 @@ fn perform<F: Shelf, S: Sink>(alloc: Global, words: &Vec<String>, shelf: &mut F,
 }
 
 /// Runs the program: reads the words of the command line, without the program's own name, and does what they ask
-/// for. Prints to the sink and answers the status.
-///
-/// | status | when |
-/// |---|---|
-/// | 0 | the best solution is proved optimal |
-/// | 2 | the words have no meaning |
-/// | 3 | a text is not of a form that is read |
-/// | 4 | a read failed |
-/// | 5 | a write failed |
-/// | 6 | memory ran out |
-/// | 7 | a file has more than 16,777,216 bytes |
-/// | 10 | there is no solution |
-/// | 11 | the budget of visits ended the search |
+/// for. Prints to the sink and answers the status, as a number that `Status` has a name for.
 pub fn run<R: Threads + Wait + Sync, F: Shelf, S: Sink, G: Gate>(
     _rt: &R,
     alloc: Global,
@@ -132,10 +140,10 @@ pub fn run<R: Threads + Wait + Sync, F: Shelf, S: Sink, G: Gate>(
     out: &mut S,
     _gate: &G,
 ) -> u8
-    ensures printed { (outcome : Outcome) × ComesOf (map string_bytes words.now.items) (F.bytes_under shelf.old) outcome
-        × Printed (S.taken out.old) (S.taken out.new) outcome result }
+    ensures printed { (outcome : Outcome) × (status : Status) × ComesOf (map string_bytes words.now.items) (F.bytes_under shelf.old) outcome
+        × Printed (S.taken out.old) (S.taken out.new) outcome status × (result ≡ code_of status) }
     ensures read_fault { result ≡ 4 → Rose (F.faults shelf.old) (F.faults shelf.new) }
     ensures write_fault { result ≡ 5 → Rose (S.faults out.old) (S.faults out.new) }
 {
-    perform(alloc, words, shelf, out)
+    perform(alloc, words, shelf, out).code()
 }

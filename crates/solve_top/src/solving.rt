@@ -7,21 +7,16 @@ ghost use Rattle.dp_base.specs.Bytes.{line};
 ghost use Rattle.solve_top.specs.Records.{pass_text, solution_lines, verdict_status};
 ghost use Rattle.solve_report.specs.Lines.{verdict_text};
 ghost use Rattle.solve_top.specs.Plain.{IsPlain};
-ghost use Rattle.solve_top.specs.Puts.{Puts};
+ghost use Rattle.solve_report.specs.Puts.{Puts};
 ghost use Rattle.solve_top.specs.Search.{HoldsAtMost, IsSolved, IsExhaustive};
 ghost use Rattle.solve_top.specs.Solving.{Concluded, IsOngoing, IsEnd, HistoryOf, pass_of, progress_after, verdict_of};
 
-use crate::report::{put_memory, put_pass, put_solution, put_verdict};
-use crate::search::{PassEnd, Tally, is_base, run_pass, target_numbers};
+use crate::search::{Halt, PassEnd, Tally, is_base, run_pass, target_numbers};
+use crate::status::Status;
 use dp_model::{Found, Model, Options, Seq, Verdict};
 use dp_outside::{Failed, Sink};
-use std::alloc::{AllocError, Global};
-
-/// The status where a write failed.
-pub const WRITE_FAULT: u8 = 5;
-
-/// The status where memory ran out.
-pub const NO_MEMORY: u8 = 6;
+use solve_report::{put_line, put_pass, put_solution, put_verdict};
+use std::alloc::Global;
 
 /// How far a search has come: the passes made, the share of the next pass, the visits of all passes, and the best
 /// solution, which was printed.
@@ -47,27 +42,27 @@ fn improved(held: &Option<Found>, best: Option<Found>) -> Option<Found>
 }
 
 /// The status of a verdict.
-fn status_of(verdict: &Verdict) -> u8
+fn status_of(verdict: &Verdict) -> Status
     ensures { result ≡ verdict_status verdict.now }
 {
     match verdict {
-        Verdict::Optimal(_) | Verdict::Legal(_) => 0,
-        Verdict::Infeasible | Verdict::Illegal(_, _) => 10,
-        Verdict::Stopped(_) => 11,
-        Verdict::Fault(_) => 12,
+        Verdict::Optimal(_) | Verdict::Legal(_) => Status::Success,
+        Verdict::Infeasible | Verdict::Illegal(_, _) => Status::Negative,
+        Verdict::Stopped(_) => Status::Stopped,
+        Verdict::Fault(_) => Status::Fault,
     }
 }
 
 /// Prints a verdict, and answers its status, or that of a failed write.
-fn conclude<S: Sink>(out: &mut S, model: &Model, verdict: &Verdict) -> u8
+fn conclude<S: Sink>(out: &mut S, model: &Model, verdict: &Verdict) -> Status
     ensures printed { ((result ≡ verdict_status verdict.now) × Takes (S.taken out.old) (S.taken out.new) (verdict_text model.now verdict.now))
-        ⊎ ((result ≡ 5) × TakesFront (S.taken out.old) (S.taken out.new) (verdict_text model.now verdict.now)) }
-    ensures failed { result ≡ 5 → Rose (S.faults out.old) (S.faults out.new) }
+        ⊎ ((result ≡ Status.WriteFault) × TakesFront (S.taken out.old) (S.taken out.new) (verdict_text model.now verdict.now)) }
+    ensures failed { result ≡ Status.WriteFault → Rose (S.faults out.old) (S.faults out.new) }
     ensures count { S.faults out.old ≤ S.faults out.new }
 {
     match put_verdict(out, model, verdict) {
         Ok(()) => status_of(verdict),
-        Err(Failed) => WRITE_FAULT,
+        Err(Failed) => Status::WriteFault,
     }
 }
 
@@ -122,14 +117,28 @@ fn final_verdict(held: &Option<Found>) -> Verdict
     }
 }
 
-/// Prints a pass, and the verdict if it was the last. Answers the status if the run is over.
+/// Prints that memory ran out, and answers its status, or that of a failed write.
+pub fn run_out<S: Sink>(out: &mut S) -> Status
+    ensures printed { ((result ≡ Status.Memory) × Takes (S.taken out.old) (S.taken out.new) (line (codes "memory")))
+        ⊎ ((result ≡ Status.WriteFault) × TakesFront (S.taken out.old) (S.taken out.new) (line (codes "memory"))) }
+    ensures failed { result ≡ Status.WriteFault → Rose (S.faults out.old) (S.faults out.new) }
+    ensures count { S.faults out.old ≤ S.faults out.new }
+{
+    match put_line(out, "memory") {
+        Ok(()) => Status::Memory,
+        Err(Failed) => Status::WriteFault,
+    }
+}
+
+/// Prints a pass, and how the run ended if the pass was the last: it was halted, or dropped no node. Answers the
+/// status if the run is over.
 fn after_pass<S: Sink>(
     out: &mut S,
     model: &Model,
     options: &Options,
     progress: &mut Progress,
     end: PassEnd,
-) -> Option<u8>
+) -> Option<Status>
     requires plain { IsPlain model.now }
     requires budget { options.now.budget ≤ 1000000000 }
     requires ongoing { IsOngoing options.now progress.old }
@@ -137,10 +146,10 @@ fn after_pass<S: Sink>(
     ensures goes_on { IfNone result (IsOngoing options.now progress.new × (progress.old.visited < progress.new.visited)) }
     ensures history { IfNone result ((before : Option (List ℕ)) → HistoryOf model.now before (S.taken out.old) progress.old → HistoryOf model.now before (S.taken out.new) progress.new) }
     ensures ends { IfSome result (λ status. (before : Option (List ℕ)) → HistoryOf model.now before (S.taken out.old) progress.old → Concluded model.now options.now before (S.taken out.new) status) }
-    ensures failed { result ≡ Some 5 → Rose (S.faults out.old) (S.faults out.new) }
+    ensures failed { result ≡ Some Status.WriteFault → Rose (S.faults out.old) (S.faults out.new) }
     ensures count { S.faults out.old ≤ S.faults out.new }
 {
-    let PassEnd { tally, halted } = end;
+    let PassEnd { tally, halt } = end;
     let Tally {
         visited,
         dropped,
@@ -148,39 +157,27 @@ fn after_pass<S: Sink>(
     } = tally;
     let found = improved(&progress.held, best);
     if put_pass_lines(out, model, progress, &found, visited, dropped).is_err() {
-        return Some(WRITE_FAULT);
+        return Some(Status::WriteFault);
     }
     count_pass(progress, found, visited);
-    if halted {
-        return Some(conclude(out, model, &Verdict::Stopped(progress.visited)));
-    }
-    if dropped == 0 {
-        return Some(conclude(out, model, &final_verdict(&progress.held)));
-    }
-    progress.share *= 2;
-    None
-}
-
-/// Prints that memory ran out, and answers its status, or that of a failed write.
-pub fn run_out<S: Sink>(out: &mut S) -> u8
-    ensures printed { ((result ≡ 6) × Takes (S.taken out.old) (S.taken out.new) (line (codes "memory")))
-        ⊎ ((result ≡ 5) × TakesFront (S.taken out.old) (S.taken out.new) (line (codes "memory"))) }
-    ensures failed { result ≡ 5 → Rose (S.faults out.old) (S.faults out.new) }
-    ensures count { S.faults out.old ≤ S.faults out.new }
-{
-    match put_memory(out) {
-        Ok(()) => NO_MEMORY,
-        Err(Failed) => WRITE_FAULT,
+    match halt {
+        Some(Halt::Budget) => Some(conclude(out, model, &Verdict::Stopped(progress.visited))),
+        Some(Halt::Memory) => Some(run_out(out)),
+        None if dropped == 0 => Some(conclude(out, model, &final_verdict(&progress.held))),
+        None => {
+            progress.share *= 2;
+            None
+        }
     }
 }
 
 /// Makes passes until one of them ends the run. Answers the status.
-fn search<S: Sink>(alloc: Global, out: &mut S, model: &Model, options: &Options) -> u8
+fn search<S: Sink>(alloc: Global, out: &mut S, model: &Model, options: &Options) -> Status
     requires plain { IsPlain model.now }
     requires inner { Inner model.now model.now.target }
     requires budget { options.now.budget ≤ 1000000000 }
     ensures concluded { Concluded model.now options.now (S.taken out.old) (S.taken out.new) result }
-    ensures failed { result ≡ 5 → Rose (S.faults out.old) (S.faults out.new) }
+    ensures failed { result ≡ Status.WriteFault → Rose (S.faults out.old) (S.faults out.new) }
     ensures count { S.faults out.old ≤ S.faults out.new }
 {
     let mut progress = Progress {
@@ -191,10 +188,7 @@ fn search<S: Sink>(alloc: Global, out: &mut S, model: &Model, options: &Options)
     };
     'passes: loop {
         let left = options.budget - progress.visited;
-        let end = match run_pass(alloc, model, progress.share, left) {
-            Ok(end) => end,
-            Err(AllocError) => return run_out(out),
-        };
+        let end = run_pass(alloc, model, progress.share, left);
         if let Some(status) = after_pass(out, model, options, &mut progress, end) {
             return status;
         }
@@ -202,11 +196,11 @@ fn search<S: Sink>(alloc: Global, out: &mut S, model: &Model, options: &Options)
 }
 
 /// Prints the solution without steps, and that it is optimal. Answers the status.
-fn conclude_at_target<S: Sink>(alloc: Global, out: &mut S, model: &Model) -> u8
+fn conclude_at_target<S: Sink>(alloc: Global, out: &mut S, model: &Model) -> Status
     requires plain { IsPlain model.now }
     requires base { Base model.now model.now.target (pos 0) }
     ensures concluded { (options : Options) → Concluded model.now options (S.taken out.old) (S.taken out.new) result }
-    ensures failed { result ≡ 5 → Rose (S.faults out.old) (S.faults out.new) }
+    ensures failed { result ≡ Status.WriteFault → Rose (S.faults out.old) (S.faults out.new) }
     ensures count { S.faults out.old ≤ S.faults out.new }
 {
     let found = Some(Found {
@@ -214,17 +208,17 @@ fn conclude_at_target<S: Sink>(alloc: Global, out: &mut S, model: &Model) -> u8
         steps: Seq::of(Vec::new(alloc)),
     });
     if put_found(out, model, &found).is_err() {
-        return WRITE_FAULT;
+        return Status::WriteFault;
     }
     conclude(out, model, &Verdict::Optimal(0))
 }
 
 /// Solves a model: prints the record of the search and answers the status.
-pub fn solve<S: Sink>(alloc: Global, out: &mut S, model: &Model, options: &Options) -> u8
+pub fn solve<S: Sink>(alloc: Global, out: &mut S, model: &Model, options: &Options) -> Status
     requires plain { IsPlain model.now }
     requires budget { options.now.budget ≤ 1000000000 }
     ensures concluded { Concluded model.now options.now (S.taken out.old) (S.taken out.new) result }
-    ensures failed { result ≡ 5 → Rose (S.faults out.old) (S.faults out.new) }
+    ensures failed { result ≡ Status.WriteFault → Rose (S.faults out.old) (S.faults out.new) }
     ensures count { S.faults out.old ≤ S.faults out.new }
 {
     let Ok(target) = target_numbers(alloc, model) else {

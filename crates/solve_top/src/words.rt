@@ -1,14 +1,12 @@
 ghost use Rattle.std.specs.Prelude.{◌≡◌, ◌≤◌, ◌∷◌, [], List, ℕ, IsTrue, codes, length, map, string_bytes, IfSome, IfNone};
 ghost use Rattle.std.specs.List.{list_all};
-ghost use Rattle.dypdl_load.specs.FirstForm.{is_digit};
+ghost use Rattle.dp_base.specs.Bytes.{is_digit as digit_test};
 ghost use Rattle.dypdl_load.specs.Meaning.{digits_value};
 ghost use Rattle.solve_top.specs.Words.{SolveJob, Asks, HasBudget, IsBudget, plain_options};
 ghost use Rattle.solve_top.specs.Jobs.{job_of};
 
+use dp_base::is_digit;
 use dp_model::Options;
-
-#[cfg(test)]
-mod tests;
 
 /// How many visits a run may make at most, over all its passes, and where no budget is given.
 const BUDGET: u64 = 10_000_000;
@@ -23,15 +21,15 @@ pub struct Job<'a> {
 
 /// Whether all bytes are decimal digits.
 fn are_digits(bytes: &[u8]) -> bool
-    ensures { result ≡ list_all is_digit bytes.now }
+    ensures { result ≡ list_all digit_test bytes.now }
 {
-    bytes.iter().all(|byte| *byte >= b'0' && *byte <= b'9')
+    bytes.iter().all(|byte| is_digit(*byte))
 }
 
 /// The number that decimal digits stand for.
 fn value_of(digits: &[u8]) -> u64
     requires few { length digits.now ≤ 8 }
-    requires digits { IsTrue (list_all is_digit digits.now) }
+    requires digits { IsTrue (list_all digit_test digits.now) }
     ensures { result ≡ digits_value digits.now }
 {
     let mut value = 0;

@@ -3,7 +3,8 @@ use Rattle.std.proofs.Common.{◌≡◌, ℕ, ◌+◌, ◌-◌, ◌≤◌, List,
 use Rattle.std.specs.List.{prefix_len, suffix_len}
 use Rattle.std.proofs.lemmas.List.{length-take-le, nil_from_length, append_assoc, append-nil}
 use Rattle.std.proofs.lemmas.List.Sums.{suffix_len-le-length}
-use Rattle.yaml_scan.specs.Bytes.{is_space, is_blank, cut, without_end}
+use Rattle.dp_base.specs.Bytes.{is_blank}
+use Rattle.yaml_scan.specs.Bytes.{is_space, cut, without_end}
 use Rattle.yaml_scan.specs.Faults.{tab_in, tab_or, tab_from}
 use Rattle.yaml_scan.specs.Lines.{line_at, lines_from}
 use Rattle.yaml_scan.specs.declared.line.Line.{Line}

@@ -1,13 +1,10 @@
 -- A file's bytes cut into lines, and what is told of one line.
-use Rattle.std.specs.Prelude.{ℕ, ◌-◌, Bool, ◌&&◌, ◌||◌, ◌==◌, if◌then◌else◌, List, [], ◌∷◌, length, take, drop}
+use Rattle.std.specs.Prelude.{ℕ, ◌-◌, Bool, ◌&&◌, ◌==◌, if◌then◌else◌, List, [], ◌∷◌, length, take, drop}
 use Rattle.std.specs.List.{prefix_len, suffix_len}
+use Rattle.dp_base.specs.Bytes.{is_blank}
 
--- Blanks are spaces and tabs.
 abbrev pub is_space : ℕ → Bool
 is_space byte = byte == 32
-
-abbrev pub is_blank : ℕ → Bool
-is_blank byte = byte == 32 || byte == 9
 
 -- how many bytes a byte order mark at the front of a file has: none, where no mark is there
 abbrev pub mark_length : List ℕ → ℕ

@@ -3,7 +3,8 @@ use Rattle.std.specs.Prelude.{ℕ, ◌+◌, Bool, false, not, ◌==◌, if◌the
 use Rattle.std.specs.List.{prefix_len, suffix_len, position, count_by}
 use Rattle.std.specs.Str.Lossy.{utf8_valid_len}
 use Rattle.dp_base.specs.declared.place.Place.{Place}
-use Rattle.yaml_scan.specs.Bytes.{is_blank, mark_length, cut, without_end}
+use Rattle.dp_base.specs.Bytes.{is_blank}
+use Rattle.yaml_scan.specs.Bytes.{mark_length, cut, without_end}
 
 -- The place of a byte in a file. Lines and columns count from 1, and columns count bytes. A byte order mark at the file's front counts in no column.
 abbrev pub place_of : (file : ℕ) → List ℕ → (at : ℕ) → Place

@@ -1,5 +1,6 @@
 -- What reading the lines of a file gives.
-use Rattle.std.specs.Prelude.{ℕ, if◌then◌else◌, nat_lt, List, Option, None, Some, Result, Ok, Err, ⊤}
+use Rattle.std.specs.Prelude.{ℕ, Bool, true, false, if◌then◌else◌, nat_lt, List, Option, None, Some, Result, Ok, Err}
+use Rattle.dp_base.specs.Results as results
 use Rattle.yaml_scan.specs.Lines.{lines_of}
 use Rattle.yaml_scan.specs.Faults.{place_of, bad_byte, tab_indent}
 use Rattle.yaml_scan.specs.declared.line.Line.{Line}
@@ -16,7 +17,11 @@ told file bytes (Some bad) (Some tab) = if nat_lt bad tab then Err (NotUtf8 (pla
 abbrev pub scan : (file : ℕ) → List ℕ → Result (List Line) ScanEnd
 scan file bytes = told file bytes (bad_byte bytes) (tab_indent bytes)
 
+-- memory ran out
+abbrev pub is_memory : ScanEnd → Bool
+is_memory Memory = true
+is_memory e = false
+
 -- memory ran out, or P says what was refused
 abbrev pub MemoryOr : (ScanEnd → Type 0) → ScanEnd → Type 0
-MemoryOr P Memory = ⊤
-MemoryOr P e = P e
+MemoryOr P e = results.MemoryOr is_memory P e

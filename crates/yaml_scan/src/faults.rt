@@ -1,10 +1,12 @@
+//! What a file is refused for before its lines are read, and where.
+
 ghost use Rattle.std.specs.Prelude.{◌≡◌, ◌==◌, ◌≤◌, not, length, count_by, IfSome};
 ghost use Rattle.std.specs.List.{suffix_len};
 ghost use Rattle.yaml_scan.specs.Faults.{bad_byte, is_filled, tab_in, tab_indent, place_of};
 ghost use Rattle.yaml_scan.specs.Bytes.{mark_length};
 
-use crate::pieces::{first_of, leading_blanks, mark_length, split_line, without_end};
-use dp_base::Place;
+use crate::pieces::{first_of, mark_length, split_line, without_end};
+use dp_base::{Place, leading_blanks};
 use std::str;
 
 /// The first byte that begins no character of UTF-8.

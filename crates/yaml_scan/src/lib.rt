@@ -5,8 +5,6 @@ mod faults;
 mod line;
 mod pieces;
 mod scanning;
-#[cfg(test)]
-mod tests;
 
 pub use line::{Line, ScanEnd};
 pub use scanning::lines;

@@ -1,3 +1,5 @@
+//! A line, and why a file has none.
+
 ghost use Rattle.std.specs.Prelude.{◌≡◌};
 ghost use Rattle.yaml_scan.specs.declared.line.ScanEnd.TheVariants.{Memory};
 

@@ -1,16 +1,14 @@
+//! The pieces of a file: its mark, its lines and their ends, and what leads and ends a line.
+
 ghost use Rattle.std.specs.Prelude.{◌≡◌, ◌==◌, ◌∷◌, ◌+◌, ◌<◌, ◌≤◌, length, position, IfSome};
 ghost use Rattle.std.specs.List.{prefix_len, suffix_len};
-ghost use Rattle.yaml_scan.specs.Bytes.{is_space, is_blank, mark_length, cut, without_end};
+ghost use Rattle.dp_base.specs.Bytes.{is_blank};
+ghost use Rattle.yaml_scan.specs.Bytes.{is_space, mark_length, cut, without_end};
+
+use dp_base::is_blank;
 
 /// A byte order mark, U+FEFF in UTF-8.
 const MARK: [u8; 3] = [0xEF, 0xBB, 0xBF];
-
-/// Whether a byte is a space or a tab.
-fn is_blank(byte: u8) -> bool
-    ensures { result ≡ is_blank byte }
-{
-    byte == b' ' || byte == b'\t'
-}
 
 /// How many bytes a byte order mark at the front of a file has: none, where no mark is there.
 pub(crate) fn mark_length(bytes: &[u8]) -> usize
@@ -65,14 +63,6 @@ pub(crate) fn leading_spaces(text: &[u8]) -> usize
     ensures within { result ≤ length text.now }
 {
     text.iter().take_while(|byte| **byte == b' ').count()
-}
-
-/// How many blanks lead a text.
-pub(crate) fn leading_blanks(text: &[u8]) -> usize
-    ensures value { result ≡ prefix_len is_blank text.now }
-    ensures within { result ≤ length text.now }
-{
-    text.iter().take_while(|byte| is_blank(**byte)).count()
 }
 
 /// How many blanks end a text.

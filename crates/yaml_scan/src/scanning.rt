@@ -1,3 +1,5 @@
+//! A file's lines, or its first fault.
+
 ghost use Rattle.std.specs.Prelude.{◌≡◌, ◌+◌, ◌^◌, ◌<◌, ◌≤◌, length, IfOk, IfErr, IfSome, IfNone, None, Some, Ok, Err};
 ghost use Rattle.yaml_scan.specs.Faults.{bad_byte, tab_indent};
 ghost use Rattle.yaml_scan.specs.Lines.{line_at, lines_of};

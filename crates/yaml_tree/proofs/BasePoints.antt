@@ -6,7 +6,7 @@ use Rattle.std.proofs.lemmas.Str.{IsCharBoundary-start, IsCharBoundary-after_asc
 use Rattle.std.proofs.lemmas.Bool.{cond-true, cond-false, eqb-true}
 use Rattle.std.proofs.lemmas.Option.{same_Some}
 use Rattle.std.proofs.lemmas.Bool.Decides.{nat_tests}
-use Rattle.yaml_scan.specs.Bytes.{is_blank}
+use Rattle.dp_base.specs.Bytes.{is_blank}
 use Rattle.yaml_tree.specs.Rest.{Row}
 use Rattle.yaml_tree.specs.Characters.{begins}
 use Rattle.yaml_tree.specs.Lines.{has_content, from_content}

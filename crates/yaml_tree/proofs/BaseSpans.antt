@@ -7,7 +7,8 @@ use Rattle.std.proofs.lemmas.List.Sums.{prefix_len-le-length, prefix_len_passes,
 use Rattle.std.proofs.lemmas.Str.{IsCharBoundary-start, IsCharBoundary-end, IsCharBoundary-after_ascii, IsCharBoundary-from_rest, IsCharBoundary-past_char, IsUtf8-drop}
 use lib.Utf8.{encode}
 use Rattle.std.proofs.lemmas.Bool.{eqb-true, eqb-false, and_parts, cond_both, cases_lt}
-use Rattle.yaml_scan.specs.Bytes.{is_space, is_blank, mark_length, before_first, cut, without_end, indent, content}
+use Rattle.dp_base.specs.Bytes.{is_blank}
+use Rattle.yaml_scan.specs.Bytes.{is_space, mark_length, before_first, cut, without_end, indent, content}
 use Rattle.yaml_scan.specs.Lines.{line_at, lines_from, lines_of}
 use Rattle.yaml_tree.specs.Rest.{IsSpan}
 use Rattle.yaml_tree.proofs.BasePoints.{IsCharBoundary-before, below-blank}

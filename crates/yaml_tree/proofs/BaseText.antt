@@ -9,20 +9,10 @@ use Rattle.yaml_tree.specs.Lines.{is_marker, from_content}
 use Rattle.yaml_tree.specs.Flow.{Outcome}
 use Rattle.yaml_tree.specs.Blocks.{BlockNode}
 use Rattle.yaml_tree.specs.Texts.{most_levels, whole_text, nothing_below, stray_line, past_start, before_lines, TopNode, OfLines}
-use Rattle.yaml_tree.specs.Results.{MemoryOr}
 use Rattle.yaml_tree.specs.declared.tree.Tree.{Tree}
 use Rattle.yaml_tree.specs.declared.tree.YamlEnd.{YamlEnd}
-use Rattle.yaml_tree.specs.declared.tree.YamlEnd.TheVariants.{Memory}
 use Rattle.yaml_tree.proofs.BaseReader.{with_below}
 use Rattle.yaml_tree.proofs.BasePoints.{rows-first, rows-none}
-
-pub MemoryOr-weaker : (P Q : YamlEnd → Type 0) → ((e : YamlEnd) → P e → Q e) → (e : YamlEnd) → MemoryOr P e → MemoryOr Q e
-MemoryOr-weaker P Q f Memory h = tt
-MemoryOr-weaker P Q f e h = f e h
-
-pub MemoryOr-from : (P : YamlEnd → Type 0) (e : YamlEnd) → P e → MemoryOr P e
-MemoryOr-from P Memory p = tt
-MemoryOr-from P e p = p
 
 pub MatchBool-no : (b : Bool) (P Q : Type 0) → b ≡ false → Q → MatchBool b P Q
 MatchBool-no b P Q e q = let R : Bool → Type 0 = λ x. MatchBool x P Q in subst R (sym e) q

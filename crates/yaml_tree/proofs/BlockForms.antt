@@ -8,23 +8,11 @@ use Rattle.yaml_tree.specs.declared.opening.Opening.TheVariants.{Plain, Quoted, 
 use Rattle.yaml_tree.specs.Flow.{Outcome, Reading, FormOf, Form}
 use Rattle.yaml_tree.specs.Blocks.{ended, whole_form, LineValue}
 use Rattle.yaml_tree.specs.BlockSteps.{scalar_made, continued_form, continued, whole_from}
-use Rattle.yaml_tree.specs.Results.{MemoryOr}
 use Rattle.yaml_tree.specs.declared.tree.Tree.{Tree}
 use Rattle.yaml_tree.specs.declared.tree.Tree.TheVariants as trees
 use Rattle.yaml_tree.specs.declared.tree.Tree.{Tree-F}
 use Rattle.yaml_tree.specs.declared.tree.Pair.{Pair}
 use Rattle.yaml_tree.specs.declared.tree.YamlEnd.{YamlEnd}
-use Rattle.yaml_tree.specs.declared.tree.YamlEnd.TheVariants.{Scan, BadQuote, Unread, TwiceKey, TooDeep, OutOfProfile, Memory}
-
--- what is refused stays refused under another name
-pub memory_or : (P Q : YamlEnd → Type 0) → ((e : YamlEnd) → P e → Q e) → (e : YamlEnd) → MemoryOr P e → MemoryOr Q e
-memory_or P Q h (Scan x) is = h (Scan x) is
-memory_or P Q h (BadQuote at) is = h (BadQuote at) is
-memory_or P Q h (Unread at) is = h (Unread at) is
-memory_or P Q h (TwiceKey at) is = h (TwiceKey at) is
-memory_or P Q h (TooDeep at) is = h (TooDeep at) is
-memory_or P Q h (OutOfProfile at feature) is = h (OutOfProfile at feature) is
-memory_or P Q h Memory is = tt
 
 -- ---- a plain scalar goes on behind its first line
 

@@ -8,7 +8,7 @@ use Rattle.yaml_tree.specs.Openings.{opening}
 use Rattle.yaml_tree.specs.declared.opening.Opening.{Opening}
 use Rattle.yaml_tree.specs.Keys.{deep_place}
 use Rattle.yaml_tree.specs.Flow.{Outcome, Form}
-use Rattle.yaml_tree.specs.Blocks.{BlockList, BlockNode, FirstKey, AfterForm, is_keyed}
+use Rattle.yaml_tree.specs.Blocks.{BlockList, BlockNode, FirstKey, AfterForm, is_block_key}
 use Rattle.yaml_tree.specs.BlockSteps.{is_key_here, whole_from, MapFrom}
 use Rattle.yaml_tree.specs.declared.tree.Tree.{Tree}
 use Rattle.yaml_tree.specs.declared.tree.YamlEnd.{YamlEnd}
@@ -47,7 +47,7 @@ module _ (least : ℕ) (from : Rest) (no_item : is_item from.here ≡ false) whe
     some : 0 < levels
     some = form-levels levels from x is
 
-    keyed : (b : Bool) → b ≡ is_key_here o line x.1 → is_keyed from x.1 ≡ b
+    keyed : (b : Bool) → b ≡ is_key_here o line x.1 → is_block_key from x.1 ≡ b
     keyed b e = sym (e ∙ ap (λ (p : Opening). is_key_here p line x.1) same ∙ ap (λ (n : ℕ). is_key_here (opening false true from) n x.1) here)
 
     begun : Form false true (suc (levels - 1)) from (Ok x)
@@ -60,15 +60,15 @@ module _ (least : ℕ) (from : Rest) (no_item : is_item from.here ≡ false) whe
 
     pub node_whole : (outcome : Outcome) → false ≡ is_key_here o line x.1 → whole_from o least x.0 x.1 ≡ outcome → BlockNode levels least from outcome
     node_whole outcome no_key whole =
-        behind outcome (otherwise (is_keyed from x.1) _ _ (keyed false no_key) (sym (form-whole levels least from o x same is ∙ whole)))
+        behind outcome (otherwise (is_block_key from x.1) _ _ (keyed false no_key) (sym (form-whole levels least from o x same is ∙ whole)))
 
     pub node_deep : (deep : Place) → true ≡ is_key_here o line x.1 → deep_place x.0 (levels - 1) ≡ Some deep → BlockNode levels least from (Err (TooDeep deep))
     node_deep deep key too_deep =
-        behind (Err (TooDeep deep)) (yes (is_keyed from x.1) _ _ (keyed true key)
+        behind (Err (TooDeep deep)) (yes (is_block_key from x.1) _ _ (keyed true key)
         (subst (λ (d : Option Place). FirstKey (BlockNode (levels - 1)) (levels - 1) from x.0 x.1 d (Err (TooDeep deep))) (sym too_deep) refl))
 
     pub node_map : (at : Place) (outcome : Outcome) → at ≡ place from → true ≡ is_key_here o line x.1 → deep_place x.0 (levels - 1) ≡ None → MapFrom (BlockNode (levels - 1)) (levels - 1) at x.0 (on 1 (skip_blanks x.1)) outcome → BlockNode levels least from outcome
     node_map at outcome there key not_deep read =
-        behind outcome (yes (is_keyed from x.1) _ _ (keyed true key)
+        behind outcome (yes (is_block_key from x.1) _ _ (keyed true key)
         (subst (λ (d : Option Place). FirstKey (BlockNode (levels - 1)) (levels - 1) from x.0 x.1 d outcome) (sym not_deep)
         (subst (λ (p : Place). MapFrom (BlockNode (levels - 1)) (levels - 1) p x.0 (on 1 (skip_blanks x.1)) outcome) there read)))

@@ -3,34 +3,24 @@ use Rattle.std.proofs.Common.{◌≡◌, List, [], ◌∷◌, ◌++◌, None, So
 use Rattle.std.specs.Prelude.{IsErrAnd, IfErr}
 use Rattle.std.proofs.lemmas.List.{append-nil}
 use Rattle.dp_base.specs.declared.place.Place.{Place}
+use Rattle.dp_base.proofs.Memory.{memory_or, memory_or-from}
 use Rattle.yaml_tree.specs.Rest.{Rest, place, on}
 use Rattle.yaml_tree.specs.Lines.{flow_point}
 use Rattle.yaml_tree.specs.Repeats.{Turn, More, Last, Refused, InTurn, Repeats}
 use Rattle.yaml_tree.specs.Flow.{Reading, ListTurn, MapTurn, FromNext, ListForm, MapForm}
-use Rattle.yaml_tree.specs.Results.{MemoryOr, turn_of}
+use Rattle.yaml_tree.specs.Results.{is_memory, MemoryOr, turn_of}
 use Rattle.yaml_tree.specs.declared.tree.Tree.{Tree}
 use Rattle.yaml_tree.specs.declared.tree.Tree.TheVariants as trees
 use Rattle.yaml_tree.specs.declared.tree.Pair.{Pair}
 use Rattle.yaml_tree.specs.declared.tree.YamlEnd.{YamlEnd}
 use Rattle.yaml_tree.specs.declared.turns.Step.{Step}
 use Rattle.yaml_tree.specs.declared.turns.Step.TheVariants as steps
-use Rattle.yaml_tree.specs.declared.tree.YamlEnd.TheVariants.{Scan, BadQuote, Unread, TwiceKey, TooDeep, OutOfProfile, Memory}
 
 -- ---- refusals
 
--- what is refused stays refused under another name
-memory_or : (P Q : YamlEnd → Type 0) → ((e : YamlEnd) → P e → Q e) → (e : YamlEnd) → MemoryOr P e → MemoryOr Q e
-memory_or P Q h (Scan x) is = h (Scan x) is
-memory_or P Q h (BadQuote at) is = h (BadQuote at) is
-memory_or P Q h (Unread at) is = h (Unread at) is
-memory_or P Q h (TwiceKey at) is = h (TwiceKey at) is
-memory_or P Q h (TooDeep at) is = h (TooDeep at) is
-memory_or P Q h (OutOfProfile at feature) is = h (OutOfProfile at feature) is
-memory_or P Q h Memory is = tt
-
 pub refused_as : {T : Type 0} (P Q : YamlEnd → Type 0) → ((e : YamlEnd) → P e → Q e) → (r : Result T YamlEnd) → IfErr r (MemoryOr P) → IfErr r (MemoryOr Q)
 refused_as P Q h (Ok x) is = tt
-refused_as P Q h (Err e) is = memory_or P Q h e is
+refused_as P Q h (Err e) is = memory_or is_memory P Q h e is
 
 -- a refusal that is passed on
 passed_on : {T : Type 0} (r : Result T YamlEnd) (e : YamlEnd) (P : YamlEnd → Type 0) → IsErrAnd r (λ y. y ≡ e) → MemoryOr P e → IfErr r (MemoryOr P)
@@ -38,18 +28,10 @@ passed_on (Ok x) e P same is = absurd same
 passed_on (Err y) e P same is = subst (MemoryOr P) (sym same) is
 
 pub passed_as : {T : Type 0} (P Q : YamlEnd → Type 0) → ((e : YamlEnd) → P e → Q e) → (r : Result T YamlEnd) (e : YamlEnd) → IsErrAnd r (λ y. y ≡ e) → MemoryOr P e → IfErr r (MemoryOr Q)
-passed_as P Q h r e same is = passed_on r e Q same (memory_or P Q h e is)
+passed_as P Q h r e same is = passed_on r e Q same (memory_or is_memory P Q h e is)
 
 pub refused_now : {T : Type 0} (P : YamlEnd → Type 0) (r : Result T YamlEnd) (e : YamlEnd) → IsErrAnd r (λ y. y ≡ e) → P e → IfErr r (MemoryOr P)
-refused_now P r e same is = passed_on r e P same (as_refused e is) where
-  as_refused : (e : YamlEnd) → P e → MemoryOr P e
-  as_refused (Scan x) is = is
-  as_refused (BadQuote at) is = is
-  as_refused (Unread at) is = is
-  as_refused (TwiceKey at) is = is
-  as_refused (TooDeep at) is = is
-  as_refused (OutOfProfile at feature) is = is
-  as_refused Memory is = tt
+refused_now P r e same is = passed_on r e P same (memory_or-from is_memory P e is)
 
 -- ---- turns
 

@@ -12,9 +12,8 @@ use Rattle.yaml_tree.specs.Openings.{opening}
 use Rattle.yaml_tree.specs.Keys.{stands_before, deep_place}
 use Rattle.yaml_tree.specs.Repeats.{Turn, More, Last, InTurn, EndsWith, Repeats}
 use Rattle.yaml_tree.specs.Repeats as repeats
-use Rattle.yaml_tree.specs.Flow.{Outcome, Reading, ListTurn, FromNext, ListForm, entry, ends_entry, ValueTurn, KeyTurn, AfterKey, MapTurn, MapForm, FormOf, Form}
-use Rattle.yaml_tree.specs.Flow as flows
-use Rattle.yaml_tree.specs.Blocks.{BlockReading, LineValue, node_in, BelowOf, Below, Item, ItemTurn, BlockList, Value, entry_in, NextEntry, AfterValue, EntryTurn, BlockMap, is_keyed, FirstKey, AfterForm, BlockNode}
+use Rattle.yaml_tree.specs.Flow.{Outcome, Reading, ListTurn, FromNext, ListForm, entry, ends_entry, ValueTurn, KeyTurn, AfterKey, MapTurn, MapForm, FormOf, Form, is_keyed}
+use Rattle.yaml_tree.specs.Blocks.{BlockReading, LineValue, node_in, BelowOf, Below, Item, ItemTurn, BlockList, Value, entry_in, NextEntry, AfterValue, EntryTurn, BlockMap, is_block_key, FirstKey, AfterForm, BlockNode}
 use Rattle.yaml_tree.specs.Texts.{most_levels, before_lines, past_start, TopNode, OfLines, Reads}
 use Rattle.yaml_tree.specs.declared.opening.Opening.{Opening}
 use Rattle.yaml_tree.specs.declared.opening.Opening.TheVariants.{Plain, Quoted, OpenQuote, FlowList, FlowMap, Outside, Nothing}
@@ -102,7 +101,7 @@ module _ (Node : Reading) (one : IsOneReading Node) where
 
   one_key_turn : (from : Rest) (key : Tree) (to : Rest) (o : Result Rest YamlEnd) → IsOne (KeyTurn Node from key to o)
   one_key_turn from key to (Err e) = one_is _
-  one_key_turn from key to (Ok next) = one_choice (flows.is_keyed from to next) _ _ (one_value_turn key (on 1 next) (flow_point (on 1 next))) (one_is _)
+  one_key_turn from key to (Ok next) = one_choice (is_keyed from to next) _ _ (one_value_turn key (on 1 next) (flow_point (on 1 next))) (one_is _)
 
   one_after_key : (before : List Pair) (from : Rest) (key : Outcome) → IsOne (AfterKey Node before from key)
   one_after_key before from (Err e) = one_is _
@@ -180,7 +179,7 @@ module _ (Node : BlockReading) (one : IsOneBlock Node) (levels : ℕ) where
 
   pub one_after_form : (least : ℕ) (from : Rest) (begun : Outcome) → IsOne (AfterForm Node levels least from begun)
   one_after_form least from (Err e) = one_is _
-  one_after_form least from (Ok x) = one_choice (is_keyed from x.1) _ _ (one_first_key from x.0 x.1 (deep_place x.0 levels)) (one_is _)
+  one_after_form least from (Ok x) = one_choice (is_block_key from x.1) _ _ (one_first_key from x.0 x.1 (deep_place x.0 levels)) (one_is _)
 
 pub one_node : (levels : ℕ) → IsOneBlock (BlockNode levels)
 one_node zero least from = one_choice (is_item from.here) _ _ (one_is _) (one_is _)

@@ -12,9 +12,8 @@ use Rattle.yaml_tree.specs.Openings.{opening}
 use Rattle.yaml_tree.specs.Keys.{stands_before, deep_place}
 use Rattle.yaml_tree.specs.Repeats.{Turn, More, Last, InTurn, EndsWith, Repeats}
 use Rattle.yaml_tree.specs.Repeats as repeats
-use Rattle.yaml_tree.specs.Flow.{Outcome, Reading, ListTurn, FromNext, ListForm, entry, ends_entry, ValueTurn, KeyTurn, AfterKey, MapTurn, MapForm, FormOf, Form}
-use Rattle.yaml_tree.specs.Flow as flows
-use Rattle.yaml_tree.specs.Blocks.{BlockReading, LineValue, node_in, BelowOf, Below, Item, ItemTurn, BlockList, Value, entry_in, NextEntry, AfterValue, EntryTurn, BlockMap, is_keyed, FirstKey, AfterForm, BlockNode}
+use Rattle.yaml_tree.specs.Flow.{Outcome, Reading, ListTurn, FromNext, ListForm, entry, ends_entry, ValueTurn, KeyTurn, AfterKey, MapTurn, MapForm, FormOf, Form, is_keyed}
+use Rattle.yaml_tree.specs.Blocks.{BlockReading, LineValue, node_in, BelowOf, Below, Item, ItemTurn, BlockList, Value, entry_in, NextEntry, AfterValue, EntryTurn, BlockMap, is_block_key, FirstKey, AfterForm, BlockNode}
 use Rattle.yaml_tree.specs.Texts.{most_levels, before_lines, past_start, TopNode, OfLines, Reads}
 use Rattle.yaml_tree.specs.declared.opening.Opening.{Opening}
 use Rattle.yaml_tree.specs.declared.opening.Opening.TheVariants.{Plain, Quoted, OpenQuote, FlowList, FlowMap, Outside, Nothing}
@@ -114,7 +113,7 @@ module _ (Node : Reading) (shortens : Shortens Node) (has : HasOneReading Node) 
 
   has_key_turn : (from : Rest) (key : Tree) (to : Rest) (o : Result Rest YamlEnd) → HasOne (KeyTurn Node from key to o)
   has_key_turn from key to (Err e) = has_is _
-  has_key_turn from key to (Ok next) = has_choice (flows.is_keyed from to next) _ _ (has_value_turn key (on 1 next) (flow_point (on 1 next))) (has_is _)
+  has_key_turn from key to (Ok next) = has_choice (is_keyed from to next) _ _ (has_value_turn key (on 1 next) (flow_point (on 1 next))) (has_is _)
 
   has_after_key : (before : List Pair) (from : Rest) (key : Outcome) → HasOne (AfterKey Node before from key)
   has_after_key before from (Err e) = has_is _
@@ -193,7 +192,7 @@ module _ (Node : BlockReading) (shortens : BlockShortens Node) (has : HasOneBloc
 
   has_after_form : (least : ℕ) (from : Rest) (begun : Outcome) → HasOne (AfterForm Node levels least from begun)
   has_after_form least from (Err e) = has_is _
-  has_after_form least from (Ok x) = has_choice (is_keyed from x.1) _ _ (has_first_key from x.0 x.1 (deep_place x.0 levels)) (has_is _)
+  has_after_form least from (Ok x) = has_choice (is_block_key from x.1) _ _ (has_first_key from x.0 x.1 (deep_place x.0 levels)) (has_is _)
 
 pub has_node : (levels : ℕ) → HasOneBlock (BlockNode levels)
 has_node zero least from = has_choice (is_item from.here) _ _ (has_is _) (has_is _)

@@ -8,9 +8,7 @@ use Rattle.std.proofs.lemmas.Option.{slice_get_within, get_or_from_slice_get}
 use Rattle.yaml_tree.specs.Rest.{Row, Rest, on, front}
 use Rattle.yaml_tree.specs.Lines.{is_empty, is_marker, marker_end}
 use Rattle.yaml_tree.specs.Scalars.{part_of, break_text, goes_on, with_text, lines_added, added}
-use Rattle.yaml_tree.specs.Results.{MemoryOr}
 use Rattle.yaml_tree.specs.declared.tree.YamlEnd.{YamlEnd}
-use Rattle.yaml_tree.specs.declared.tree.YamlEnd.TheVariants.{Scan, BadQuote, Unread, TwiceKey, TooDeep, OutOfProfile, Memory}
 
 -- ---- texts
 
@@ -135,13 +133,3 @@ pub grows : (flow : Bool) (least : ℕ) (r : Rest) (n : ℕ) (row : Row) (text :
 grows flow least r n row text at a b d =
     ap (with_text text) (at_row flow least r n row at ∙ longer flow least r n row (drop (n + 1) r.below) (full_row r n row at) a b d)
     ∙ with_text-with_text text (break_text n ++ part_of flow row.text) (added flow least (on (length (part_of flow row.text)) (front r row (drop (n + 1) r.below))))
-
--- what is refused, as a function that may run out of memory says it
-pub refused-from : (P : YamlEnd → Type 0) (e : YamlEnd) → P e → MemoryOr P e
-refused-from P (Scan e) is = is
-refused-from P (BadQuote at) is = is
-refused-from P (Unread at) is = is
-refused-from P (TwiceKey at) is = is
-refused-from P (TooDeep at) is = is
-refused-from P (OutOfProfile at feature) is = is
-refused-from P Memory is = tt

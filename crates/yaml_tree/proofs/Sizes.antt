@@ -6,7 +6,7 @@ use Rattle.std.proofs.lemmas.Bool.{cases_lt}
 use Rattle.std.proofs.lemmas.Bool.Decides.{nat_tests}
 use Rattle.std.proofs.lemmas.List.{length-replicate, get_or-reverse}
 use Rattle.std.proofs.lemmas.List.Sums.{prefix_len_passes}
-use Rattle.yaml_scan.specs.Bytes.{is_blank}
+use Rattle.dp_base.specs.Bytes.{is_blank}
 use Rattle.yaml_tree.specs.Rest.{Row, Rest, place, on, skip_blanks, front}
 use Rattle.yaml_tree.specs.Characters.{begins, begins_plain, is_clear, is_item, is_colon}
 use Rattle.yaml_tree.specs.Lines.{is_empty, has_content, from_content, is_marker, flow_below, flow_point, settle, end_line}
@@ -14,10 +14,8 @@ use Rattle.yaml_tree.specs.Scalars.{inner_of, ends_before, run_of, part_of, brea
 use Rattle.yaml_tree.specs.Openings.{quote_opening, before_blank, opening_with, opening_of, opening}
 use Rattle.yaml_tree.specs.Keys.{stands_before, deep_place}
 use Rattle.yaml_tree.specs.Repeats.{Turn, More, Last, Refused, InTurn, EndsWith, Repeats}
-use Rattle.yaml_tree.specs.Flow.{Outcome, Reading, next_turn, item_ends, item_turn, ListTurn, list_made, FromNext, ListForm, entry, empty_at, ends_entry, entry_ends, entry_turn, value_turn, ValueTurn, KeyTurn, AfterKey, MapTurn, map_made, MapForm, FormOf, Form}
-use Rattle.yaml_tree.specs.Flow as flows
-use Rattle.yaml_tree.specs.Blocks.{BlockReading, begins_below, settled, ended, whole_form, LineValue, empty_scalar, node_in, BelowOf, Below, Item, item_in, item_then, ItemTurn, BlockList, Value, entry_in, key_then, later_key, NextEntry, AfterValue, EntryTurn, BlockMap, is_keyed, FirstKey, AfterForm, BlockNode}
-use Rattle.yaml_tree.specs.Blocks as blocks
+use Rattle.yaml_tree.specs.Flow.{Outcome, Reading, next_turn, item_ends, item_turn, ListTurn, list_made, FromNext, ListForm, entry, empty_at, ends_entry, entry_ends, entry_turn, value_turn, ValueTurn, KeyTurn, AfterKey, MapTurn, map_made, MapForm, FormOf, Form, is_keyed}
+use Rattle.yaml_tree.specs.Blocks.{BlockReading, begins_below, settled, ended, whole_form, LineValue, empty_scalar, node_in, BelowOf, Below, Item, item_in, item_then, ItemTurn, BlockList, Value, entry_in, key_then, later_key, NextEntry, AfterValue, EntryTurn, BlockMap, is_block_key, FirstKey, AfterForm, BlockNode, block_item_turn}
 use Rattle.yaml_tree.specs.declared.opening.Opening.{Opening}
 use Rattle.yaml_tree.specs.declared.opening.Opening.TheVariants.{Plain, Quoted, OpenQuote, FlowList, FlowMap, Outside, Nothing}
 use Rattle.yaml_tree.specs.declared.tree.Tree.{Tree}
@@ -360,7 +358,7 @@ item_ends-leaves n from item to (Err e) less = tt
 item_ends-leaves n from item to (Ok next) less =
     either size 1 n (begins 44 next.here) _ _ (comma-leaves n item next (less next refl))
     (either size 1 n (begins 93 next.here) _ _ (omega (arith, less next refl, on-size 1 next))
-    (either size 1 n (flows.is_keyed from to next) _ _ tt tt))
+    (either size 1 n (is_keyed from to next) _ _ tt tt))
 
 item_turn-leaves : (n : ℕ) (from : Rest) (item : Outcome) → ((x : Tree × Rest) → item ≡ Ok x → size x.1 < n) → Leaves size 1 n (item_turn from item)
 item_turn-leaves n from (Ok x) less = item_ends-leaves n from x.0 x.1 (flow_point x.1) (λ q is. omega (arith, flow_point-size x.1 q is, less x refl))
@@ -419,7 +417,7 @@ module _ (Node : Reading) (shortens : Shortens Node) where
   pub key_turn-leaves : (n : ℕ) (from : Rest) (key : Tree) (to : Rest) (o : Result Rest YamlEnd) → ((q : Rest) → o ≡ Ok q → size q < n) → (turn : Turn Pair Rest) → KeyTurn Node from key to o turn → Leaves size 1 n turn
   key_turn-leaves n from key to (Err e) less turn is = rw is tt
   key_turn-leaves n from key to (Ok next) less turn is =
-      elim (which (flows.is_keyed from to next) _ _ is) [
+      elim (which (is_keyed from to next) _ _ is) [
         | inl h ↦ value_turns-leave n key (on 1 next) (flow_point (on 1 next)) (λ q e. omega (arith, flow_point-size (on 1 next) q e, on-size 1 next, less next refl)) turn h.1
         | inr h ↦ rw h.1 (entry_ends-leaves n (entry key (empty_at to)) next (less next refl))
       ]
@@ -518,7 +516,7 @@ item_then-leaves : (n : ℕ) (item : Tree) (left : Rest) (o : Option Rest) → s
 item_then-leaves n item left (Some next) less more = more next refl
 item_then-leaves n item left None less more = omega arith
 
-block_item_turn-leaves : (n indent : ℕ) (item : Outcome) → ((x : Tree × Rest) → item ≡ Ok x → size x.1 ≤ n) → Leaves size 0 n (blocks.item_turn indent item)
+block_item_turn-leaves : (n indent : ℕ) (item : Outcome) → ((x : Tree × Rest) → item ≡ Ok x → size x.1 ≤ n) → Leaves size 0 n (block_item_turn indent item)
 block_item_turn-leaves n indent (Ok x) less = item_then-leaves n x.0 x.1 (item_in indent x.1 x.1.below) (less x refl) (λ from is. omega (arith, item_in-size indent x.1 x.1.below from is, less x refl))
 block_item_turn-leaves n indent (Err e) less = tt
 
@@ -608,7 +606,7 @@ module _ (Node : BlockReading) (shortens : BlockShortens Node) (levels : ℕ) wh
   pub after_form-shortens : (least : ℕ) (from : Rest) (begun : Outcome) → ((y : Tree × Rest) → begun ≡ Ok y → size y.1 < size from) → (x : Tree × Rest) → AfterForm Node levels least from begun (Ok x) → size x.1 < size from
   after_form-shortens least from (Err e) less x is = absurd (cc is)
   after_form-shortens least from (Ok y) less x is =
-      elim (which (is_keyed from y.1) _ _ is) [
+      elim (which (is_block_key from y.1) _ _ is) [
         | inl h ↦ omega (arith, first_key-size from y.0 y.1 (deep_place y.0 levels) x h.1, less y refl)
         | inr h ↦ whole_form-shortens (opening false true from) least from (Ok y) refl less x (sym h.1)
       ]

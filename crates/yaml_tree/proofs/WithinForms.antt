@@ -10,8 +10,7 @@ use Rattle.yaml_tree.specs.Scalars.{part_of, plain, plain_part, single_text, esc
 use Rattle.yaml_tree.specs.Openings.{opening}
 use Rattle.yaml_tree.specs.Keys.{stands_before}
 use Rattle.yaml_tree.specs.Repeats.{Turn, More, Last, Refused, InTurn, EndsWith, Repeats}
-use Rattle.yaml_tree.specs.Flow.{Outcome, Reading, next_turn, item_ends, item_turn, ListTurn, FromNext, ListForm, entry, empty_at, ends_entry, entry_ends, entry_turn, value_turn, ValueTurn, KeyTurn, AfterKey, MapTurn, MapForm, FormOf, Form}
-use Rattle.yaml_tree.specs.Flow as flows
+use Rattle.yaml_tree.specs.Flow.{Outcome, Reading, next_turn, item_ends, item_turn, ListTurn, FromNext, ListForm, entry, empty_at, ends_entry, entry_ends, entry_turn, value_turn, ValueTurn, KeyTurn, AfterKey, MapTurn, MapForm, FormOf, Form, is_keyed}
 use Rattle.yaml_tree.specs.Within.{is_within, IsWithin}
 use Rattle.yaml_tree.specs.declared.opening.Opening.{Opening}
 use Rattle.yaml_tree.specs.declared.opening.Opening.TheVariants.{Plain, Quoted, OpenQuote, FlowList, FlowMap, Outside, Nothing}
@@ -139,7 +138,7 @@ item_ends_passes most from item to (Err e) is = tt
 item_ends_passes most from item to (Ok next) is =
     either (is_within most) (begins 44 next.here) _ _ (next_turn_passes (is_within most) item (flow_point (on 1 next)) is)
     (either (is_within most) (begins 93 next.here) _ _ (one_passes (is_within most) item is)
-    (either (is_within most) (flows.is_keyed from to next) _ _ tt tt))
+    (either (is_within most) (is_keyed from to next) _ _ tt tt))
 
 item_turn_passes : (most : ℕ) (from : Rest) (item : Outcome) → ((x : Tree × Rest) → item ≡ Ok x → IsWithin most x.0) → Passes (is_within most) (item_turn from item)
 item_turn_passes most from (Ok x) within = item_ends_passes most from x.0 x.1 (flow_point x.1) (within x refl)
@@ -189,7 +188,7 @@ module _ (most : ℕ) (Node : Reading) (shortens : Shortens Node) (bounded : IsB
   key_turn_passes : (from : Rest) (key : Tree) (to : Rest) (o : Result Rest YamlEnd) → IsWithin most key → ((q : Rest) → o ≡ Ok q → size q ≤ most) → (turn : Turn Pair Rest) → KeyTurn Node from key to o turn → Passes (pair_within most) turn
   key_turn_passes from key to (Err e) is fits turn t = rw t tt
   key_turn_passes from key to (Ok next) is fits turn t =
-      elim (which (flows.is_keyed from to next) _ _ t) [
+      elim (which (is_keyed from to next) _ _ t) [
         | inl h ↦ value_turns_pass key (on 1 next) (flow_point (on 1 next)) is (λ q e. omega (arith, flow_point-size (on 1 next) q e, on-size 1 next, fits next refl)) turn h.1
         | inr h ↦ rw h.1 (entry_ends_passes (entry key (empty_at to)) next (entry_within most key (empty_at to) is (empty_within most to)))
       ]

@@ -10,7 +10,7 @@ use Rattle.yaml_tree.specs.Openings.{opening}
 use Rattle.yaml_tree.specs.Keys.{stands_before, deep_place}
 use Rattle.yaml_tree.specs.Repeats.{Turn, More, Last, Refused, Repeats}
 use Rattle.yaml_tree.specs.Flow.{Outcome, entry, empty_at, Form}
-use Rattle.yaml_tree.specs.Blocks.{BlockReading, ended, whole_form, LineValue, empty_scalar, node_in, BelowOf, Below, Item, item_in, item_then, item_turn, ItemTurn, BlockList, Value, entry_in, key_then, later_key, NextEntry, AfterValue, EntryTurn, BlockMap, is_keyed, FirstKey, AfterForm, BlockNode}
+use Rattle.yaml_tree.specs.Blocks.{BlockReading, ended, whole_form, LineValue, empty_scalar, node_in, BelowOf, Below, Item, item_in, item_then, block_item_turn, ItemTurn, BlockList, Value, entry_in, key_then, later_key, NextEntry, AfterValue, EntryTurn, BlockMap, is_block_key, FirstKey, AfterForm, BlockNode}
 use Rattle.yaml_tree.specs.Within.{is_within, IsWithin}
 use Rattle.yaml_tree.specs.declared.opening.Opening.{Opening}
 use Rattle.yaml_tree.specs.declared.opening.Opening.TheVariants.{Plain, Quoted}
@@ -45,7 +45,7 @@ item_then_passes : (most : ℕ) (item : Tree) (left : Rest) (o : Option Rest) �
 item_then_passes most item left (Some next) is = is
 item_then_passes most item left None is = one_passes (is_within most) item is
 
-item_turn_passes : (most indent : ℕ) (item : Outcome) → ((x : Tree × Rest) → item ≡ Ok x → IsWithin most x.0) → Passes (is_within most) (item_turn indent item)
+item_turn_passes : (most indent : ℕ) (item : Outcome) → ((x : Tree × Rest) → item ≡ Ok x → IsWithin most x.0) → Passes (is_within most) (block_item_turn indent item)
 item_turn_passes most indent (Ok x) within = item_then_passes most x.0 x.1 (item_in indent x.1 x.1.below) (within x refl)
 item_turn_passes most indent (Err e) within = tt
 
@@ -147,7 +147,7 @@ module _ (most : ℕ) (Node : BlockReading) (shortens : BlockShortens Node) (bou
   after_form_within : (least : ℕ) (from : Rest) (begun : Outcome) → size from ≤ most → ((y : Tree × Rest) → begun ≡ Ok y → IsWithin most y.0 × (size y.1 ≤ most)) → (x : Tree × Rest) → AfterForm Node levels least from begun (Ok x) → IsWithin most x.0
   after_form_within least from (Err e) fits known x is = absurd (cc is)
   after_form_within least from (Ok y) fits known x is =
-      elim (which (is_keyed from y.1) _ _ is) [
+      elim (which (is_block_key from y.1) _ _ is) [
         | inl h ↦ first_key_within from y.0 y.1 (deep_place y.0 levels) x (known y refl).0 (known y refl).1 h.1
         | inr h ↦ whole_form_within most (opening false true from) least from (Ok y) fits (λ z e. (known z e).0) x (sym h.1)
       ]

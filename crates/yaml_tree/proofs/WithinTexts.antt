@@ -1,7 +1,8 @@
 -- The scalars of a text's tree have no more bytes than the text.
 use Rattle.std.proofs.Common.{◌≡◌, ℕ, suc, ◌+◌, ◌-◌, ◌≤◌, Bool, true, false, ◌&&◌, ◌==◌, if◌then◌else◌, nat_lt, codes, bytes_eq, List, [], ◌∷◌, length, map, drop, Option, None, Some, Result, Ok, Err, refl, sym, ap, subst, inl, inr, arith, length-drop, length-take}
 use Rattle.std.specs.List.{suffix_len}
-use Rattle.yaml_scan.specs.Bytes.{is_blank, before_first, cut, without_end, indent, content, mark_length}
+use Rattle.dp_base.specs.Bytes.{is_blank}
+use Rattle.yaml_scan.specs.Bytes.{before_first, cut, without_end, indent, content, mark_length}
 use Rattle.yaml_scan.specs.Lines.{line_at, lines_from, lines_of}
 use Rattle.yaml_scan.specs.Faults.{bad_byte, tab_indent}
 use Rattle.yaml_scan.specs.Scan.{told, scan}

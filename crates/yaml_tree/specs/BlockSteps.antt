@@ -6,7 +6,7 @@ use Rattle.yaml_tree.specs.Characters.{is_colon}
 use Rattle.yaml_tree.specs.Scalars.{added, with_text}
 use Rattle.yaml_tree.specs.Repeats.{Turn, More, Last, Repeats}
 use Rattle.yaml_tree.specs.Flow.{Outcome, Reading, entry, map_made}
-use Rattle.yaml_tree.specs.Blocks.{BlockReading, EntryTurn, NextEntry, entry_in, ended, may_be_key}
+use Rattle.yaml_tree.specs.Blocks.{BlockReading, EntryTurn, NextEntry, entry_in, ended, may_be_block_key}
 use Rattle.yaml_tree.specs.Known.{Knows}
 use Rattle.yaml_tree.specs.declared.keys.Keys.{Keys}
 use Rattle.yaml_tree.specs.declared.opening.Opening.{Opening}
@@ -24,7 +24,7 @@ Enters false found elsewhere to = (found ≡ None) × (to ≡ elsewhere)
 
 -- a form that began on this line may be a key, and its `:` follows
 abbrev pub is_key_here : Opening → (line : ℕ) → (to : Rest) → Bool
-is_key_here opening line to = may_be_key opening (line == to.line) && is_colon (skip_blanks to).here
+is_key_here opening line to = may_be_block_key opening (line == to.line) && is_colon (skip_blanks to).here
 
 -- ---- plain scalars over lines
 

@@ -80,14 +80,14 @@ abbrev pub item_then : Tree → Rest → Option Rest → Turn Tree Rest
 item_then item left (Some next) = More item next
 item_then item left None = Last (item ∷ []) left
 
-abbrev pub item_turn : (indent : ℕ) → Outcome → Turn Tree Rest
-item_turn indent (Ok x) = item_then x.0 x.1 (item_in indent x.1 x.1.below)
-item_turn indent (Err e) = Refused e
+abbrev pub block_item_turn : (indent : ℕ) → Outcome → Turn Tree Rest
+block_item_turn indent (Ok x) = item_then x.0 x.1 (item_in indent x.1 x.1.below)
+block_item_turn indent (Err e) = Refused e
 
 -- from the `-` of an item on
 abbrev pub ItemTurn : BlockReading → (levels indent : ℕ) → List Tree → Rest → Turn Tree Rest → Type 0
 ItemTurn Node levels indent before from turn =
-    (item : Outcome) × Item Node levels indent (on 1 from) item × (turn ≡ item_turn indent item)
+    (item : Outcome) × Item Node levels indent (on 1 from) item × (turn ≡ block_item_turn indent item)
 
 -- a list whose first `-` stands at a point, with the indent of that point
 abbrev pub BlockList : BlockReading → (levels : ℕ) → Reading
@@ -142,15 +142,15 @@ BlockMap Node levels from key behind outcome =
 -- ---- nodes
 
 -- a form that may be a key: a scalar, or a flow list in one line
-abbrev pub may_be_key : Opening → (one_line : Bool) → Bool
-may_be_key Plain one_line = true
-may_be_key (Quoted single inside) one_line = true
-may_be_key FlowList one_line = one_line
-may_be_key opening one_line = false
+abbrev pub may_be_block_key : Opening → (one_line : Bool) → Bool
+may_be_block_key Plain one_line = true
+may_be_block_key (Quoted single inside) one_line = true
+may_be_block_key FlowList one_line = one_line
+may_be_block_key opening one_line = false
 
 -- a key was read from the first point up to the second, and its `:` follows
-abbrev pub is_keyed : (from to : Rest) → Bool
-is_keyed from to = may_be_key (opening false true from) (from.line == to.line) && is_colon (skip_blanks to).here
+abbrev pub is_block_key : (from to : Rest) → Bool
+is_block_key from to = may_be_block_key (opening false true from) (from.line == to.line) && is_colon (skip_blanks to).here
 
 -- As a key a form stands one level deeper.
 abbrev pub FirstKey : BlockReading → (levels : ℕ) (from : Rest) (key : Tree) (to : Rest) → Option Place → Outcome → Type 0
@@ -160,7 +160,7 @@ FirstKey Node levels from key to None outcome = BlockMap Node levels from key (o
 -- A form was begun where a node may begin: it is the first key of a map, or the node.
 abbrev pub AfterForm : BlockReading → (levels least : ℕ) (from : Rest) → Outcome → Outcome → Type 0
 AfterForm Node levels least from (Err e) outcome = outcome ≡ Err e
-AfterForm Node levels least from (Ok x) outcome = MatchBool (is_keyed from x.1)
+AfterForm Node levels least from (Ok x) outcome = MatchBool (is_block_key from x.1)
     (FirstKey Node levels from x.0 x.1 (deep_place x.0 levels) outcome)
     (outcome ≡ whole_form (opening false true from) least from (Ok x))
 

@@ -1,7 +1,7 @@
 -- Which characters begin and end what, within one line.
 use Rattle.std.specs.Prelude.{ℕ, Bool, true, false, not, ◌&&◌, ◌||◌, ◌==◌, if◌then◌else◌, List, [], ◌∷◌, drop}
 use Rattle.std.specs.List.{prefix_len}
-use Rattle.yaml_scan.specs.Bytes.{is_blank}
+use Rattle.dp_base.specs.Bytes.{is_blank}
 use Rattle.yaml_scan.specs.Faults.{is_filled}
 
 abbrev pub begins : ℕ → List ℕ → Bool

@@ -3,7 +3,7 @@ use Rattle.std.specs.Prelude.{ℕ, ◌+◌, Bool, ◌&&◌, ◌||◌, ◌==◌, 
 use Rattle.std.specs.List.{prefix_len}
 use Rattle.std.specs.Str.{bytes_eq}
 use Rattle.dp_base.specs.declared.place.Place.{Place}
-use Rattle.yaml_scan.specs.Bytes.{is_blank}
+use Rattle.dp_base.specs.Bytes.{is_blank}
 use Rattle.yaml_scan.specs.Faults.{is_filled}
 use Rattle.yaml_tree.specs.Rest.{Row, Rest, place, skip_blanks, front}
 use Rattle.yaml_tree.specs.Characters.{begins, is_clear}

@@ -1,7 +1,7 @@
 -- What begins at a point where a node or a key must begin, and how it is refused there.
 use Rattle.std.specs.Prelude.{ℕ, Bool, ◌&&◌, ◌||◌, ◌==◌, if◌then◌else◌, List, [], ◌∷◌, length, Option, None, Some}
 use Rattle.dp_base.specs.declared.place.Place.{Place}
-use Rattle.yaml_scan.specs.Bytes.{is_blank}
+use Rattle.dp_base.specs.Bytes.{is_blank}
 use Rattle.yaml_tree.specs.Rest.{Rest}
 use Rattle.yaml_tree.specs.Characters.{begins_plain}
 use Rattle.yaml_tree.specs.Scalars.{inner_of}

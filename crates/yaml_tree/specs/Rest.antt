@@ -3,7 +3,7 @@ use Rattle.std.specs.Prelude.{◌≡◌, ◌≤◌, ℕ, ◌+◌, ◌-◌, Bool,
 use Rattle.std.specs.Coded.{Coded, code_by, coded×, coded_ℕ, coded_bool, coded_list}
 use Rattle.std.specs.List.{All, prefix_len}
 use Rattle.dp_base.specs.declared.place.Place.{Place}
-use Rattle.yaml_scan.specs.Bytes.{is_blank}
+use Rattle.dp_base.specs.Bytes.{is_blank}
 use Rattle.yaml_scan.specs.declared.line.Line.{Line}
 
 -- A line: its number, how many spaces lead it, what stands in it from there on without the blanks at its end, and

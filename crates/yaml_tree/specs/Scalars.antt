@@ -1,7 +1,7 @@
 -- Scalars: the plain ones, which may go on over lines, and the quoted ones.
 use Rattle.std.specs.Prelude.{ℕ, suc, ◌+◌, ◌-◌, Bool, false, not, ◌&&◌, ◌||◌, ◌==◌, if◌then◌else◌, nat_lt, List, [], ◌∷◌, ◌++◌, length, take, drop, replicate, Option, None, Some, option_map, Result, Ok, Err}
 use Rattle.std.specs.List.{suffix_len}
-use Rattle.yaml_scan.specs.Bytes.{is_blank}
+use Rattle.dp_base.specs.Bytes.{is_blank}
 use Rattle.yaml_tree.specs.Rest.{Row, Rest, place, on, front}
 use Rattle.yaml_tree.specs.Characters.{ends_scalar, is_flow_mark}
 use Rattle.yaml_tree.specs.Lines.{is_empty, has_content, is_marker, marker_end}

@@ -1,3 +1,5 @@
+//! Nodes in block style.
+
 ghost use Rattle.std.specs.Prelude.{◌≡◌, IfOk, IfErr, Ok, Err};
 ghost use Rattle.yaml_tree.specs.Blocks.{BlockNode};
 ghost use Rattle.yaml_tree.specs.Results.{MemoryOr};

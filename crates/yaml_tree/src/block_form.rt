@@ -4,21 +4,21 @@ ghost use Rattle.std.specs.Prelude.{◌≡◌, IsTrue, IfOk, IfErr, Ok, Err};
 ghost use Rattle.yaml_tree.specs.Rest.{on, skip_blanks};
 ghost use Rattle.yaml_tree.specs.Characters.{is_colon};
 ghost use Rattle.yaml_tree.specs.Lines.{end_line};
-ghost use Rattle.yaml_tree.specs.Blocks.{settled, may_be_key, LineValue};
+ghost use Rattle.yaml_tree.specs.Blocks.{settled, may_be_block_key, LineValue};
 ghost use Rattle.yaml_tree.specs.BlockSteps.{is_key_here, continued, whole_from};
 ghost use Rattle.yaml_tree.specs.Results.{MemoryOr};
 
 use crate::flow::form;
 use crate::opening::{Opening, what_begins};
 use crate::plain::go_on;
-use crate::points::{end_line, is_colon, leading_blanks, skip_blanks};
+use crate::points::{end_line, is_colon, skip_blanks};
 use crate::reader::Reader;
 use crate::tree::{Tree, YamlEnd};
-use dp_base::Text;
+use dp_base::{Text, leading_blanks};
 use std::alloc::Global;
 
-fn may_be_key(opening: Opening, one_line: bool) -> bool
-    ensures { result ≡ may_be_key opening one_line }
+fn may_be_block_key(opening: Opening, one_line: bool) -> bool
+    ensures { result ≡ may_be_block_key opening one_line }
 {
     match opening {
         Opening::Plain | Opening::Quoted(_, _) => true,
@@ -48,7 +48,7 @@ pub(crate) fn pass_colon(reader: &mut Reader<'_>)
 pub(crate) fn is_key_here(reader: &Reader<'_>, opening: Opening, line: u32) -> bool
     ensures { result ≡ is_key_here opening line reader.now }
 {
-    may_be_key(opening, line == reader.place().line) && colon_follows(reader)
+    may_be_block_key(opening, line == reader.place().line) && colon_follows(reader)
 }
 
 /// The whole of a plain scalar of which the first line was read.

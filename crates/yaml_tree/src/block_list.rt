@@ -1,3 +1,5 @@
+//! Lists in block style.
+
 ghost use Rattle.std.specs.Prelude.{◌≡◌, ◌+◌, ◌<◌, ◌^◌, IsTrue, IfOk, IfErr, Ok, Err};
 ghost use Rattle.yaml_tree.specs.Characters.{is_item};
 ghost use Rattle.yaml_tree.specs.Blocks.{BlockNode, BlockList, Item, item_in};

@@ -1,3 +1,5 @@
+//! Maps in block style.
+
 ghost use Rattle.std.specs.Prelude.{◌≡◌, ◌+◌, ◌<◌, ◌^◌, IfOk, IfErr, IfSome, Ok, Err};
 ghost use Rattle.yaml_tree.specs.Blocks.{BlockNode, Value, entry_in};
 ghost use Rattle.yaml_tree.specs.BlockSteps.{Enters, key_turn, AfterEntry, AddsKey, MapFrom};

@@ -1,3 +1,5 @@
+//! What holds of all texts.
+
 ghost use Rattle.std.specs.Prelude.{◌≡◌, ◌⊎◌, ℕ, List};
 ghost use Rattle.yaml_tree.specs.Texts.{Spells, Refused};
 ghost use Rattle.yaml_tree.specs.declared.tree.Tree.{Tree};

@@ -23,6 +23,3 @@ mod turns;
 pub use laws::{one_reading, some_reading};
 pub use text::read;
 pub use tree::{Feature, Pair, Tree, YamlEnd};
-
-#[cfg(test)]
-mod tests;

@@ -1,8 +1,10 @@
+//! Lines that are not entered yet.
+
 ghost use Rattle.std.specs.Prelude.{◌≡◌, ◌+◌};
 ghost use Rattle.yaml_tree.specs.Rest.{IsSpan, row_of};
 ghost use Rattle.yaml_tree.specs.Texts.{place_in};
 
-use dp_base::Place;
+use dp_base::{Place, is_blank};
 use std::marker::Model;
 use yaml_scan::Line;
 
@@ -39,7 +41,7 @@ impl<'a> LineBelow<'a> {
             number: line.number,
             indent: line.indent,
             text: &bytes[line.start as usize..end],
-            ragged: end < bytes.len() && (bytes[end] == b' ' || bytes[end] == b'\t'),
+            ragged: end < bytes.len() && is_blank(bytes[end]),
         }
     }
 

@@ -1,12 +1,13 @@
+//! What begins at a point.
+
 ghost use Rattle.std.specs.Prelude.{◌≡◌};
 ghost use Rattle.yaml_tree.specs.Openings.{before_blank, opening, deep_end};
 
 use crate::plain::begins_plain;
-use crate::points::is_blank;
 use crate::quoted::inside;
 use crate::reader::Reader;
 use crate::tree::{Feature, YamlEnd};
-use dp_base::Place;
+use dp_base::{Place, is_blank};
 
 /// What begins at a point where a node or a key must begin.
 #[derive(Clone, Copy)]

@@ -1,3 +1,5 @@
+//! Plain scalars, over lines.
+
 ghost use Rattle.std.specs.Prelude.{◌≡◌, ℕ, ◌≤◌, ◌<◌, ◌++◌, [], length, take, replicate, string_bytes, IsCharBoundary, IfOk, IfErr, OnOk, MatchBool, Ok, Err};
 ghost use Rattle.std.specs.List.{prefix_len};
 ghost use Rattle.yaml_tree.specs.Rest.{on};
@@ -7,10 +9,10 @@ ghost use Rattle.yaml_tree.specs.Scalars.{break_text, goes_on, with_text, added,
 ghost use Rattle.yaml_tree.specs.Results.{MemoryOr};
 
 use crate::line_below::LineBelow;
-use crate::points::{has_content, is_blank, is_marker, marker_end};
+use crate::points::{has_content, is_marker, marker_end};
 use crate::reader::Reader;
 use crate::tree::{Tree, YamlEnd};
-use dp_base::Text;
+use dp_base::{Text, is_blank};
 use part::part_length;
 use std::alloc::{AllocError, Global};
 

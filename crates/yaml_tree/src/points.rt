@@ -1,6 +1,6 @@
-ghost use Rattle.std.specs.Prelude.{◌≡◌, ◌≤◌, length, IsCharBoundary, MatchResult, Ok, Err};
-ghost use Rattle.std.specs.List.{prefix_len};
-ghost use Rattle.yaml_scan.specs.Bytes.{is_blank};
+//! The points where reading goes on: behind blanks, at the next line with content, and in a flow form.
+
+ghost use Rattle.std.specs.Prelude.{◌≡◌, MatchResult, Ok, Err};
 ghost use Rattle.yaml_tree.specs.Rest.{skip_blanks};
 ghost use Rattle.yaml_tree.specs.Characters.{begins, is_clear, is_item, is_colon};
 ghost use Rattle.yaml_tree.specs.Lines.{has_content, from_content, is_marker, marker_end, flow_point, settle, end_line};
@@ -8,24 +8,7 @@ ghost use Rattle.yaml_tree.specs.Lines.{has_content, from_content, is_marker, ma
 use crate::line_below::LineBelow;
 use crate::reader::Reader;
 use crate::tree::{Feature, YamlEnd};
-use dp_base::Place;
-
-pub(crate) fn is_blank(byte: u8) -> bool
-    ensures { result ≡ is_blank byte }
-{
-    byte == b' ' || byte == b'\t'
-}
-
-/// How many blanks lead some bytes.
-pub(crate) fn leading_blanks(bytes: &[u8]) -> usize
-    ensures { result ≡ prefix_len is_blank bytes.now }
-{
-    let mut count = 0;
-    while count < bytes.len() && is_blank(bytes[count]) {
-        count += 1;
-    }
-    count
-}
+use dp_base::{Place, is_blank, leading_blanks};
 
 pub(crate) fn begins(byte: u8, bytes: &[u8]) -> bool
     ensures { result ≡ begins byte bytes.now }

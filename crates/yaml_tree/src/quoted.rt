@@ -1,3 +1,5 @@
+//! Quoted scalars.
+
 ghost use Rattle.std.specs.Prelude.{◌≡◌, ℕ, Bool, List, length, option_map, IfOk, IfErr, Ok, Err, Some};
 ghost use Rattle.yaml_tree.specs.Scalars.{inner_of, quoted};
 ghost use Rattle.yaml_tree.specs.Openings.{opening};

@@ -1,3 +1,5 @@
+//! A point in a text, and how it moves.
+
 ghost use Rattle.std.specs.Prelude.{◌≡◌, ◌≤◌, ◌<◌, ◌+◌, ℕ, false, List, [], ◌∷◌, length, take, drop, slice_get, IsCharBoundary, All, Some};
 ghost use Rattle.std.specs.Str.{IsUtf8};
 ghost use Rattle.yaml_tree.specs.Rest.{Row, IsSpan, rest_of, place, on, front};

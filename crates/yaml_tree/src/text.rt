@@ -1,3 +1,5 @@
+//! Whole texts.
+
 ghost use Rattle.std.specs.Prelude.{◌≡◌, ◌≤◌, ℕ, List, length, map, None, Some, Ok, Err, All, IfOk, IfErr, MatchResult};
 ghost use Rattle.yaml_scan.specs.Faults.{bad_byte};
 ghost use Rattle.yaml_scan.specs.Lines.{lines_of};

@@ -1,3 +1,5 @@
+//! Trees, their entries, and why a text has none.
+
 ghost use Rattle.std.specs.Prelude.{◌≡◌, option_map};
 ghost use Rattle.yaml_tree.specs.Fields.{value_in};
 ghost use Rattle.yaml_tree.specs.declared.tree.YamlEnd.TheVariants.{Memory};

@@ -1,10 +1,11 @@
-ghost use Rattle.std.specs.Prelude.{◌≡◌, ◌+◌, ◌*◌, ◌≤◌, ◌<◌, ◌^◌, ℕ, ℤ, length, true, false, None, Option, All, OnOk, IfOk, IfSome, vec_len};
+ghost use Rattle.std.specs.Prelude.{◌≡◌, ◌+◌, ◌*◌, ◌≤◌, ◌<◌, ◌^◌, ℕ, ℤ, length, Err, None, Some, Option, All, OnOk, IfOk, IfSome, vec_len};
 ghost use Rattle.dp_steps.specs.States.{Inner};
 ghost use Rattle.dp_model.specs.declared.parts.PlainState.{PlainState};
 ghost use Rattle.dp_model.specs.declared.whole.Model.{Model};
 ghost use Rattle.solve_top.specs.Plain.{IsPlain};
 ghost use Rattle.solve_top.specs.Search.{IsNode, Covers, HoldsAtMost, IsSolved, IsVisited, IsComplete, IsExhaustive};
 
+use crate::search::halts::Halt;
 use crate::search::nodes::Node;
 use crate::search::states::target_numbers;
 use crate::search::visits::visit;
@@ -35,8 +36,8 @@ fn keep_best(layer: &mut Vec<Node>, share: u64) -> Result<u64, AllocError>
     Ok((before - layer.len()) as u64)
 }
 
-/// Visits the nodes of a layer in order, and answers the next layer. `None` says that the visits reached the
-/// budget before a node was visited.
+/// Visits the nodes of a layer in order, and answers the next layer. A halt for `Budget` says that the visits
+/// reached the budget before a node was visited.
 fn visit_layer(
     alloc: Global,
     model: &Model,
@@ -44,31 +45,31 @@ fn visit_layer(
     depth: usize,
     budget: u64,
     tally: &mut Tally,
-) -> Result<Option<Vec<Node>>, AllocError>
+) -> Result<Vec<Node>, Halt>
     requires plain { IsPlain model.now }
     requires nodes { All (IsNode model.now depth) layer.now }
     requires shallow { depth ≤ 1000000000 }
     requires budget { tally.old.visited ≤ budget }
     requires solved { IsSolved model.now tally.old.best }
-    ensures budget { OnOk result (tally.new.visited ≤ budget) }
-    ensures dropped { OnOk result (tally.new.dropped ≡ tally.old.dropped) }
-    ensures solved { OnOk result (IsSolved model.now tally.new.best) }
-    ensures halted { IfOk result (λ next. next ≡ None → tally.new.visited ≡ budget) }
-    ensures visited { IfOk result (λ next. IfSome next (λ _. tally.new.visited ≡ tally.old.visited + length layer.now)) }
-    ensures few { IfOk result (λ next. IfSome next (λ nodes. vec_len nodes ≤ 65536 * length layer.now)) }
-    ensures nodes { IfOk result (λ next. IfSome next (λ nodes. All (IsNode model.now (depth + 1)) nodes.items)) }
-    ensures expanded { IfOk result (λ next. IfSome next (λ nodes. All (λ n. IsVisited model.now n nodes.items tally.new.best) layer.now)) }
+    ensures budget { tally.new.visited ≤ budget }
+    ensures dropped { tally.new.dropped ≡ tally.old.dropped }
+    ensures solved { IsSolved model.now tally.new.best }
+    ensures spent { result ≡ Err Halt.Budget → tally.new.visited ≡ budget }
+    ensures visited { OnOk result (tally.new.visited ≡ tally.old.visited + length layer.now) }
+    ensures few { IfOk result (λ nodes. vec_len nodes ≤ 65536 * length layer.now) }
+    ensures nodes { IfOk result (λ nodes. All (IsNode model.now (depth + 1)) nodes.items) }
+    ensures expanded { IfOk result (λ nodes. All (λ n. IsVisited model.now n nodes.items tally.new.best) layer.now) }
     ensures no_worse { OnOk result ((most : ℤ) → HoldsAtMost tally.old.best most → HoldsAtMost tally.new.best most) }
 {
     let mut next = Vec::new(alloc);
     for node in layer {
         if tally.visited == budget {
-            return Ok(None);
+            return Err(Halt::Budget);
         }
         tally.visited += 1;
         visit(alloc, model, node, &mut next, &mut tally.best)?;
     }
-    Ok(Some(next))
+    Ok(next)
 }
 
 /// The node of the target, which starts a pass.
@@ -89,53 +90,62 @@ fn start(alloc: Global, model: &Model) -> Result<Vec<Node>, AllocError>
     Ok(layer)
 }
 
-/// What a pass came to. `halted` says that the visits reached the budget before the pass was over.
-#[derive(Debug, Drop)]
-pub struct PassEnd {
-    pub tally: Tally,
-    pub halted: bool,
-}
-
-/// Makes one pass, with at most `share` nodes of each layer and at most `budget` visits.
-pub fn run_pass(
+/// Visits layer after layer, until one has no node.
+fn visit_layers(
     alloc: Global,
     model: &Model,
     share: u64,
     budget: u64,
-) -> Result<PassEnd, AllocError>
+    tally: &mut Tally,
+) -> Result<(), Halt>
     requires plain { IsPlain model.now }
     requires inner { Inner model.now model.now.target }
     requires share { 0 < share }
     requires budget { budget ≤ 1000000000 }
-    ensures budget { IfOk result (λ end. end.tally.visited ≤ budget) }
-    ensures halted { IfOk result (λ end. end.halted ≡ true → end.tally.visited ≡ budget) }
-    ensures visited { IfOk result (λ end. end.halted ≡ false → 0 < end.tally.visited) }
-    ensures share { IfOk result (λ end. 0 < end.tally.dropped → share < 2 ^ 50) }
-    ensures solved { IfOk result (λ end. IsSolved model.now end.tally.best) }
-    ensures exhaustive { IfOk result (λ end. end.halted ≡ false → end.tally.dropped ≡ 0 → IsExhaustive model.now end.tally.best) }
+    requires fresh { tally.old ≡ record { visited = 0; dropped = 0; best = None } }
+    ensures budget { tally.new.visited ≤ budget }
+    ensures spent { result ≡ Err Halt.Budget → tally.new.visited ≡ budget }
+    ensures visited { OnOk result (0 < tally.new.visited) }
+    ensures share { OnOk result (0 < tally.new.dropped → share < 2 ^ 50) }
+    ensures solved { IsSolved model.now tally.new.best }
+    ensures exhaustive { OnOk result (tally.new.dropped ≡ 0 → IsExhaustive model.now tally.new.best) }
 {
     let mut layer = start(alloc, model)?;
     let mut depth = 0;
+    'layers: while !layer.is_empty() {
+        tally.dropped += keep_best(&mut layer, share)?;
+        layer = visit_layer(alloc, model, &layer, depth, budget, tally)?;
+        depth += 1;
+    }
+    Ok(())
+}
+
+/// What a pass came to, and why it was halted, if it was not over.
+#[derive(Debug, Drop)]
+pub struct PassEnd {
+    pub tally: Tally,
+    pub halt: Option<Halt>,
+}
+
+/// Makes one pass, with at most `share` nodes of each layer and at most `budget` visits. What a halted pass did is
+/// told too.
+pub fn run_pass(alloc: Global, model: &Model, share: u64, budget: u64) -> PassEnd
+    requires plain { IsPlain model.now }
+    requires inner { Inner model.now model.now.target }
+    requires share { 0 < share }
+    requires budget { budget ≤ 1000000000 }
+    ensures budget { result.tally.visited ≤ budget }
+    ensures spent { result.halt ≡ Some Halt.Budget → result.tally.visited ≡ budget }
+    ensures visited { result.halt ≡ None → 0 < result.tally.visited }
+    ensures share { result.halt ≡ None → 0 < result.tally.dropped → share < 2 ^ 50 }
+    ensures solved { IsSolved model.now result.tally.best }
+    ensures exhaustive { result.halt ≡ None → result.tally.dropped ≡ 0 → IsExhaustive model.now result.tally.best }
+{
     let mut tally = Tally {
         visited: 0,
         dropped: 0,
         best: None,
     };
-    'layers: while !layer.is_empty() {
-        tally.dropped += keep_best(&mut layer, share)?;
-        match visit_layer(alloc, model, &layer, depth, budget, &mut tally)? {
-            Some(next) => layer = next,
-            None => {
-                return Ok(PassEnd {
-                    tally,
-                    halted: true,
-                });
-            }
-        }
-        depth += 1;
-    }
-    Ok(PassEnd {
-        tally,
-        halted: false,
-    })
+    let halt = visit_layers(alloc, model, share, budget, &mut tally).err();
+    PassEnd { tally, halt }
 }

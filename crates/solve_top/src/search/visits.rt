@@ -26,7 +26,7 @@ fn expand(
     requires nodes { All (IsNode model.now (length node.now.steps.items + 1)) next.old.items }
     requires solved { IsSolved model.now best.old }
     ensures nodes { OnOk result (All (IsNode model.now (length node.now.steps.items + 1)) next.new.items) }
-    ensures solved { OnOk result (IsSolved model.now best.new) }
+    ensures solved { IsSolved model.now best.new }
     ensures few { OnOk result (vec_len next.new ≤ vec_len next.old + 1) }
     ensures expanded { OnOk result (Expanded model.now (node_state node.now) node.now.cost number next.new.items best.new) }
     ensures covers { OnOk result ((s : PlainState) (cost : Option ℤ) → Covers next.old.items s cost → Covers next.new.items s cost) }
@@ -68,7 +68,7 @@ pub fn visit(
     requires nodes { All (IsNode model.now (length node.now.steps.items + 1)) next.old.items }
     requires solved { IsSolved model.now best.old }
     ensures nodes { OnOk result (All (IsNode model.now (length node.now.steps.items + 1)) next.new.items) }
-    ensures solved { OnOk result (IsSolved model.now best.new) }
+    ensures solved { IsSolved model.now best.new }
     ensures few { OnOk result (vec_len next.new ≤ vec_len next.old + 65536) }
     ensures expanded { OnOk result (IsVisited model.now node.now next.new.items best.new) }
     ensures covers { OnOk result ((s : PlainState) (cost : Option ℤ) → Covers next.old.items s cost → Covers next.new.items s cost) }

@@ -2,6 +2,7 @@
 use Rattle.std.proofs.Common.{◌≡◌, ◌-◌, ◌∙◌, ◌++◌, ◌∷◌, [], true, false, List, Ok, Err, is_ok, ap, sym, subst, arith}
 use Rattle.std.proofs.ResultArms.{chosen}
 use Rattle.std.proofs.lemmas.Result.{IfOk-weaker, IfErr-weaker, err_from_is_err_and}
+use Rattle.dp_base.proofs.Memory.{memory_or}
 use Rattle.dp_base.specs.declared.place.Place.{Place}
 use Rattle.yaml_tree.specs.Rest.{Rest}
 use Rattle.yaml_tree.specs.Characters.{is_item}
@@ -11,7 +12,7 @@ use Rattle.yaml_tree.specs.BlockSteps.{MapFrom}
 use Rattle.yaml_tree.specs.declared.tree.Tree.{Tree}
 use Rattle.yaml_tree.specs.declared.tree.Tree.TheVariants as trees
 use Rattle.yaml_tree.specs.declared.tree.Pair.{Pair}
-use Rattle.yaml_tree.proofs.BlockForms.{memory_or}
+use Rattle.yaml_tree.specs.Results.{is_memory}
 use Rattle.yaml_tree.proofs.BlockNodes.{node_list, node_refused, node_whole, node_deep, node_map}
 use Rattle.yaml_tree.proofs.BlockTurns.{ListSoFar, item-more, list_more, list_last, list_refused, MapSoFar, map_turn-more, map_more, map_last, map_key_refused, map_value_refused}
 use Rattle.yaml_tree.proofs.Sizes.{item_turn-more, entry_turn-more}
@@ -30,14 +31,14 @@ pub block::node-returns-then-is_item-clause-refused : goal.block::node-returns-t
 block::node-returns-then-is_item-clause-refused t c =
     let item : is_item c.args.reader.now.here ≡ true = sym (c.if-is_item.ensures ∙ ap is_item c.here.ensures.value) in
     IfErr-weaker c.list.result _ _
-    (λ e is. memory_or _ _ (λ f was. node_list c.args.levels c.args.least c.args.reader.now (Err f) (omega (arith, c.if-levels-eq0.false)) item was) e is)
+    (λ e is. memory_or is_memory _ _ (λ f was. node_list c.args.levels c.args.least c.args.reader.now (Err f) (omega (arith, c.if-levels-eq0.false)) item was) e is)
     c.list.ensures.refused
 
 pub block::node-returns-in_err-begun-clause-refused : goal.block::node-returns-in_err-begun-clause-refused
 block::node-returns-in_err-begun-clause-refused t c =
     let no_item : is_item c.args.reader.now.here ≡ false = sym (c.if-is_item.ensures ∙ ap is_item c.here.ensures.value) in
     let p = err_from_is_err_and c.from_residual.result c.from_residual.ensures.1 in
-    rw (p.1, p.2) (memory_or _ _ (λ e is. node_refused c.args.least c.args.reader.now no_item c.args.levels e is) _ c.in_err-begun.ensures.refused)
+    rw (p.1, p.2) (memory_or is_memory _ _ (λ e is. node_refused c.args.least c.args.reader.now no_item c.args.levels e is) _ c.in_err-begun.ensures.refused)
 
 pub block::node-returns-then-not-is_key_here-clause-read : goal.block::node-returns-then-not-is_key_here-clause-read
 block::node-returns-then-not-is_key_here-clause-read t c =
@@ -53,7 +54,7 @@ block::node-returns-then-not-is_key_here-clause-refused t c =
     let no_item : is_item c.args.reader.now.here ≡ false = sym (c.if-is_item.ensures ∙ ap is_item c.here.ensures.value) in
     let line = ap (λ (p : Place). p.line) c.place-at.ensures in
     IfErr-weaker c.whole_form.result _ _
-    (λ e is. memory_or _ _ (λ f was. node_whole c.args.least c.args.reader.now no_item c.args.levels c.what_begins-opening.result c.place-at.result.line (c.in_ok-begun.begun, c.form.new.reader)
+    (λ e is. memory_or is_memory _ _ (λ f was. node_whole c.args.least c.args.reader.now no_item c.args.levels c.what_begins-opening.result c.place-at.result.line (c.in_ok-begun.begun, c.form.new.reader)
     c.what_begins-opening.ensures line c.in_ok-begun.ensures.read (Err f) c.if-not-is_key_here.ensures was) e is)
     c.whole_form.ensures.refused
 
@@ -79,7 +80,7 @@ block::node-returns-clause-refused t c =
     let no_item : is_item c.args.reader.now.here ≡ false = sym (c.if-is_item.ensures ∙ ap is_item c.here.ensures.value) in
     let line = ap (λ (p : Place). p.line) c.place-at.ensures in
     IfErr-weaker c.map.result _ _
-    (λ e is. memory_or _ _ (λ f was. node_map c.args.least c.args.reader.now no_item c.args.levels c.what_begins-opening.result c.place-at.result.line (c.in_ok-begun.begun, c.form.new.reader)
+    (λ e is. memory_or is_memory _ _ (λ f was. node_map c.args.least c.args.reader.now no_item c.args.levels c.what_begins-opening.result c.place-at.result.line (c.in_ok-begun.begun, c.form.new.reader)
     c.what_begins-opening.ensures line c.in_ok-begun.ensures.read c.place-at.result (Err f) c.place-at.ensures c.if-not-is_key_here.ensures (sym c.in_default.ensures)
     (subst (λ (r : Rest). MapFrom (BlockNode (c.args.levels - 1)) (c.args.levels - 1) c.place-at.result c.in_ok-begun.begun r (Err f)) c.pass_colon.ensures was)) e is)
     c.map.ensures.refused
@@ -91,7 +92,7 @@ block_list::list-returns-in_err-item-clause-refused t c =
     let N = BlockNode c.args.levels in
     let k = c.loop-items in
     let p = err_from_is_err_and c.from_residual.result c.from_residual.ensures.1 in
-    rw (p.1, p.2) (memory_or _ _
+    rw (p.1, p.2) (memory_or is_memory _ _
     (λ e is. list_refused N c.args.levels c.args.reader.now c.place-at.result c.saturating_sub-indent.result k.items.items k.reader
     c.place-at.ensures c.saturating_sub-indent.ensures k.invariant e
     (subst (λ (r : Rest). Item N c.args.levels c.saturating_sub-indent.result r (Err e)) c.advance.ensures is))
@@ -132,7 +133,7 @@ pub block_map::map-returns-in_err-value-clause-refused : goal.block_map::map-ret
 block_map::map-returns-in_err-value-clause-refused t c =
     let k = c.loop-entries in
     let p = err_from_is_err_and c.from_residual-in_err-value.result c.from_residual-in_err-value.ensures.1 in
-    rw (p.1, p.2) (memory_or _ _
+    rw (p.1, p.2) (memory_or is_memory _ _
     (λ e is. map_value_refused (BlockNode c.args.levels) c.args.levels c.saturating_sub-indent.result c.args.first c.args.reader.now k.entries.items k.key k.reader k.keys k.invariant
     c.args.at e c.saturating_sub-indent.ensures is)
     _ c.in_err-value.ensures.refused)
@@ -141,7 +142,7 @@ pub block_map::map-returns-in_err-next-clause-refused : goal.block_map::map-retu
 block_map::map-returns-in_err-next-clause-refused t c =
     let k = c.loop-entries in
     let p = err_from_is_err_and c.from_residual-in_err-next.result c.from_residual-in_err-next.ensures.1 in
-    rw (p.1, p.2) (memory_or _ _
+    rw (p.1, p.2) (memory_or is_memory _ _
     (λ e is. map_key_refused (BlockNode c.args.levels) c.args.levels c.saturating_sub-indent.result c.args.first c.args.reader.now k.entries.items k.key k.reader k.keys k.invariant
     c.in_ok-value.value c.value.new.reader c.in_ok-value.ensures.read c.args.at e c.saturating_sub-indent.ensures is)
     _ c.in_err-next.ensures.refused)

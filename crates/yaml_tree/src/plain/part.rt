@@ -1,8 +1,10 @@
+//! What one line has of a plain scalar.
+
 ghost use Rattle.std.specs.Prelude.{◌≡◌, ◌≤◌, ◌<◌, false, length, take, slice_index, IsCharBoundary};
 ghost use Rattle.yaml_tree.specs.Scalars.{ends_before, run_of, part_of};
 
 use super::{ends_scalar, is_flow_mark};
-use crate::points::is_blank;
+use dp_base::is_blank;
 
 /// Whether a plain scalar ends before a byte of its line. `behind_blank` says what stands before that byte, and
 /// `bytes` stand behind it.

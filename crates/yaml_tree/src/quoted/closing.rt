@@ -1,3 +1,5 @@
+//! Where quotes close.
+
 ghost use Rattle.std.specs.Prelude.{◌≡◌, length, option_map};
 ghost use Rattle.yaml_tree.specs.Scalars.{single_quoted, double_quoted};
 

@@ -1,3 +1,5 @@
+//! What stands between quotes.
+
 ghost use Rattle.std.specs.Prelude.{◌≡◌, ◌++◌, ◌∷◌, [], slice_get, string_bytes, option_and_then, IfOk, MatchResult, Ok, Err, Some};
 ghost use Rattle.yaml_tree.specs.Scalars.{single_quoted, single_text, escaped, double_text};
 

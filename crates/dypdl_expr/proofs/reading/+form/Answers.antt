@@ -1,11 +1,13 @@
 use Rattle.std.proofs.Common.{is_ok, ap, subst, sym, ◌≡◌, List, length, arith}
 use Rattle.std.proofs.ResultArms.{chosen}
 use Rattle.std.proofs.lemmas.Result.{IfOk-weaker, MatchResult-weaker}
+use Rattle.dp_base.proofs.Memory.{memory_or}
 use Rattle.dypdl_expr.specs.Tokens.{Token}
 use Rattle.dypdl_expr.specs.Grammar.{Begins}
 use Rattle.dypdl_expr.specs.Lexemes.{followed_by}
+use Rattle.dypdl_expr.specs.Refusals.{is_memory}
 use Rattle.dypdl_expr.specs.declared.expr.Expr.{Expr}
-use Rattle.dypdl_expr.proofs.ReadSteps.{RowSoFar, row_more, begins_shortens, word_form, list_form, bars_form, memory_or, word_fails, list_fails, bars_fail}
+use Rattle.dypdl_expr.proofs.ReadSteps.{RowSoFar, row_more, begins_shortens, word_form, list_form, bars_form, word_fails, list_fails, bars_fail}
 use Rattle.dypdl_expr.proofs.reading.+form.Goals as goal
 
 pub form-returns-in-Word-clause-read : goal.form-returns-in-Word-clause-read
@@ -14,7 +16,7 @@ form-returns-in-Word-clause-read t c =
 
 pub form-returns-in-Word-clause-refused : goal.form-returns-in-Word-clause-refused
 form-returns-in-Word-clause-refused t c =
-    rw c.in-Word.is (MatchResult-weaker c.word.result c.word.ensures.refused (λ e is. is) (λ r is. memory_or _ _ (word_fails c.args.outer c.args.levels _ _ _ (omega arith)) r is))
+    rw c.in-Word.is (MatchResult-weaker c.word.result c.word.ensures.refused (λ e is. is) (λ r is. memory_or is_memory _ _ (word_fails c.args.outer c.args.levels _ _ _ (omega arith)) r is))
 
 pub form-returns-in-Open-clause-read : goal.form-returns-in-Open-clause-read
 form-returns-in-Open-clause-read t c =
@@ -22,7 +24,7 @@ form-returns-in-Open-clause-read t c =
 
 pub form-returns-in-Open-clause-refused : goal.form-returns-in-Open-clause-refused
 form-returns-in-Open-clause-refused t c =
-    rw c.in-Open.is (MatchResult-weaker c.list.result c.list.ensures.refused (λ e is. is) (λ r is. memory_or _ _ (list_fails c.args.outer c.args.levels _ _ (omega arith)) r is))
+    rw c.in-Open.is (MatchResult-weaker c.list.result c.list.ensures.refused (λ e is. is) (λ r is. memory_or is_memory _ _ (list_fails c.args.outer c.args.levels _ _ (omega arith)) r is))
 
 pub form-returns-in-Bar-clause-read : goal.form-returns-in-Bar-clause-read
 form-returns-in-Bar-clause-read t c =
@@ -30,7 +32,7 @@ form-returns-in-Bar-clause-read t c =
 
 pub form-returns-in-Bar-clause-refused : goal.form-returns-in-Bar-clause-refused
 form-returns-in-Bar-clause-refused t c =
-    rw c.in-Bar.is (MatchResult-weaker c.bars.result c.bars.ensures.refused (λ e is. is) (λ r is. memory_or _ _ (bars_fail c.args.outer c.args.levels _ _ (omega arith)) r is))
+    rw c.in-Bar.is (MatchResult-weaker c.bars.result c.bars.ensures.refused (λ e is. is) (λ r is. memory_or is_memory _ _ (bars_fail c.args.outer c.args.levels _ _ (omega arith)) r is))
 
 pub row-loop-items-smaller : goal.row-loop-items-smaller
 row-loop-items-smaller t c =

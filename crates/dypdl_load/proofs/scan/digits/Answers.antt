@@ -1,4 +1,4 @@
-use Rattle.dypdl_load.specs.FirstForm.{is_digit}
+use Rattle.dp_base.specs.Bytes.{is_digit}
 use Rattle.dypdl_load.proofs.Front.{front_passes}
 use Rattle.dypdl_load.proofs.scan.digits.Goals as goal
 

@@ -19,7 +19,7 @@ use Rattle.yaml_tree.specs.declared.turns.Step.TheVariants as steps
 use Rattle.yaml_tree.proofs.BasePoints.{IsCharBoundary-behind}
 use Rattle.yaml_tree.proofs.FlowForms.{form_at, map_turn-refused, map_turn-entry, was_new, knows_next}
 use Rattle.yaml_tree.proofs.FlowMarks.{keyed-begins}
-use Rattle.yaml_tree.proofs.FlowTurns.{refused_as, passed_as, refused_now, in_turn-more, ends_empty, ends_with, list_form-read, list_form-refused, list_form-nowhere, map_form-read, map_form-refused, map_form-nowhere}
+use Rattle.yaml_tree.proofs.FlowTurns.{refused_as, passed_as, refused_now, in_turn-more, repeats-refused, ends_empty, ends_with, list_form-read, list_form-refused, list_form-nowhere, map_form-read, map_form-refused, map_form-nowhere}
 use Rattle.yaml_tree.proofs.Sizes.{list_turn-more, map_turn-more}
 use Rattle.yaml_tree.proofs.flow.+form.Goals as goal
 
@@ -124,6 +124,14 @@ entries-loop-entries-preserved t c =
     let known = subst (KnowsNext c.entry.new.keys before) c.in-More.is (c.in_ok-entry.ensures.knows before c.loop-entries.invariant.1) in
     subst (λ (es : List Pair). InTurn (MapTurn (Form true true c.args.levels) (Form true false c.args.levels)) [] c.args.reader.now es c.entry.new.reader × Knows c.entry.new.keys es) (sym pushed)
     (in_turn-more (MapTurn (Form true true c.args.levels) (Form true false c.args.levels)) [] c.args.reader.now before c.in-More.entry c.loop-entries.reader c.entry.new.reader c.loop-entries.invariant.0 one, known)
+
+pub entries-returns-in_err-entry-clause-refused : goal.entries-returns-in_err-entry-clause-refused
+entries-returns-in_err-entry-clause-refused t c =
+    let read = c.loop-entries.entries.items in
+    passed_as (λ e. MapTurn (Form true true c.args.levels) (Form true false c.args.levels) read c.loop-entries.reader (Refused e))
+    (λ e. Repeats (MapTurn (Form true true c.args.levels) (Form true false c.args.levels)) c.args.reader.now (Err e))
+    (λ e is. repeats-refused (MapTurn (Form true true c.args.levels) (Form true false c.args.levels)) c.args.reader.now read c.loop-entries.reader e c.loop-entries.invariant.0 is)
+    c.from_residual.result c.in_err-entry.field-0.0 c.from_residual.ensures.1 (c.in_err-entry.ensures.refused read c.loop-entries.invariant.1)
 
 pub entries-returns-in-Last-None-clause-read : goal.entries-returns-in-Last-None-clause-read
 entries-returns-in-Last-None-clause-read t c =

@@ -3,11 +3,13 @@ use Rattle.std.specs.List.{slice_get}
 use Rattle.std.proofs.lemmas.Bool.{eq-eqb, ne_eqb}
 use Rattle.std.proofs.lemmas.List.{append_assoc}
 use Rattle.std.proofs.lemmas.Option.{slice_get_within}
+use Rattle.dp_base.proofs.Memory.{memory_or-from}
 use Rattle.yaml_tree.specs.Rest.{Rest, on, front}
 use Rattle.yaml_tree.specs.Lines.{is_empty, marker_end}
 use Rattle.yaml_tree.specs.declared.tree.YamlEnd.{YamlEnd}
+use Rattle.yaml_tree.specs.Results.{is_memory}
 use Rattle.yaml_tree.specs.Scalars.{part_of, break_text, with_text, added}
-use Rattle.yaml_tree.proofs.ScalarLines.{AtLine, feeds-count, ends_last, ends_apart, refuses_marked, ends_bare, grows, refused-from}
+use Rattle.yaml_tree.proofs.ScalarLines.{AtLine, feeds-count, ends_last, ends_apart, refuses_marked, ends_bare, grows}
 use Rattle.yaml_tree.proofs.plain.next_line.Goals.{In-Some, After-part_length-count, in_default-via-in-Some+else-goes_on, in_default-via-in_default}
 use Rattle.yaml_tree.proofs.plain.next_line.Goals as goal
 
@@ -32,7 +34,7 @@ pub returns-then-is_marker-clause-refused : goal.returns-then-is_marker-clause-r
 returns-then-is_marker-clause-refused c =
     let marked = refuses_marked c.args.flow c.args.least c.args.reader.now c.len.result c.in-Some.row (at_line (goal.at.returns-then-is_marker-clause-refused c).In-Some) (sym c.goes_on.ensures ∙ c.if-goes_on.true) (sym c.is_marker.ensures ∙ c.if-is_marker.true) in
     let same = c.marker_end.ensures ∙ ap (λ (file : ℕ). marker_end file c.in-Some.row) c.file.ensures in
-    refused-from (λ e. added c.args.flow c.args.least c.args.reader.now ≡ Err e) c.marker_end.result (marked ∙ ap (λ (e : YamlEnd). Err e) (sym same))
+    memory_or-from is_memory (λ e. added c.args.flow c.args.least c.args.reader.now ≡ Err e) c.marker_end.result (marked ∙ ap (λ (e : YamlEnd). Err e) (sym same))
 
 part_length_is : (c : After-part_length-count) → c.part_length-count.result ≡ length (part_of c.args.flow c.in-Some.row.text)
 part_length_is c = c.part_length-count.ensures.bytes ∙ ap (λ (l : List ℕ). length (part_of c.args.flow l)) c.text.ensures

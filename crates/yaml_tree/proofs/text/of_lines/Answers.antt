@@ -2,12 +2,14 @@
 use Rattle.std.proofs.Common.{List, false, Ok, Err, sym, ap, ◌∙◌, subst, All}
 use Rattle.std.proofs.lemmas.Result.{IfOk-weaker, IfErr-weaker}
 use Rattle.dp_base.specs.declared.place.Place.{Place}
+use Rattle.dp_base.proofs.Memory.{memory_or}
 use Rattle.yaml_scan.specs.declared.line.Line.{Line}
 use Rattle.yaml_tree.specs.Rest.{Rest, rest_of, IsSpan}
 use Rattle.yaml_tree.specs.Lines.{from_content}
 use Rattle.yaml_tree.specs.Texts.{past_start}
+use Rattle.yaml_tree.specs.Results.{is_memory}
 use Rattle.yaml_tree.proofs.BaseReader.{with_below}
-use Rattle.yaml_tree.proofs.BaseText.{MemoryOr-weaker, of-started}
+use Rattle.yaml_tree.proofs.BaseText.{of-started}
 use Rattle.yaml_tree.proofs.BaseSpans.{spans-lines}
 use Rattle.yaml_tree.proofs.text.of_lines.Goals as goal
 
@@ -35,4 +37,4 @@ returns-clause-refused c =
     let lines = c.args.lines.now in
     let from = c.before-reader.ensures ∙ ap (λ (end : Place). rest_of c.args.file end 1 1 text 0 0 false lines 0) c.text_end-end.ensures in
     let start = c.pass_start.ensures ∙ ap (λ (r : Rest). with_below (past_start (from_content r.below)) r) from in
-    IfErr-weaker c.top_node.result _ _ (λ e. MemoryOr-weaker _ _ (λ f read. of-started c.args.file text lines (Err f) c.pass_start.new.reader start read) e) c.top_node.ensures.refused
+    IfErr-weaker c.top_node.result _ _ (λ e. memory_or is_memory _ _ (λ f read. of-started c.args.file text lines (Err f) c.pass_start.new.reader start read) e) c.top_node.ensures.refused

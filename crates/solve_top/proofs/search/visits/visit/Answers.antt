@@ -27,7 +27,7 @@ returns-clause-expanded c = λ g.
     let m = c.args.model.now in
     let n = c.args.node.now in
     let l = c.loop-number in
-    let ended : length m.ground ≤ l.number = search rules in
+    let ended : length m.dp_ground ≤ l.number = search rules in
     elim (cases_lt g l.number) [
       | inl h ↦ l.invariant.expanded g h
       | inr h ↦ Expanded-past m (node_state n) n.cost g l.next.items l.best (omega (arith, h, ended))

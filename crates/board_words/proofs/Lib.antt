@@ -1,0 +1,3 @@
+pub mod ViewSums
+pub mod Words
+pub mod Keeps

@@ -1,0 +1,14 @@
+use Rattle.std.proofs.Common.{sym, ap, ◌∙◌, arith}
+use mathlib.Core.Option.{none}
+use Rattle.atomic_table.specs.Table.{step}
+use Rattle.board_words.proofs.Keeps as keep
+use Rattle.board_words.proofs.board.Board.draw.Goals as goal
+
+pub fetch_add-requires : goal.fetch_add-requires
+fetch_add-requires c =
+    let t = c.self.inside.table.shared in
+    let s = c.seat.inside.seat in (
+      ap (λ k. k.board) c.seat.view_is ∙ (c.requires.seat.0 ∙ sym (ap (λ k. k.id) c.self.view_is)),
+      omega (arith, c.self.invariant),
+      keep.draws t.key t.table_id.slots s.id s.me c.seat.invariant.0 c.seat.invariant.1 (step t.table_id.slots 1 1 0 none) (rw (ap (λ k. k.view) c.seat.view_is) c.requires.room),
+    )

@@ -1,0 +1,5 @@
+pub mod Causes
+pub mod Sums
+pub mod Rules
+pub mod Steps
+pub mod Seats

@@ -1,0 +1,4 @@
+pub mod Dominance
+pub mod Honest
+pub mod Enough
+pub mod Laws

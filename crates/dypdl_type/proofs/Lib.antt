@@ -1,0 +1,9 @@
+pub mod Steps
+pub mod Trees
+pub mod Numerals
+pub mod Meanings
+pub mod Sound
+pub mod Numbers
+pub mod Sets
+pub mod Conditions
+pub mod Typed

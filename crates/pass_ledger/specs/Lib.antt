@@ -1,0 +1,17 @@
+pub mod Letters
+pub mod Passes
+pub mod Rows
+pub mod Records
+pub mod Events
+pub mod Ledgers
+pub mod Counts
+pub mod Groups
+pub mod Worlds
+pub mod Logs
+pub mod TwoWays
+pub mod Worked
+pub mod WorkedRun
+pub mod WorkedFloors
+pub mod WorkedWrong
+pub mod WorkedEnough
+pub mod WorkedFault

@@ -1,0 +1,4 @@
+pub mod Names
+pub mod Mails
+pub mod Steps
+pub mod Ends

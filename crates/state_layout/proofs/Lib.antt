@@ -1,0 +1,3 @@
+pub mod Signing
+pub mod Deciding
+pub mod Owners

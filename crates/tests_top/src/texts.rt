@@ -1,0 +1,37 @@
+//! Calls that take memory, each where it lasts, and the model that the other tests run on.
+
+use dp_base::{Boxed, Seq, Text};
+use dp_model::{Found, Num, step_text};
+use dypdl_load::load_first;
+use std::test::Fail;
+
+/// Two ways, of which the first that is found costs more.
+pub(crate) const TWO_WAYS: &str = concat!(
+    "domain: b\nstate_variables:\n  - name: a\n    type: integer\ntransitions:\n",
+    "  - name: p\n    preconditions:\n      - (= a 0)\n    effects:\n      a: 1\n    cost: (+ cost 1)\n",
+    "  - name: q\n    preconditions:\n      - (= a 0)\n    effects:\n      a: 2\n    cost: (+ cost 2)\n",
+    "  - name: e\n    preconditions:\n      - (= a 1)\n    effects:\n      a: 3\n    cost: (+ cost 10)\n",
+    "  - name: d\n    preconditions:\n      - (= a 2)\n    effects:\n      a: 3\n    cost: (+ cost 1)\n",
+    "base_cases:\n  - - (= a 3)\n",
+);
+
+pub(crate) const FROM_ZERO: &str = "domain: b\nproblem: one\ntarget:\n  a: 0\n";
+
+#[test]
+fn texts_and_lists_grow(rt: HostRuntime) -> Result<(), Fail> {
+    let alloc = rt.alloc();
+    let model = load_first(alloc, TWO_WAYS.as_bytes(), FROM_ZERO.as_bytes())?;
+    let mut text = Text::of(String::from_str(alloc, "steps ")?);
+    text.push_text("are ")?;
+    for number in [2u32, 9, 0] {
+        step_text(alloc, &model, number, &mut text)?;
+    }
+    assert_eq!(rt; text.as_text(), "steps are ep");
+    let mut steps = Seq::of(Vec::new(alloc));
+    steps.list_mut().push(4u32)?;
+    let found = Found { cost: 11, steps };
+    assert_eq!(rt; (found.cost(), found.steps().list().len()), (11, 1));
+    let held = Boxed::new(alloc, Num::Fixed(-7))?;
+    assert!(rt; matches!(held.into_inner(), Num::Fixed(-7)));
+    Ok(())
+}
