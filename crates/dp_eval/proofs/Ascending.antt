@@ -1,5 +1,5 @@
 -- Lists whose items all pass a test, and ascending lists.
-use Rattle.std.proofs.Common.{◌≡◌, ℕ, zero, suc, ◌+◌, ◌-◌, ◌≤◌, ◌<◌, Bool, true, false, not, cond, ◌&&◌, ltb, List, [], ◌∷◌, length, get_or, filter, slice_get, Some, refl, add-one, arith}
+use Rattle.std.proofs.Common.{◌≡◌, ℕ, zero, suc, ◌+◌, ◌-◌, ◌≤◌, ◌<◌, Bool, true, false, not, cond, ◌&&◌, ltb, List, [], ◌∷◌, length, get_or, filter, slice_get, Some, refl, arith}
 use Rattle.std.specs.List.{list_all, range_with_len}
 use Rattle.std.proofs.lemmas.Bool.{and_parts, and_from, ltb-true, ltb-false, lt-ltb, le-ltb, not-true, not_from_false}
 use Rattle.dp_model.specs.Typing.{ascends, is_set_below}

@@ -1,14 +1,12 @@
 -- Well-typed expressions have values that fit, by induction over the trees.
-use Rattle.std.proofs.Common.{◌≡◌, ℕ, ◌+◌, ◌≤◌, ◌<◌, Bool, true, false, not, ◌&&◌, ◌||◌, cond, if◌then◌else◌, List, [], ◌∷◌, length, get_or, map, slice_get, slice_index, Option, Some, None, option_and_then, Result, Ok, Err, IfOk, ℤ, pos, refl, sym, ap, ◌∙◌, subst, arith, eqb, ltb, nat_lt, int_lt, int_div, int_rem, ◌+ℤ◌, ◌-ℤ◌, ◌*ℤ◌, IsTrue}
+use Rattle.std.proofs.Common.{◌≡◌, ℕ, suc, ◌⊎◌, inl, inr, ◌≤◌, Bool, true, false, not, ◌&&◌, ◌||◌, cond, if◌then◌else◌, List, [], ◌∷◌, length, map, slice_get, slice_index, Option, Some, None, option_and_then, Result, Ok, Err, IfOk, ℤ, pos, refl, sym, ap, ◌∙◌, subst, arith, eqb, int_div, int_rem, ◌+ℤ◌, ◌-ℤ◌, ◌*ℤ◌, IsTrue}
 use Rattle.std.specs.Prelude.{unwrap_or}
-use Rattle.std.specs.List.{list_all}
-use Rattle.std.specs.Int.{int_max, int_min}
 use Rattle.std.specs.Ordering.{int_eq}
-use Rattle.std.proofs.lemmas.Bool.{and_parts, eqb-true, ltb-true}
+use Rattle.std.proofs.lemmas.Bool.{and_parts, and_from, eqb-true, ltb-true}
 use Rattle.dp_base.specs.Results.{◌>>=◌, in_turn}
 use Rattle.dp_model.specs.Costs.{InRange, ranged}
-use Rattle.dp_model.specs.Typing.{type_count, kind_at, kind_object, is_number_kind, is_set_kind, cells_at, sets_object, is_num, is_set, is_cond, both_sets, is_in_range, is_set_below, is_state, are_tables, ArgTest, CondTest, NumTest, SetTest, arg_typed, cond_typed, num_typed, set_typed}
-use Rattle.dp_model.specs.Evaluation.{operate, has, member_of, members_of, choices_of, ways, total_of, count_of, table_counts, cells_of, place_in, number_cell, set_cell, members_where, set_operation, kind_of, object_of_kind, number_held, set_held, cells_object, num_value, set_value, cond_value, ArgValue, CondValue, NumValue, SetValue, arg_step, cond_step, num_step, set_step}
+use Rattle.dp_model.specs.Typing.{type_count, kind_at, kind_object, is_number_kind, is_set_kind, cells_at, sets_object, is_num, is_set, is_cond, both_sets, args_typed, is_in_range, is_set_below, is_state, ArgTest, CondTest, NumTest, SetTest, arg_typed, cond_typed, num_typed, set_typed}
+use Rattle.dp_model.specs.Evaluation.{operate, has, member_of, members_of, choices_of, ways, total_of, count_of, table_counts, cells_of, place_in, number_cell, set_cell, members_where, set_operation, object_of_kind, number_held, set_held, cells_object, num_value, set_value, cond_value, ArgValue, CondValue, NumValue, SetValue, arg_step, cond_step, num_step, set_step}
 use Rattle.dp_model.specs.declared.answers.FaultKind.{FaultKind}
 use Rattle.dp_model.specs.declared.answers.FaultKind.TheVariants.{Range, ZeroDivisor}
 use Rattle.dp_model.specs.declared.trees.NumOp.{NumOp}
@@ -27,11 +25,17 @@ use Rattle.dp_model.specs.declared.parts.Cells.TheVariants as cells
 use Rattle.dp_model.specs.declared.parts.TableData.{TableData}
 use Rattle.dp_model.specs.declared.parts.PlainState.{PlainState}
 use Rattle.dp_model.specs.declared.whole.Model.{Model}
-use Rattle.dp_eval.specs.Fits.{are_given, NumbersFit, SetsTyped, SetsFit}
+use Rattle.dp_eval.specs.Terms.{num_values, term_values, arg_value}
+use Rattle.dp_eval.specs.Fits.{are_given, is_arg, NumbersFit, SetsTyped, SetsFit}
 use Rattle.dp_eval.proofs.Ascending.{all_get, ascends-length, where_below}
 use Rattle.dp_eval.proofs.Held.{in_range, small_in_range, small_objects, number_held_at, set_held_at, number_cell-fits, set_cell-fits}
 
 -- ---- steps, one after another
+
+-- what comes after a step has a value only where the step has
+pub bound : {A B : Type 0} (r : Result A FaultKind) (f : A → Result B FaultKind) (y : B) → (r >>= f) ≡ Ok y → (x : A) × (r ≡ Ok x) × (f x ≡ Ok y)
+bound (Ok x) f y h = (x, refl, h)
+bound (Err k) f y h = absurd (cc)
 
 one_step : {A C : Type 0} (P : C → Type 0) (r : Result A FaultKind) (g : A → C) → ((x : A) → P (g x)) → IfOk (r >>= λ x. Ok (g x)) P
 one_step P (Ok x) g h = h x
@@ -120,12 +124,6 @@ table_object (Some x) = of_cells x.cells where
 
 -- ---- one layer of a tree, as a value and as a test
 
-abbrev arg_value : Model → PlainState → args.Arg → ArgValue
-arg_value m s = args.fold-Arg ArgValue CondValue NumValue SetValue arg_step (cond_step m s) (num_step m s) (set_step m s)
-
-abbrev is_arg : Model → args.Arg → ArgTest
-is_arg m = args.fold-Arg ArgTest CondTest NumTest SetTest arg_typed (cond_typed m.objects m.variables m.tables) (num_typed m.variables m.tables) (set_typed m.variables m.tables)
-
 abbrev num_layer : Model → PlainState → nums.Num-F args.Arg conds.Cond nums.Num sets.SetEx → NumValue
 num_layer m s x = num_step m s (nums.map-Num args.Arg conds.Cond nums.Num sets.SetEx ArgValue CondValue NumValue SetValue (arg_value m s) (cond_value m s) (num_value m s) (set_value m s) x)
 
@@ -135,12 +133,12 @@ set_layer m s x = set_step m s (sets.map-SetEx args.Arg conds.Cond nums.Num sets
 abbrev num_layer_test : Model → nums.Num-F args.Arg conds.Cond nums.Num sets.SetEx → NumTest
 num_layer_test m x =
     num_typed m.variables m.tables
-    (nums.map-Num args.Arg conds.Cond nums.Num sets.SetEx ArgTest CondTest NumTest SetTest (is_arg m) (is_cond m.objects m.variables m.tables) (is_num m.objects m.variables m.tables) (is_set m.objects m.variables m.tables) x)
+    (nums.map-Num args.Arg conds.Cond nums.Num sets.SetEx ArgTest CondTest NumTest SetTest (is_arg m.objects m.variables m.tables) (is_cond m.objects m.variables m.tables) (is_num m.objects m.variables m.tables) (is_set m.objects m.variables m.tables) x)
 
 abbrev set_layer_test : Model → sets.SetEx-F args.Arg conds.Cond nums.Num sets.SetEx → SetTest
 set_layer_test m x =
     set_typed m.variables m.tables
-    (sets.map-SetEx args.Arg conds.Cond nums.Num sets.SetEx ArgTest CondTest NumTest SetTest (is_arg m) (is_cond m.objects m.variables m.tables) (is_num m.objects m.variables m.tables) (is_set m.objects m.variables m.tables) x)
+    (sets.map-SetEx args.Arg conds.Cond nums.Num sets.SetEx ArgTest CondTest NumTest SetTest (is_arg m.objects m.variables m.tables) (is_cond m.objects m.variables m.tables) (is_num m.objects m.variables m.tables) (is_set m.objects m.variables m.tables) x)
 
 num_value-layer : (m : Model) (s : PlainState) (x : nums.Num-F args.Arg conds.Cond nums.Num sets.SetEx) → num_value m s (nums.roll-Num x) ≡ num_layer m s x
 num_value-layer m s x = nums.fold-roll-Num ArgValue CondValue NumValue SetValue arg_step (cond_step m s) (num_step m s) (set_step m s) x
@@ -311,6 +309,86 @@ module _ (m : Model) (s : PlainState) (held : IsTrue (is_state m.objects m.varia
 
   pub set-fits : (e : sets.SetEx) → SetFits e
   set-fits e = sets.ind-SetEx Any Any NumFits SetFits (λ x y p. tt) (λ x y p. tt) num_made set_made e
+
+-- ---- the arguments of a `sum`
+
+-- an evaluated argument, where the table has one of this object type: a number is tested when it is read
+abbrev pub is_term : Model → ℕ → ℤ ⊎ List ℕ → Bool
+is_term m object (inl n) = true
+is_term m object (inr set) = is_set_below (type_count m.objects object) set
+
+-- as many as the table has arguments
+abbrev pub are_terms : Model → List ℕ → List (ℤ ⊎ List ℕ) → Bool
+are_terms m [] [] = true
+are_terms m (object ∷ objects) (x ∷ xs) = is_term m object x && are_terms m objects xs
+are_terms m [] (x ∷ xs) = false
+are_terms m (object ∷ objects) [] = false
+
+module _ (m : Model) (s : PlainState) (held : IsTrue (is_state m.objects m.variables s)) where
+  abbrev TermFits : args.Arg → Type 0
+  TermFits e = (object : ℕ) (given : List ℕ) → are_given given ≡ true → is_arg m.objects m.variables m.tables e object (length given) ≡ true → IfOk (arg_value m s e given) (λ x. is_term m object x ≡ true)
+
+  set_term : (object : ℕ) (r : Result (List ℕ) FaultKind) → IfOk r (λ set. is_set_below (type_count m.objects object) set ≡ true) → IfOk (r >>= λ set. Ok (inr set)) (λ x. is_term m object x ≡ true)
+  set_term object (Ok set) h = h
+  set_term object (Err k) h = tt
+
+  abbrev FitArg-F : Type 0
+  FitArg-F = args.Arg-F ((e : args.Arg) × TermFits e) ((e : conds.Cond) × Any e) ((e : nums.Num) × Any e) ((e : sets.SetEx) × Any e)
+
+  abbrev arg_under : FitArg-F → args.Arg-F args.Arg conds.Cond nums.Num sets.SetEx
+  arg_under = args.map-Arg ((e : args.Arg) × TermFits e) ((e : conds.Cond) × Any e) ((e : nums.Num) × Any e) ((e : sets.SetEx) × Any e) args.Arg conds.Cond nums.Num sets.SetEx (λ e. e.0) (λ e. e.0) (λ e. e.0) (λ e. e.0)
+
+  abbrev arg_layer : args.Arg-F args.Arg conds.Cond nums.Num sets.SetEx → ArgValue
+  arg_layer x = arg_step (args.map-Arg args.Arg conds.Cond nums.Num sets.SetEx ArgValue CondValue NumValue SetValue (arg_value m s) (cond_value m s) (num_value m s) (set_value m s) x)
+
+  abbrev arg_layer_test : args.Arg-F args.Arg conds.Cond nums.Num sets.SetEx → ArgTest
+  arg_layer_test x =
+      arg_typed
+      (args.map-Arg args.Arg conds.Cond nums.Num sets.SetEx ArgTest CondTest NumTest SetTest (is_arg m.objects m.variables m.tables) (is_cond m.objects m.variables m.tables) (is_num m.objects m.variables m.tables) (is_set m.objects m.variables m.tables) x)
+
+  arg_case : (y : FitArg-F) (object : ℕ) (given : List ℕ) → are_given given ≡ true → arg_layer_test (arg_under y) object (length given) ≡ true → IfOk (arg_layer (arg_under y) given) (λ x. is_term m object x ≡ true)
+  arg_case (args.Arg-F.One n) object given g t = one_step (λ x. is_term m object x ≡ true) (num_value m s n.0 given) (λ z. inl z) (λ z. refl)
+  arg_case (args.Arg-F.Many set) object given g t =
+      let typed = is_set m.objects m.variables m.tables set.0 in
+      let p = and_parts (typed.1 (length given)) (eqb typed.0 object) t in
+      set_term object ((set_value m s set.0).1 given)
+      (subst (λ (object : ℕ). IfOk ((set_value m s set.0).1 given) (λ set. is_set_below (type_count m.objects object) set ≡ true)) (eqb-true typed.0 object p.1) (set-fits m s held set.0 given g p.0))
+
+  arg_rolled : (y : FitArg-F) → TermFits (args.roll-Arg (arg_under y))
+  arg_rolled y object given g t =
+      subst (λ (v : ArgValue). IfOk (v given) (λ x. is_term m object x ≡ true)) (sym (args.fold-roll-Arg ArgValue CondValue NumValue SetValue arg_step (cond_step m s) (num_step m s) (set_step m s) (arg_under y)))
+      (arg_case y object given g
+      (subst (λ (test : ArgTest). test object (length given) ≡ true)
+      (args.fold-roll-Arg ArgTest CondTest NumTest SetTest arg_typed (cond_typed m.objects m.variables m.tables) (num_typed m.variables m.tables) (set_typed m.variables m.tables) (arg_under y)) t))
+
+  arg_made : (x : args.Arg-F args.Arg conds.Cond nums.Num sets.SetEx) (y : FitArg-F) → arg_under y ≡ x → TermFits (args.roll-Arg x)
+  arg_made x y p = subst (λ (x : args.Arg-F args.Arg conds.Cond nums.Num sets.SetEx). TermFits (args.roll-Arg x)) p (arg_rolled y)
+
+  term-fits : (e : args.Arg) → TermFits e
+  term-fits e = args.ind-Arg TermFits Any Any Any arg_made (λ x y p. tt) (λ x y p. tt) (λ x y p. tt) e
+
+  pub terms_fit : (objects : List ℕ) (terms : List args.Arg) (given : List ℕ) (xs : List (ℤ ⊎ List ℕ)) → are_given given ≡ true → args_typed objects (map (is_arg m.objects m.variables m.tables) terms) (length given) ≡ true → term_values m s terms given ≡ Ok xs → are_terms m objects xs ≡ true
+  terms_fit [] [] given xs g t h = let same : [] ≡ xs = cc in subst (λ (xs : List (ℤ ⊎ List ℕ)). are_terms m [] xs ≡ true) same refl
+  terms_fit [] (e ∷ terms) given xs g t h = absurd (cc)
+  terms_fit (object ∷ objects) [] given xs g t h = absurd (cc)
+  terms_fit (object ∷ objects) (e ∷ terms) given xs g t h =
+      let p = and_parts (is_arg m.objects m.variables m.tables e object (length given)) (args_typed objects (map (is_arg m.objects m.variables m.tables) terms) (length given)) t in
+      let first = bound (arg_value m s e given) (λ x. term_values m s terms given >>= λ rest. Ok (x ∷ rest)) xs h in
+      let rest = bound (term_values m s terms given) (λ rest. Ok (first.0 ∷ rest)) xs first.2 in
+      let same : first.0 ∷ rest.0 ≡ xs = cc in
+      let here = subst (λ (r : Result (ℤ ⊎ List ℕ) FaultKind). IfOk r (λ x. is_term m object x ≡ true)) first.1 (term-fits e object given g p.0) in
+      subst (λ (xs : List (ℤ ⊎ List ℕ)). are_terms m (object ∷ objects) xs ≡ true) same (and_from (is_term m object first.0) (are_terms m objects rest.0) here (terms_fit objects terms given rest.0 g p.1 rest.1))
+
+-- as many values as numbers
+pub num_values-length : (m : Model) (s : PlainState) (ns : List nums.Num) (given : List ℕ) (zs : List ℤ) → num_values m s ns given ≡ Ok zs → length zs ≡ length ns
+num_values-length m s [] given zs h = let same : [] ≡ zs = cc in ap length (sym same)
+num_values-length m s (n ∷ ns) given zs h =
+    let first = bound (num_value m s n given) (λ z. num_values m s ns given >>= λ rest. Ok (z ∷ rest)) zs h in
+    let rest = bound (num_values m s ns given) (λ rest. Ok (first.0 ∷ rest)) zs first.2 in
+    let same : first.0 ∷ rest.0 ≡ zs = cc in
+    ap length (sym same) ∙ ap suc (num_values-length m s ns given rest.0 rest.1)
+
+-- ---- the laws
 
 pub numbers_fit : NumbersFit
 numbers_fit m s e given held g t = num-fits m s held e given g t

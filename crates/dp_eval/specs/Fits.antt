@@ -1,18 +1,22 @@
 -- What values are like in a state of the model: those of parameters, variables, cells and well-typed expressions.
-use Rattle.std.specs.Prelude.{◌≡◌, ℕ, ◌<◌, List, length, slice_get, Option, Some, Bool, IsTrue, IfOk, Ok, ℤ, pos}
+use Rattle.std.specs.Prelude.{◌≡◌, ℕ, ◌<◌, ◌⊎◌, List, length, map, slice_get, Some, Bool, IsTrue, IfOk, Ok, ℤ, pos}
 use Rattle.std.specs.List.{list_all}
 use Rattle.dp_model.specs.Costs.{InRange}
-use Rattle.dp_model.specs.Typing.{type_count, kind_at, kind_object, is_number_kind, is_set_kind, over_typed, over_object, is_num, is_set, is_in_range, is_set_below, is_state, are_arguments}
-use Rattle.dp_model.specs.Evaluation.{num_value, set_value, range_of, table_counts, members_of, place_in}
+use Rattle.dp_model.specs.Typing.{type_count, kind_at, kind_object, is_number_kind, is_set_kind, over_typed, over_object, is_num, is_set, is_in_range, is_set_below, is_state, are_arguments, cell_typed, args_typed, arg_typed, cond_typed, num_typed, set_typed, ArgTest, CondTest, NumTest, SetTest}
+use Rattle.dp_model.specs.Evaluation.{num_value, set_value, range_of, table_counts, members_of, choices_of, ways, place_in}
 use Rattle.dp_model.specs.declared.whole.Model.{Model}
+use Rattle.dp_model.specs.declared.parts.ObjectType.{ObjectType}
+use Rattle.dp_model.specs.declared.parts.Variable.{Variable}
 use Rattle.dp_model.specs.declared.parts.Cells.{Cells}
 use Rattle.dp_model.specs.declared.parts.Cells.TheVariants as cells
 use Rattle.dp_model.specs.declared.parts.TableData.{TableData}
 use Rattle.dp_model.specs.declared.parts.PlainState.{PlainState}
 use Rattle.dp_model.specs.declared.parts.PlainValue.TheVariants as values
 use Rattle.dp_model.specs.declared.trees.Over.{Over}
+use Rattle.dp_model.specs.declared.trees.Arg as args
 use Rattle.dp_model.specs.declared.trees.Num.{Num}
 use Rattle.dp_model.specs.declared.trees.SetEx.{SetEx}
+use Rattle.dp_eval.specs.Terms.{num_values, term_values}
 
 -- the values of the parameters in force are numbers in range
 abbrev pub are_given : List ℕ → Bool
@@ -47,11 +51,24 @@ cells_length (cells.Numbers xs) = length xs
 cells_length (cells.Truths xs) = length xs
 cells_length (cells.Sets object xs) = length xs
 
--- arguments that are members, as many as the table has, lead to a cell that is there
+-- the well-typed arguments of a cell lead to one that is there, where they are members
 abbrev pub CellsHeld : Type 0
 CellsHeld =
-    (m : Model) (t : ℕ) (table : TableData) (numbers : List ℤ) (members : List ℕ) → slice_get m.tables t ≡ Some table
-    → length numbers ≡ length table.args → members_of (table_counts m t) numbers ≡ Ok members → place_in m t members < cells_length table.cells
+    (m : Model) (s : PlainState) (t : ℕ) (table : TableData) (ns : List Num) (given : List ℕ) (numbers : List ℤ) (members : List ℕ) → slice_get m.tables t ≡ Some table
+    → IsTrue (cell_typed table.args (map (is_num m.objects m.variables m.tables) ns) (length given)) → num_values m s ns given ≡ Ok numbers
+    → members_of (table_counts m t) numbers ≡ Ok members → place_in m t members < cells_length table.cells
+
+-- whether an argument of a `sum` is well typed, where the table has one of an object type
+abbrev pub is_arg : List ObjectType → List Variable → List TableData → args.Arg → ArgTest
+is_arg os vs ts = args.fold-Arg ArgTest CondTest NumTest SetTest arg_typed (cond_typed os vs ts) (num_typed vs ts) (set_typed vs ts)
+
+-- the well-typed arguments of a `sum` lead to a cell that is there, by each way to choose one member for each of them
+abbrev pub SumsHeld : Type 0
+SumsHeld =
+    (m : Model) (s : PlainState) (t : ℕ) (table : TableData) (terms : List args.Arg) (given : List ℕ) (xs : List (ℤ ⊎ List ℕ)) (choices : List (List ℕ)) (i : ℕ) (way : List ℕ)
+    → IsTrue (is_state m.objects m.variables s) → IsTrue (are_given given) → slice_get m.tables t ≡ Some table
+    → IsTrue (args_typed table.args (map (is_arg m.objects m.variables m.tables) terms) (length given)) → term_values m s terms given ≡ Ok xs
+    → choices_of (table_counts m t) xs ≡ Ok choices → slice_get (ways choices) i ≡ Some way → place_in m t way < cells_length table.cells
 
 -- a well-typed number is in range, where it is no fault
 abbrev pub NumbersFit : Type 0

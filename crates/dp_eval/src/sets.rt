@@ -16,6 +16,7 @@ pub struct CountedSet {
     pub members: Seq<u32>,
 }
 
+/// Whether a list has a member.
 pub fn has(set: &[u32], member: u32) -> bool
     ensures { result ≡ has set.now member }
 {
@@ -65,6 +66,7 @@ impl<'s> Marks<'s> {
     }
 }
 
+/// Whether two sets have the same members.
 pub fn same_members(a: &CountedSet, b: &CountedSet) -> bool
     ensures { result ≡ bytes_eq a.now.members b.now.members }
 {

@@ -37,6 +37,7 @@ pub fn variable_object(model: &Model, v: u32) -> u32
     }
 }
 
+/// The number that a variable has in a state.
 pub fn number_in(s: &PlainState, v: u32) -> i64
     ensures { result ≡ number_in s.now v }
 {
@@ -46,6 +47,7 @@ pub fn number_in(s: &PlainState, v: u32) -> i64
     }
 }
 
+/// The members of the set that a variable has in a state.
 pub fn set_in(alloc: Global, s: &PlainState, v: u32) -> Result<Seq<u32>, AllocError>
     ensures { IfOk result (λ set. set ≡ set_in s.now v) }
 {
@@ -55,6 +57,7 @@ pub fn set_in(alloc: Global, s: &PlainState, v: u32) -> Result<Seq<u32>, AllocEr
     }
 }
 
+/// A copy of a list.
 pub fn copied(alloc: Global, items: &Seq<u32>) -> Result<Seq<u32>, AllocError>
     ensures { IfOk result (λ copy. copy ≡ items.now) }
 {
@@ -68,7 +71,7 @@ fn table<'m>(model: &'m Model, t: u32) -> Option<&'m TableData>
 }
 
 /// The object types of a table's arguments.
-pub fn arguments(model: &Model, t: u32) -> &[u32]
+fn arguments(model: &Model, t: u32) -> &[u32]
     ensures { counts_of model.now result.now ≡ table_counts model.now t }
 {
     match table(model, t) {
@@ -158,6 +161,7 @@ fn cells(model: &Model, t: u32) -> Option<&Cells>
     }
 }
 
+/// The number at a place, or 0 past the end.
 pub fn number_at(xs: &[i64], at: Option<usize>) -> i64
     ensures { (place : ℕ) → IsPlace place at
         → result ≡ unwrap_or (slice_get xs.now place) (pos 0) }

@@ -1,4 +1,4 @@
-use Rattle.dp_eval.proofs.ReadFits.{arguments_fit, ranges_fit, numbers_held, sets_held, cells_held}
+use Rattle.dp_eval.proofs.ReadFits.{arguments_fit, ranges_fit, numbers_held, sets_held, cells_held, sums_held}
 use Rattle.dp_eval.proofs.laws.reads_fit.Goals as goal
 
 pub returns-clause-arguments : goal.returns-clause-arguments
@@ -15,3 +15,6 @@ returns-clause-set_variables c = sets_held
 
 pub returns-clause-cells : goal.returns-clause-cells
 returns-clause-cells c = cells_held
+
+pub returns-clause-sums : goal.returns-clause-sums
+returns-clause-sums c = sums_held

@@ -1,4 +1,3 @@
-use Rattle.std.proofs.Common.{◌≡◌}
 use Rattle.dp_eval.proofs.Steps.{place_after-first}
 use Rattle.dp_eval.proofs.sums.place_after.Goals as goal
 

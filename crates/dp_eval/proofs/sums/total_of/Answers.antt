@@ -1,4 +1,4 @@
-use Rattle.std.proofs.Common.{◌≡◌, refl}
+use Rattle.std.proofs.Common.{refl}
 use Rattle.dp_model.specs.Evaluation.{ways}
 use Rattle.dp_eval.proofs.Steps.{total_of-at}
 use Rattle.dp_eval.proofs.sums.total_of.Goals as goal
