@@ -1,4 +1,4 @@
-//! The store of a layer's nodes: which nodes cover others, and the nodes so far of which none covers another.
+//! When a node of a search covers another, so that the other is needless.
 #![tactic(auto)]
 
 mod covers;
