@@ -22,15 +22,35 @@ fn expression(alloc: Global, bytes: &[u8]) -> Option<Expr> {
     read_expr(alloc, text).ok()
 }
 
+fn as_number(alloc: Global, scope: &Scope, e: &Expr) -> Result<String, AllocError> {
+    shown(alloc, &type_num(alloc, scope, e))
+}
+
+fn as_element(alloc: Global, scope: &Scope, e: &Expr) -> Result<String, AllocError> {
+    shown(alloc, &type_elem(alloc, scope, e))
+}
+
+fn as_set(alloc: Global, scope: &Scope, object: u32, e: &Expr) -> Result<String, AllocError> {
+    shown(alloc, &type_set(alloc, scope, object, e))
+}
+
+fn as_condition(alloc: Global, scope: &Scope, e: &Expr) -> Result<String, AllocError> {
+    shown(alloc, &type_cond(alloc, scope, e))
+}
+
+fn as_cost(alloc: Global, scope: &Scope, e: &Expr) -> Result<String, AllocError> {
+    shown(alloc, &type_cost(alloc, scope, e))
+}
+
 /// The tree of an expression where the key says, or what it is refused for.
 fn typed(alloc: Global, scope: &Scope, key: &str, e: &Expr) -> Result<String, AllocError> {
     match key {
-        "number" => shown(alloc, &type_num(alloc, scope, e)),
-        "element" => shown(alloc, &type_elem(alloc, scope, e)),
-        "set-0" => shown(alloc, &type_set(alloc, scope, 0, e)),
-        "set-1" => shown(alloc, &type_set(alloc, scope, 1, e)),
-        "condition" => shown(alloc, &type_cond(alloc, scope, e)),
-        "cost" => shown(alloc, &type_cost(alloc, scope, e)),
+        "number" => as_number(alloc, scope, e),
+        "element" => as_element(alloc, scope, e),
+        "set-0" => as_set(alloc, scope, 0, e),
+        "set-1" => as_set(alloc, scope, 1, e),
+        "condition" => as_condition(alloc, scope, e),
+        "cost" => as_cost(alloc, scope, e),
         _ => String::from_str(alloc, "no place"),
     }
 }
