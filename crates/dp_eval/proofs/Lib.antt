@@ -1,3 +1,7 @@
 pub mod Steps
 pub mod Forall
-pub mod Stops
+pub mod Cells
+pub mod Ascending
+pub mod Held
+pub mod Fits
+pub mod ReadFits

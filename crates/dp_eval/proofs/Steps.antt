@@ -1,10 +1,12 @@
 -- One step of the definitions that go over two lists at once.
-use Rattle.std.proofs.Common.{◌≡◌, ℕ, ◌+◌, ◌*◌, ◌-◌, ◌≤◌, suc, List, [], ◌∷◌, length, get_or, take, drop, refl, arith, ◌<◌, ◌+ℤ◌, ℤ, zero, ◌++◌, add-one, add-zero}
-use Rattle.std.specs.List.{range_with_len}
+use Rattle.std.proofs.Common.{◌≡◌, ℕ, ◌+◌, ◌*◌, ◌-◌, ◌≤◌, suc, List, [], ◌∷◌, length, get_or, map, take, drop, refl, arith, ◌<◌, ◌+ℤ◌, ℤ, pos, zero, ◌++◌, add-one, add-zero, slice_get}
+use Rattle.std.specs.Prelude.{unwrap_or}
+use Rattle.std.specs.List.{range_with_len, flat_map}
 use Rattle.std.proofs.Math.Seq.{take-length, drop-cons}
 use Rattle.std.proofs.lemmas.Int.{ints}
 use Rattle.dp_model.specs.declared.whole.Model.{Model}
-use Rattle.dp_model.specs.Evaluation.{count_of, counts_of, place_from, place_in, total_of, number_cell, cells_of}
+use Rattle.dp_model.specs.Evaluation.{count_of, counts_of, table_counts, place_from, place_in, ways, total_of, number_cell, cells_of}
+use Rattle.dp_eval.specs.Totals.{place_after, total_at}
 
 pub place_from-step : (m : Model) (place : ℕ) (objects members : List ℕ) → 1 ≤ length objects → 1 ≤ length members → place_from place (counts_of m objects) members ≡ place_from (place * count_of m (get_or objects 0 0) + get_or members 0 0) (counts_of m (drop 1 objects)) (drop 1 members)
 place_from-step m place [] members h k = absurd (omega arith)
@@ -16,8 +18,41 @@ pub rest-take : {A : Type 0} (xs : List A) → take (length xs - 1) (drop 1 xs) 
 rest-take [] = refl
 rest-take (x ∷ xs) = let e : suc (length xs) - 1 ≡ length xs = omega arith in rw e (take-length xs)
 
-pub total_of-step : (m : Model) (t : ℕ) (ws : List (List ℕ)) (i : ℕ) (w : List ℕ) → i < length ws → w ≡ get_or ws i w → total_of m t (drop i ws) ≡ number_cell (cells_of m t) (place_in m t w) +ℤ total_of m t (drop (i + 1) ws)
-total_of-step m t ws i w h e = rw (add-one, drop-cons ws i w, ← e) refl
+pub place_after-first : (place : ℕ) (counts : List ℕ) (k : ℕ) → 1 ≤ length counts → place_after place counts k ≡ place * get_or counts 0 0 + k
+place_after-first place [] k h = absurd (omega arith)
+place_after-first place (count ∷ counts) k h = refl
+
+pub none_left : {A : Type 0} (xs : List A) → length xs < 1 → xs ≡ []
+none_left [] h = refl
+none_left (x ∷ xs) h = absurd (omega arith)
+
+-- where no argument is left
+pub total_at-none : (cells : List ℤ) (place : ℕ) (counts : List ℕ) → total_at cells place counts (ways []) ≡ unwrap_or (slice_get cells place) (pos 0)
+total_at-none cells place [] = omega (arith, ints)
+total_at-none cells place (count ∷ counts) = omega (arith, ints)
+
+-- one more argument leads to its place
+pub total_at-next : (cells : List ℤ) (place : ℕ) (counts : List ℕ) (k : ℕ) (ws : List (List ℕ)) → total_at cells place counts (map (λ members. k ∷ members) ws) ≡ total_at cells (place_after place counts k) (drop 1 counts) ws
+total_at-next cells place counts k [] = refl
+total_at-next cells place [] k (w ∷ ws) = rw (total_at-next cells place [] k ws) refl
+total_at-next cells place (count ∷ counts) k (w ∷ ws) = rw (total_at-next cells place (count ∷ counts) k ws) refl
+
+total_at-append : (cells : List ℤ) (place : ℕ) (counts : List ℕ) (vs ws : List (List ℕ)) → total_at cells place counts (vs ++ ws) ≡ total_at cells place counts vs +ℤ total_at cells place counts ws
+total_at-append cells place counts [] ws = omega (arith, ints)
+total_at-append cells place counts (v ∷ vs) ws = let e = total_at-append cells place counts vs ws in omega (arith, ints)
+
+-- the ways that begin with one of these members
+abbrev pub ways_from : List ℕ → List (List ℕ) → List (List ℕ)
+ways_from set rest = flat_map (λ k. map (λ members. k ∷ members) rest) set
+
+pub total_at-step : (cells : List ℤ) (place : ℕ) (counts : List ℕ) (rest : List (List ℕ)) (set : List ℕ) (i k : ℕ) → i < length set → k ≡ get_or set i 0 → total_at cells place counts (ways_from (drop i set) rest) ≡ total_at cells (place_after place counts k) (drop 1 counts) rest +ℤ total_at cells place counts (ways_from (drop (i + 1) set) rest)
+total_at-step cells place counts rest set i k h e =
+    rw (add-one, drop-cons set i 0, ← e, total_at-append cells place counts (map (λ members. k ∷ members) rest) (ways_from (drop (suc i) set) rest), total_at-next cells place counts k rest) refl
+
+-- the cells of a model's table, as a list
+pub total_of-at : (m : Model) (t : ℕ) (cells : List ℤ) → ((place : ℕ) → number_cell (cells_of m t) place ≡ unwrap_or (slice_get cells place) (pos 0)) → (ws : List (List ℕ)) → total_of m t ws ≡ total_at cells 0 (table_counts m t) ws
+total_of-at m t cells h [] = refl
+total_of-at m t cells h (w ∷ ws) = rw (h (place_in m t w), total_of-at m t cells h ws) refl
 
 -- a total and what is left of it, one item later
 pub sum-step : (total item rest left after all : ℤ) → after ≡ total +ℤ item → left ≡ item +ℤ rest → total +ℤ left ≡ all → after +ℤ rest ≡ all

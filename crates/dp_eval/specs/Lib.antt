@@ -1,3 +1,5 @@
 pub mod Answers
 pub mod Places
 pub mod Terms
+pub mod Totals
+pub mod Fits

@@ -1,8 +1,8 @@
--- Arguments of a `sum` after they were evaluated.
+-- The arguments of a table's cell and of a `sum`, after they were evaluated.
 use Rattle.std.specs.Prelude.{ℕ, List, [], ◌∷◌, map, ◌⊎◌, ℤ, Result, Ok}
 use Rattle.std.proofs.Common.{inl, inr}
 use Rattle.dp_base.specs.Results.{◌>>=◌, in_turn}
-use Rattle.dp_model.specs.Evaluation.{member_of, members_of, choices_of, table_counts, total_of, ways, ArgValue, CondValue, NumValue, SetValue, arg_step, cond_step, num_step, set_step, num_value}
+use Rattle.dp_model.specs.Evaluation.{member_of, members_of, place_in, choices_of, table_counts, total_of, ways, ArgValue, CondValue, NumValue, SetValue, arg_step, cond_step, num_step, set_step, num_value}
 use Rattle.dp_model.specs.Costs.{ranged}
 use Rattle.dp_model.specs.declared.whole.Model.{Model}
 use Rattle.dp_model.specs.declared.parts.PlainState.{PlainState}
@@ -11,6 +11,10 @@ use Rattle.dp_model.specs.declared.trees.Num as nums
 use Rattle.dp_model.specs.declared.answers.FaultKind.{FaultKind}
 use Rattle.dp_eval.specs.declared.sums.Term.{Term}
 use Rattle.dp_eval.specs.declared.sums.Term.TheVariants.{Number, Members}
+
+-- the arguments of a table as members, and the cell at the place that they lead to
+abbrev pub at_members : {A : Type 0} → Model → ℕ → (ℕ → A) → List ℤ → Result A FaultKind
+at_members m t cell numbers = members_of (table_counts m t) numbers >>= λ members. Ok (cell (place_in m t members))
 
 abbrev pub term_value : Term → ℤ ⊎ List ℕ
 term_value (Number n) = inl n
@@ -25,6 +29,10 @@ choice_of count (inr set) = Ok set
 abbrev pub sum_value : Model → ℕ → List (ℤ ⊎ List ℕ) → Result ℤ FaultKind
 sum_value m t given = choices_of (table_counts m t) given >>= λ choices. ranged (total_of m t (ways choices))
 
+-- numbers in a state, in order
+abbrev pub num_values : Model → PlainState → List nums.Num → List ℕ → Result (List ℤ) FaultKind
+num_values m s ns given = in_turn (λ (n : NumValue). n given) (map (num_value m s) ns)
+
 -- an argument of a `sum` in a state, and all of them in order
 
 abbrev pub arg_value : Model → PlainState → args.Arg → ArgValue
@@ -32,7 +40,3 @@ arg_value m s = args.fold-Arg ArgValue CondValue NumValue SetValue arg_step (con
 
 abbrev pub term_values : Model → PlainState → List args.Arg → List ℕ → Result (List (ℤ ⊎ List ℕ)) FaultKind
 term_values m s terms given = in_turn (λ (a : ArgValue). a given) (map (arg_value m s) terms)
-
--- the arguments of a table in a state, as members
-abbrev pub member_values : Model → PlainState → ℕ → List nums.Num → List ℕ → Result (List ℕ) FaultKind
-member_values m s t ns given = in_turn (λ (n : NumValue). n given) (map (num_value m s) ns) >>= λ zs. members_of (table_counts m t) zs

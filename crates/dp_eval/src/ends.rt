@@ -1,3 +1,5 @@
+//! What an evaluator ends with where it has no value.
+
 ghost use Rattle.std.specs.Prelude.{◌≡◌};
 ghost use Rattle.dp_eval.specs.declared.ends.EvalEnd.TheVariants.{Fault, Memory};
 

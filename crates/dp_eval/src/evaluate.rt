@@ -1,90 +1,22 @@
-//! The evaluators, one arm for each form of expression.
+//! The evaluators, one arm for each form of expression. Operands are evaluated from left to right, and then the
+//! operation is tested.
 
-ghost use Rattle.std.specs.Prelude.{◌≡◌, ◌∷◌, ◌++◌, [], map, slice_index, IfOk};
-ghost use Rattle.std.specs.List.{range_with_len};
+ghost use Rattle.std.specs.Prelude.{◌≡◌, ◌∷◌, ◌++◌, [], map, IfOk};
 ghost use Rattle.dp_model.specs.declared.whole.Model.{Model};
 ghost use Rattle.dp_model.specs.declared.parts.PlainState.{PlainState};
-ghost use Rattle.dp_base.specs.Results.{in_turn};
-ghost use Rattle.dp_model.specs.Evaluation.{count_of, each_holds, range_of, num_value, set_value, cond_value, NumValue};
+ghost use Rattle.dp_model.specs.Evaluation.{count_of, each_holds, num_value, set_value, cond_value};
 ghost use Rattle.dp_eval.specs.Answers.{Answers, AnswersBy};
-ghost use Rattle.dp_eval.specs.Terms.{term_value, arg_value, member_values, term_values};
+ghost use Rattle.dp_eval.specs.Terms.{num_values, term_value, arg_value, term_values};
 
 use crate::ends::EvalEnd;
 use crate::numbers::{compares, member_of, operate};
-use crate::sets::{has, is_subset, others, same_members, set_operation, with, without};
+use crate::objects::set_count;
+use crate::parameters::{parameter, range_of, with_more};
+use crate::sets::{CountedSet, has, is_subset, others, same_members, set_operation, with, without};
 use crate::sums::{Term, sum_of};
-use crate::tables::{
-    cells_object, copied, count_of, members_of, number_cell, number_in, set_cell, set_in,
-    truth_cell, variable_object,
-};
-use dp_model::{Arg, Cond, Model, Num, Over, PlainState, Seq, SetEx};
-use std::alloc::{AllocError, Global};
-
-/// The object type of a set expression, which is the same in each state.
-fn set_object(model: &Model, e: &SetEx, s: &PlainState) -> u32
-    ensures { result ≡ (set_value model.now s.now e.now).0 }
-{
-    match e {
-        SetEx::Var(v) => variable_object(model, *v),
-        SetEx::Cell(t, _) => cells_object(model, *t),
-        SetEx::Op(_, a, _) => set_object(model, a.get(), s),
-        SetEx::Not(a) => set_object(model, a.get(), s),
-        SetEx::With(_, a) => set_object(model, a.get(), s),
-        SetEx::Without(_, a) => set_object(model, a.get(), s),
-        SetEx::If(_, a, _) => set_object(model, a.get(), s),
-    }
-}
-
-/// How many members the object type of a set expression has.
-fn set_count(model: &Model, e: &SetEx, s: &PlainState) -> u32
-    ensures { result ≡ count_of model.now (set_value model.now s.now e.now).0 }
-{
-    count_of(model, set_object(model, e, s))
-}
-
-/// The value of a parameter.
-fn parameter(args: &Seq<u32>, p: u32) -> u32
-    ensures { result ≡ slice_index args.now p }
-{
-    match args.list().get(p as usize) {
-        Some(k) => *k,
-        None => 0,
-    }
-}
-
-/// The values of the parameters, with one more.
-fn with_more(alloc: Global, args: &Seq<u32>, member: u32) -> Result<Seq<u32>, AllocError>
-    ensures { IfOk result (λ more. more ≡ args.now ++ member ∷ []) }
-{
-    let mut more = Vec::from_slice(alloc, args.list())?;
-    more.push(member)?;
-    Ok(Seq::of(more))
-}
-
-/// The members that a `forall` ranges over.
-fn range_of(
-    alloc: Global,
-    model: &Model,
-    s: &PlainState,
-    over: Over,
-) -> Result<Seq<u32>, AllocError>
-    ensures { IfOk result (λ members. members ≡ range_of model.now s.now over) }
-{
-    match over {
-        Over::Object(object) => Ok(Seq::of(every_member(alloc, count_of(model, object))?)),
-        Over::Members(v) => set_in(alloc, s, v),
-    }
-}
-
-fn every_member(alloc: Global, count: u32) -> Result<Vec<u32>, AllocError>
-    ensures { IfOk result (λ members. members.items ≡ range_with_len 0 count) }
-{
-    let mut members = Vec::new(alloc);
-    for member in 0..count {
-        members.push(member)?;
-    }
-    Ok(members)
-}
+use crate::tables::{number_cell, number_in, set_cell, set_in, truth_cell};
+use dp_model::{Arg, Cond, Model, Num, PlainState, Seq, SetEx};
+use std::alloc::Global;
 
 /// The value of a number expression in a state, with these values of the parameters, or the fault that it meets.
 #[cycle(eval)]
@@ -102,16 +34,16 @@ pub fn eval_num(
         Num::Var(v) => Ok(number_in(s, *v)),
         Num::Param(p) => Ok(i64::from(parameter(args, *p))),
         Num::Cell(t, ns) => {
-            let members = eval_members(alloc, model, *t, ns, args, s)?;
-            Ok(number_cell(model, *t, members.list()))
+            let numbers = eval_nums(alloc, model, ns, args, s)?;
+            number_cell(alloc, model, *t, &numbers)
         }
         Num::Sum(t, terms) => {
             let terms = eval_terms(alloc, model, terms, args, s)?;
             sum_of(alloc, model, *t, terms.list())
         }
         Num::Size(set) => {
-            let set = eval_set(alloc, model, set.get(), args, s)?;
-            Ok(set.list().len() as i64)
+            let set = eval_counted(alloc, model, set.get(), args, s)?;
+            Ok(set.members.list().len() as i64)
         }
         Num::Op(op, a, b) => {
             let x = eval_num(alloc, model, a.get(), args, s)?;
@@ -129,7 +61,6 @@ pub fn eval_num(
 }
 
 /// The members of a set expression in a state, with these values of the parameters, or the fault that it meets.
-#[cycle(eval)]
 pub fn eval_set(
     alloc: Global,
     model: &Model,
@@ -139,47 +70,67 @@ pub fn eval_set(
 ) -> Result<Seq<u32>, EvalEnd>
     ensures { Answers result ((set_value model.now s.now e.now).1 args.now) }
 {
+    let CountedSet { members, .. } = eval_counted(alloc, model, e, args, s)?;
+    Ok(members)
+}
+
+/// The same, with the count of the set's object type, so that no operator has to look for it.
+#[cycle(eval)]
+fn eval_counted(
+    alloc: Global,
+    model: &Model,
+    e: &SetEx,
+    args: &Seq<u32>,
+    s: &PlainState,
+) -> Result<CountedSet, EvalEnd>
+    ensures count { IfOk result
+        (λ set. set.count ≡ count_of model.now (set_value model.now s.now e.now).0) }
+    ensures members { AnswersBy (λ (set : CountedSet). set.members) result
+        ((set_value model.now s.now e.now).1 args.now) }
+{
     match e {
-        SetEx::Var(v) => Ok(set_in(alloc, s, *v)?),
+        SetEx::Var(v) => {
+            let count = set_count(model, e, s);
+            let members = set_in(alloc, s, *v)?;
+            Ok(CountedSet { count, members })
+        }
         SetEx::Cell(t, ns) => {
-            let members = eval_members(alloc, model, *t, ns, args, s)?;
-            Ok(set_cell(alloc, model, *t, members.list())?)
+            let numbers = eval_nums(alloc, model, ns, args, s)?;
+            set_cell(alloc, model, *t, &numbers)
         }
         SetEx::Op(op, a, b) => {
-            let x = eval_set(alloc, model, a.get(), args, s)?;
-            let y = eval_set(alloc, model, b.get(), args, s)?;
-            let count = set_count(model, a.get(), s);
-            Ok(Seq::of(set_operation(alloc, *op, count, x.list(), y.list())?))
+            let x = eval_counted(alloc, model, a.get(), args, s)?;
+            let y = eval_counted(alloc, model, b.get(), args, s)?;
+            Ok(set_operation(alloc, *op, &x, &y)?)
         }
         SetEx::Not(a) => {
-            let x = eval_set(alloc, model, a.get(), args, s)?;
-            Ok(Seq::of(others(alloc, set_count(model, a.get(), s), x.list())?))
+            let x = eval_counted(alloc, model, a.get(), args, s)?;
+            Ok(others(alloc, &x)?)
         }
         SetEx::With(n, a) => {
             let z = eval_num(alloc, model, n.get(), args, s)?;
-            let x = eval_set(alloc, model, a.get(), args, s)?;
-            let count = set_count(model, a.get(), s);
-            let member = member_of(count, z)?;
-            Ok(Seq::of(with(alloc, count, x.list(), member)?))
+            let x = eval_counted(alloc, model, a.get(), args, s)?;
+            Ok(with(alloc, &x, member_of(x.count, z)?)?)
         }
         SetEx::Without(n, a) => {
             let z = eval_num(alloc, model, n.get(), args, s)?;
-            let x = eval_set(alloc, model, a.get(), args, s)?;
-            let count = set_count(model, a.get(), s);
-            let member = member_of(count, z)?;
-            Ok(Seq::of(without(alloc, count, x.list(), member)?))
+            let x = eval_counted(alloc, model, a.get(), args, s)?;
+            Ok(without(alloc, &x, member_of(x.count, z)?)?)
         }
         SetEx::If(c, a, b) => {
             if eval_cond(alloc, model, c.get(), args, s)? {
-                eval_set(alloc, model, a.get(), args, s)
+                eval_counted(alloc, model, a.get(), args, s)
             } else {
-                eval_set(alloc, model, b.get(), args, s)
+                let CountedSet { members, .. } = eval_counted(alloc, model, b.get(), args, s)?;
+                let count = set_count(model, e, s);
+                Ok(CountedSet { count, members })
             }
         }
     }
 }
 
-/// Whether a condition holds in a state, with these values of the parameters, or the fault that it meets.
+/// Whether a condition holds in a state, with these values of the parameters, or the fault that it meets. `and`,
+/// `or` and `if` evaluate only what decides them.
 #[cycle(eval)]
 pub fn eval_cond(
     alloc: Global,
@@ -193,8 +144,8 @@ pub fn eval_cond(
     match e {
         Cond::Fixed(b) => Ok(*b),
         Cond::Cell(t, ns) => {
-            let members = eval_members(alloc, model, *t, ns, args, s)?;
-            Ok(truth_cell(model, *t, members.list()))
+            let numbers = eval_nums(alloc, model, ns, args, s)?;
+            truth_cell(alloc, model, *t, &numbers)
         }
         Cond::Numbers(op, a, b) => {
             let x = eval_num(alloc, model, a, args, s)?;
@@ -202,47 +153,53 @@ pub fn eval_cond(
             Ok(compares(*op, x, y))
         }
         Cond::SameSet(a, b) => {
-            let x = eval_set(alloc, model, a, args, s)?;
-            let y = eval_set(alloc, model, b, args, s)?;
-            Ok(same_members(x.list(), y.list()))
+            let x = eval_counted(alloc, model, a, args, s)?;
+            let y = eval_counted(alloc, model, b, args, s)?;
+            Ok(same_members(&x, &y))
         }
         Cond::OtherSet(a, b) => {
-            let x = eval_set(alloc, model, a, args, s)?;
-            let y = eval_set(alloc, model, b, args, s)?;
-            Ok(!same_members(x.list(), y.list()))
+            let x = eval_counted(alloc, model, a, args, s)?;
+            let y = eval_counted(alloc, model, b, args, s)?;
+            Ok(!same_members(&x, &y))
         }
         Cond::IsIn(n, a) => {
             let z = eval_num(alloc, model, n, args, s)?;
-            let x = eval_set(alloc, model, a, args, s)?;
-            Ok(has(x.list(), member_of(set_count(model, a, s), z)?))
+            let x = eval_counted(alloc, model, a, args, s)?;
+            Ok(has(x.members.list(), member_of(x.count, z)?))
         }
         Cond::Subset(a, b) => {
-            let x = eval_set(alloc, model, a, args, s)?;
-            let y = eval_set(alloc, model, b, args, s)?;
-            Ok(is_subset(x.list(), y.list()))
+            let x = eval_counted(alloc, model, a, args, s)?;
+            let y = eval_counted(alloc, model, b, args, s)?;
+            Ok(is_subset(alloc, &x, &y)?)
         }
-        Cond::Empty(a) => Ok(eval_set(alloc, model, a, args, s)?.list().is_empty()),
+        Cond::Empty(a) => Ok(
+            eval_counted(alloc, model, a, args, s)?
+                .members
+                .list()
+                .is_empty(),
+        ),
         Cond::Not(c) => Ok(!eval_cond(alloc, model, c.get(), args, s)?),
         Cond::And(a, b) => {
-            if eval_cond(alloc, model, a.get(), args, s)? {
-                eval_cond(alloc, model, b.get(), args, s)
-            } else {
-                Ok(false)
-            }
+            Ok(
+                eval_cond(alloc, model, a.get(), args, s)?
+                    && eval_cond(alloc, model, b.get(), args, s)?,
+            )
         }
         Cond::Or(a, b) => {
-            if eval_cond(alloc, model, a.get(), args, s)? {
-                Ok(true)
-            } else {
-                eval_cond(alloc, model, b.get(), args, s)
-            }
+            Ok(
+                eval_cond(alloc, model, a.get(), args, s)?
+                    || eval_cond(alloc, model, b.get(), args, s)?,
+            )
         }
         Cond::If(c, a, b) => {
-            if eval_cond(alloc, model, c.get(), args, s)? {
-                eval_cond(alloc, model, a.get(), args, s)
-            } else {
-                eval_cond(alloc, model, b.get(), args, s)
-            }
+            let decided = eval_cond(alloc, model, c.get(), args, s)?;
+            eval_cond(
+                alloc,
+                model,
+                if decided { a.get() } else { b.get() },
+                args,
+                s,
+            )
         }
         Cond::All(over, c) => {
             let members = range_of(alloc, model, s, *over)?;
@@ -282,30 +239,13 @@ fn eval_nums(
     args: &Seq<u32>,
     s: &PlainState,
 ) -> Result<Seq<i64>, EvalEnd>
-    ensures { Answers result
-        (in_turn (λ (n : NumValue). n args.now) (map (num_value model.now s.now) ns.now)) }
+    ensures { Answers result (num_values model.now s.now ns.now args.now) }
 {
     let mut values = Vec::new(alloc);
     for n in ns.list() {
         values.push(eval_num(alloc, model, n, args, s)?)?;
     }
     Ok(Seq::of(values))
-}
-
-/// The arguments of a table as members: all are evaluated, and then tested in order.
-#[cycle(eval)]
-fn eval_members(
-    alloc: Global,
-    model: &Model,
-    t: u32,
-    ns: &Seq<Num>,
-    args: &Seq<u32>,
-    s: &PlainState,
-) -> Result<Seq<u32>, EvalEnd>
-    ensures { Answers result (member_values model.now s.now t ns.now args.now) }
-{
-    let numbers = eval_nums(alloc, model, ns, args, s)?;
-    members_of(alloc, model, t, numbers.list())
 }
 
 /// An argument of a `sum`.
@@ -321,7 +261,10 @@ fn eval_term(
 {
     match term {
         Arg::One(n) => Ok(Term::Number(eval_num(alloc, model, n, args, s)?)),
-        Arg::Many(set) => Ok(Term::Members(eval_set(alloc, model, set, args, s)?)),
+        Arg::Many(set) => {
+            let CountedSet { members, .. } = eval_counted(alloc, model, set, args, s)?;
+            Ok(Term::Members(members))
+        }
     }
 }
 

@@ -4,10 +4,14 @@
 
 mod ends;
 mod evaluate;
+mod laws;
 mod numbers;
+mod objects;
+mod parameters;
 mod sets;
 mod sums;
 mod tables;
 
 pub use ends::EvalEnd;
 pub use evaluate::{eval_cond, eval_num, eval_set};
+pub use laws::{reads_fit, values_fit};

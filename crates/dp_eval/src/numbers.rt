@@ -1,3 +1,5 @@
+//! Numbers: the range of results, operations, comparisons, and numbers as members of an object type.
+
 ghost use Rattle.std.specs.Prelude.{◌≡◌, ◌≢◌, pos, ◌*ℤ◌, int_rem};
 ghost use Rattle.dp_model.specs.Costs.{ranged};
 ghost use Rattle.dp_model.specs.Evaluation.{operate, compares, member_of};
@@ -36,6 +38,7 @@ fn rest(a: i64, b: i64) -> i128
     i128::from(a) % i128::from(b)
 }
 
+/// What a division leaves, whose divisor is tested.
 fn rest_of(a: i64, b: i64) -> Result<i64, FaultKind>
     ensures { result ≡ operate NumOp.Rest a b }
 {
@@ -66,6 +69,7 @@ pub fn operate(op: NumOp, a: i64, b: i64) -> Result<i64, FaultKind>
     }
 }
 
+/// Whether two numbers compare so.
 pub fn compares(op: Compare, a: i64, b: i64) -> bool
     ensures { result ≡ compares op a b }
 {

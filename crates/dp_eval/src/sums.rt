@@ -1,14 +1,15 @@
-//! The arguments of a `sum`, each way to choose them, and the total of the cells.
+//! The arguments of a `sum`, and the total of the cells at each way to choose one member for each argument.
 
-ghost use Rattle.std.specs.Prelude.{◌≡◌, ◌∷◌, ◌++◌, ◌^◌, ◌≤ℤ◌, ◌+ℤ◌, pos, neg_ℤ, map, IfOk, OnOk};
-ghost use Rattle.std.specs.List.{flat_map};
-ghost use Rattle.dp_model.specs.Evaluation.{counts_of, choices_of, ways, total_of};
+ghost use Rattle.std.specs.Prelude.{◌≡◌, ℕ, ◌+ℤ◌, map, drop, IfOk};
+ghost use Rattle.dp_model.specs.Evaluation.{choices_of, ways, total_of};
 ghost use Rattle.dp_eval.specs.Answers.{Answers, Pushes};
+ghost use Rattle.dp_eval.specs.Places.{IsPlace};
 ghost use Rattle.dp_eval.specs.Terms.{term_value, choice_of, sum_value};
+ghost use Rattle.dp_eval.specs.Totals.{place_after, total_at};
 
 use crate::ends::EvalEnd;
 use crate::numbers::{member_of, ranged};
-use crate::tables::{arguments, copied, count_of, number_cell};
+use crate::tables::{copied, next_place, number_at, numbers_in, table_counts};
 use dp_model::{Model, Seq};
 use std::alloc::{AllocError, Global};
 
@@ -37,106 +38,87 @@ fn choice_of(alloc: Global, count: u32, term: &Term) -> Result<Seq<u32>, EvalEnd
 /// Pushes the choices for the arguments that are left, tested in order.
 fn push_choices(
     alloc: Global,
-    model: &Model,
-    objects: &[u32],
+    counts: &[u32],
     terms: &[Term],
     choices: &mut Vec<Seq<u32>>,
 ) -> Result<(), EvalEnd>
     ensures { Pushes result choices.old.items
-        (choices_of (counts_of model.now objects.now) (map term_value terms.now))
-        choices.new.items }
+        (choices_of counts.now (map term_value terms.now)) choices.new.items }
 {
-    let [object, objects @ ..] = objects else {
+    let [count, counts @ ..] = counts else {
         return Ok(());
     };
     let [term, terms @ ..] = terms else {
         return Ok(());
     };
-    choices.push(choice_of(alloc, count_of(model, *object), term)?)?;
-    push_choices(alloc, model, objects, terms, choices)
+    choices.push(choice_of(alloc, *count, term)?)?;
+    push_choices(alloc, counts, terms, choices)
 }
 
-fn prefixed(alloc: Global, member: u32, members: &Seq<u32>) -> Result<Seq<u32>, AllocError>
-    ensures { IfOk result (λ way. way ≡ member ∷ members.now) }
+/// The total with one more. An `i128` has room for the cells of 2^64 choices, which no call lives to add.
+fn added(total: i128, more: i128) -> Result<i128, AllocError>
+    ensures { IfOk result (λ sum. sum ≡ total +ℤ more) }
 {
-    let mut way = Vec::new(alloc);
-    way.push(member)?;
-    way.extend_from_slice(members.list())?;
-    Ok(Seq::of(way))
+    total.checked_add(more).ok_or(AllocError)
 }
 
-/// Pushes each of the ways with a member before it.
-fn push_prefixed(
-    alloc: Global,
-    member: u32,
-    rest: &[Seq<u32>],
-    ways: &mut Vec<Seq<u32>>,
-) -> Result<(), AllocError>
-    ensures { OnOk result
-        (ways.new.items ≡ ways.old.items ++ map (λ members. member ∷ members) rest.now) }
+/// The place with one more argument, where counts are left for it and those after it.
+fn place_after(at: Option<usize>, counts: &[u32], member: u32) -> Option<usize>
+    ensures { (place : ℕ) → IsPlace place at
+        → IsPlace (place_after place counts.now member) result }
 {
-    for members in rest {
-        ways.push(prefixed(alloc, member, members)?)?;
+    match counts {
+        [count, ..] => next_place(at, *count, member),
+        [] => at,
     }
-    Ok(())
 }
 
-/// Pushes each of the ways with each member of the set before it.
-fn push_ways(
-    alloc: Global,
-    set: &[u32],
-    rest: &[Seq<u32>],
-    ways: &mut Vec<Seq<u32>>,
-) -> Result<(), AllocError>
-    ensures { OnOk result (ways.new.items ≡ ways.old.items
-        ++ flat_map (λ k. map (λ members. k ∷ members) rest.now) set.now) }
+fn after_first(counts: &[u32]) -> &[u32]
+    ensures { result.now ≡ drop 1 counts.now }
 {
-    for member in set {
-        push_prefixed(alloc, *member, rest, ways)?;
+    match counts {
+        [_, rest @ ..] => rest,
+        [] => counts,
     }
-    Ok(())
 }
 
-/// Each way to choose one member of each set.
-fn ways(alloc: Global, sets: &[Seq<u32>]) -> Result<Seq<Seq<u32>>, AllocError>
-    ensures { IfOk result (λ all. all ≡ ways sets.now) }
+/// The total of the cells behind a place, at each way to choose one member for each argument that is left.
+fn total_from(
+    cells: &[i64],
+    at: Option<usize>,
+    counts: &[u32],
+    choices: &[Seq<u32>],
+) -> Result<i128, AllocError>
+    ensures { (place : ℕ) → IsPlace place at
+        → IfOk result (λ total. total ≡ total_at cells.now place counts.now (ways choices.now)) }
 {
-    let mut all = Vec::new(alloc);
-    let [set, sets @ ..] = sets else {
-        all.push(Seq::of(Vec::new(alloc)))?;
-        return Ok(Seq::of(all));
+    let [set, choices @ ..] = choices else {
+        return Ok(i128::from(number_at(cells, at)));
     };
-    let rest = ways(alloc, sets)?;
-    push_ways(alloc, set.list(), rest.list(), &mut all)?;
-    Ok(Seq::of(all))
-}
-
-/// The total with one more cell, where it has room for it.
-fn added(total: i128, cell: i64) -> i128
-    requires above { neg_ℤ (pos (2 ^ 126)) ≤ℤ total }
-    requires below { total ≤ℤ pos (2 ^ 126) }
-    ensures { result ≡ total +ℤ cell }
-{
-    total + i128::from(cell)
-}
-
-/// The total of the cells at these ways. There are fewer than 2^64 of them, so it has room.
-fn total_of(model: &Model, t: u32, ways: &[Seq<u32>]) -> i128
-    ensures { result ≡ total_of model.now t ways.now }
-{
+    let rest = after_first(counts);
     let mut total = 0;
-    for members in ways {
-        total = added(total, number_cell(model, t, members.list()));
+    for member in set.list() {
+        let next = place_after(at, counts, *member);
+        total = added(total, total_from(cells, next, rest, choices)?)?;
     }
-    total
+    Ok(total)
+}
+
+/// The total of the cells of a table at each way to choose one member for each argument.
+fn total_of(alloc: Global, model: &Model, t: u32, choices: &[Seq<u32>]) -> Result<i128, AllocError>
+    ensures { IfOk result (λ total. total ≡ total_of model.now t (ways choices.now)) }
+{
+    let counts = table_counts(alloc, model, t)?;
+    total_from(numbers_in(model, t), Some(0), &counts, choices)
 }
 
 /// The sum of a table over its evaluated arguments, which is tested once, on its whole total.
 pub fn sum_of(alloc: Global, model: &Model, t: u32, terms: &[Term]) -> Result<i64, EvalEnd>
     ensures { Answers result (sum_value model.now t (map term_value terms.now)) }
 {
+    let counts = table_counts(alloc, model, t)?;
     let mut choices = Vec::new(alloc);
-    push_choices(alloc, model, arguments(model, t), terms, &mut choices)?;
-    let all = ways(alloc, &choices)?;
-    Ok(ranged(total_of(model, t, all.list()))?)
+    push_choices(alloc, &counts, terms, &mut choices)?;
+    let total = total_of(alloc, model, t, &choices)?;
+    Ok(ranged(total)?)
 }

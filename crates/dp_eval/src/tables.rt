@@ -4,11 +4,13 @@ ghost use Rattle.std.specs.Prelude.{◌≡◌, ◌+◌, ◌*◌, ℕ, [], pos, f
 ghost use Rattle.std.specs.Option.{option_copied};
 ghost use Rattle.dp_model.specs.declared.parts.TableData.{TableData};
 ghost use Rattle.dp_model.specs.Evaluation.{count_of, counts_of, kind_of, object_of_kind, number_in, set_in, number_held, set_held, members_of, table_counts, cells_of, cells_object, place_from, place_in, number_cell, truth_cell, set_cell};
-ghost use Rattle.dp_eval.specs.Answers.{Answers, Pushes};
+ghost use Rattle.dp_eval.specs.Answers.{Answers, AnswersBy, Pushes};
 ghost use Rattle.dp_eval.specs.Places.{IsPlace};
+ghost use Rattle.dp_eval.specs.Terms.{at_members};
 
 use crate::ends::EvalEnd;
 use crate::numbers::member_of;
+use crate::sets::CountedSet;
 use dp_model::{Cells, Model, PlainState, PlainValue, Seq, TableData, VarKind};
 use std::alloc::{AllocError, Global};
 
@@ -35,6 +37,7 @@ pub fn variable_object(model: &Model, v: u32) -> u32
     }
 }
 
+/// The number that a variable has in a state.
 pub fn number_in(s: &PlainState, v: u32) -> i64
     ensures { result ≡ number_in s.now v }
 {
@@ -44,6 +47,7 @@ pub fn number_in(s: &PlainState, v: u32) -> i64
     }
 }
 
+/// The members of the set that a variable has in a state.
 pub fn set_in(alloc: Global, s: &PlainState, v: u32) -> Result<Seq<u32>, AllocError>
     ensures { IfOk result (λ set. set ≡ set_in s.now v) }
 {
@@ -53,6 +57,7 @@ pub fn set_in(alloc: Global, s: &PlainState, v: u32) -> Result<Seq<u32>, AllocEr
     }
 }
 
+/// A copy of a list.
 pub fn copied(alloc: Global, items: &Seq<u32>) -> Result<Seq<u32>, AllocError>
     ensures { IfOk result (λ copy. copy ≡ items.now) }
 {
@@ -66,7 +71,7 @@ fn table<'m>(model: &'m Model, t: u32) -> Option<&'m TableData>
 }
 
 /// The object types of a table's arguments.
-pub fn arguments(model: &Model, t: u32) -> &[u32]
+fn arguments(model: &Model, t: u32) -> &[u32]
     ensures { counts_of model.now result.now ≡ table_counts model.now t }
 {
     match table(model, t) {
@@ -75,8 +80,19 @@ pub fn arguments(model: &Model, t: u32) -> &[u32]
     }
 }
 
+/// How many members the object type of each argument of a table has.
+pub fn table_counts(alloc: Global, model: &Model, t: u32) -> Result<Vec<u32>, AllocError>
+    ensures { IfOk result (λ counts. counts.items ≡ table_counts model.now t) }
+{
+    let mut counts = Vec::new(alloc);
+    for object in arguments(model, t) {
+        counts.push(count_of(model, *object))?;
+    }
+    Ok(counts)
+}
+
 /// The place of a cell whose first arguments lead to a place, and whose next argument is this member.
-fn next_place(at: Option<usize>, count: u32, member: u32) -> Option<usize>
+pub fn next_place(at: Option<usize>, count: u32, member: u32) -> Option<usize>
     ensures { (place : ℕ) → IsPlace place at → IsPlace (place * count + member) result }
 {
     if count == 0 {
@@ -128,12 +144,7 @@ fn push_members(
 }
 
 /// The arguments of a table as members, tested in order.
-pub fn members_of(
-    alloc: Global,
-    model: &Model,
-    t: u32,
-    numbers: &[i64],
-) -> Result<Seq<u32>, EvalEnd>
+fn members_of(alloc: Global, model: &Model, t: u32, numbers: &[i64]) -> Result<Seq<u32>, EvalEnd>
     ensures { Answers result (members_of (table_counts model.now t) numbers.now) }
 {
     let mut members = Vec::new(alloc);
@@ -150,7 +161,8 @@ fn cells(model: &Model, t: u32) -> Option<&Cells>
     }
 }
 
-fn number_at(xs: &[i64], at: Option<usize>) -> i64
+/// The number at a place, or 0 past the end.
+pub fn number_at(xs: &[i64], at: Option<usize>) -> i64
     ensures { (place : ℕ) → IsPlace place at
         → result ≡ unwrap_or (slice_get xs.now place) (pos 0) }
 {
@@ -180,40 +192,73 @@ fn set_at(alloc: Global, xs: &[Seq<u32>], at: Option<usize>) -> Result<Seq<u32>,
     }
 }
 
-/// The cell of a table of numbers at these members.
-pub fn number_cell(model: &Model, t: u32, members: &[u32]) -> i64
-    ensures { result ≡ number_cell (cells_of model.now t) (place_in model.now t members.now) }
+/// The cells of a table of numbers; none of another table.
+pub fn numbers_in(model: &Model, t: u32) -> &[i64]
+    ensures { (place : ℕ) → number_cell (cells_of model.now t) place
+        ≡ unwrap_or (slice_get result.now place) (pos 0) }
 {
     match cells(model, t) {
-        Some(Cells::Numbers(xs)) => number_at(xs.list(), place_in(model, t, members)),
-        _ => 0,
+        Some(Cells::Numbers(xs)) => xs.list(),
+        _ => &[],
     }
 }
 
-/// The cell of a table of truth values at these members.
-pub fn truth_cell(model: &Model, t: u32, members: &[u32]) -> bool
-    ensures { result ≡ truth_cell (cells_of model.now t) (place_in model.now t members.now) }
+/// The cells of a table of truth values; none of another table.
+fn truths_in(model: &Model, t: u32) -> &[bool]
+    ensures { (place : ℕ) → truth_cell (cells_of model.now t) place
+        ≡ unwrap_or (slice_get result.now place) false }
 {
     match cells(model, t) {
-        Some(Cells::Truths(xs)) => truth_at(xs.list(), place_in(model, t, members)),
-        _ => false,
+        Some(Cells::Truths(xs)) => xs.list(),
+        _ => &[],
     }
 }
 
-/// The cell of a table of sets at these members.
+/// The cells of a table of sets; none of another table.
+fn sets_in(model: &Model, t: u32) -> &[Seq<u32>]
+    ensures { (place : ℕ) → set_cell (cells_of model.now t) place
+        ≡ unwrap_or (slice_get result.now place) [] }
+{
+    match cells(model, t) {
+        Some(Cells::Sets(_, xs)) => xs.list(),
+        _ => &[],
+    }
+}
+
+/// The cell of a table of numbers at these arguments.
+pub fn number_cell(alloc: Global, model: &Model, t: u32, numbers: &Seq<i64>) -> Result<i64, EvalEnd>
+    ensures { Answers result
+        (at_members model.now t (number_cell (cells_of model.now t)) numbers.now) }
+{
+    let members = members_of(alloc, model, t, numbers.list())?;
+    Ok(number_at(numbers_in(model, t), place_in(model, t, members.list())))
+}
+
+/// The cell of a table of truth values at these arguments.
+pub fn truth_cell(alloc: Global, model: &Model, t: u32, numbers: &Seq<i64>) -> Result<bool, EvalEnd>
+    ensures { Answers result
+        (at_members model.now t (truth_cell (cells_of model.now t)) numbers.now) }
+{
+    let members = members_of(alloc, model, t, numbers.list())?;
+    Ok(truth_at(truths_in(model, t), place_in(model, t, members.list())))
+}
+
+/// The cell of a table of sets at these arguments.
 pub fn set_cell(
     alloc: Global,
     model: &Model,
     t: u32,
-    members: &[u32],
-) -> Result<Seq<u32>, AllocError>
-    ensures { IfOk result
-        (λ set. set ≡ set_cell (cells_of model.now t) (place_in model.now t members.now)) }
+    numbers: &Seq<i64>,
+) -> Result<CountedSet, EvalEnd>
+    ensures count { IfOk result
+        (λ set. set.count ≡ count_of model.now (cells_object (cells_of model.now t))) }
+    ensures members { AnswersBy (λ (set : CountedSet). set.members) result
+        (at_members model.now t (set_cell (cells_of model.now t)) numbers.now) }
 {
-    match cells(model, t) {
-        Some(Cells::Sets(_, xs)) => set_at(alloc, xs.list(), place_in(model, t, members)),
-        _ => Ok(Seq::of(Vec::new(alloc))),
-    }
+    let members = members_of(alloc, model, t, numbers.list())?;
+    let members = set_at(alloc, sets_in(model, t), place_in(model, t, members.list()))?;
+    let count = count_of(model, cells_object(model, t));
+    Ok(CountedSet { count, members })
 }
 
 /// The object type of a table's sets.

@@ -38,10 +38,10 @@ pub record Shut (p : Pass) (records : List ShardRecord) (opening best : ℕ) : T
 pub closed_rooted : (p : Pass) (records : List ShardRecord) (opening best : ℕ) → Ledger p records → Closed p records opening best → Rooted p records
 closed_rooted p records opening best ledger closed =
     record {
-      start = closed.target;
-      kept = λ i l n li k. (ledger.rows i l li).kept n k;
-      visited = ledger.visits;
-      made = λ i j from l n li h. (closed.made i j from l n li h).1;
+      start = λ i li. (closed.shards i li).target;
+      kept = λ i l n li k. ((ledger.shards i li).rows l).kept n k;
+      visited = λ i v li h. (ledger.shards i li).visits v h;
+      made = λ i j from l n li h. ((closed.shards i li).made j from l n h).1;
       sent = λ i j li lj x h. subst (λ (letters : List Letter). Has letters x) (closed.arrived i j li lj) h;
     }
 
@@ -62,7 +62,7 @@ pos_mono a b h = omega (arith, ints)
 pruned_bound : (p : Pass) (records : List ShardRecord) (opening best : ℕ) → Fair p → Closed p records opening best → (i : ℕ) → i < p.shards → (n : Node) → IsReached p.model n.state → IfSome n.cost InRange → IsFloor p.model p.prune n.state n.cost n.floor
     → IsPruned (record_of records i).pruned n → (steps : List ℕ) (value : ℤ) → Completion p.model n.state steps value → pos best ≤ℤ word_of p (join_onto p.model.join n.cost value)
 pruned_bound p records opening best fair closed i li n reach range floor pruned steps value done =
-    let h = closed.pruned i (record { node = n; best = pruned.0 }) li pruned.1 in
+    let h = (closed.shards i li).pruned (record { node = n; best = pruned.0 }) pruned.1 in
     let f = h.1 in
     let is = subst (IsFloor p.model p.prune n.state n.cost) f.1 floor in
     let below = fair.floors n.state n.cost f.0 reach range is steps value done in
@@ -98,7 +98,7 @@ by_step : (p : Pass) (records : List ShardRecord) (opening best : ℕ) (least : 
     → ((j : ℕ) (m : Node) → j < p.shards → Received p (record_of records j).start (record_of records j).received (suc l) m → (u : List ℕ) (v : ℤ) → Completion p.model m.state u v → least ≤ℤ word_of p (join_onto p.model.join m.cost v))
     → least ≤ℤ Worth p n w rest
 by_step p records opening best least shut below i place l n li got at t mid w step steps rest done on =
-    elim (shut.closed.accounted i place (visit_of l n) li at t step.considered (step_enabled p.model n.state t w mid step)) [
+    elim ((shut.closed.shards i li).accounted place (visit_of l n) at t step.considered (step_enabled p.model n.state t w mid step)) [
       | inl out ↦ absurd (leads_out p n t mid w step steps rest done out)
       | inr other ↦ elim other [
         | inl base ↦
@@ -166,18 +166,18 @@ covering p records opening best least shut i l n c li got got' covers bound step
 from_layer : (p : Pass) (records : List ShardRecord) (opening best : ℕ) (least : ℤ) (shut : Shut p records opening best) → least ≤ℤ pos best → DropsAbove p records least → (k l : ℕ) → l + k ≡ shut.closed.layers
     → (i : ℕ) (n : Node) → i < p.shards → Received p (record_of records i).start (record_of records i).received l n → (steps : List ℕ) (value : ℤ) → Completion p.model n.state steps value → least ≤ℤ word_of p (join_onto p.model.join n.cost value)
 from_layer p records opening best least shut below above zero l at i n li got steps value done =
-    let long = shut.closed.same_layers i li in
-    absurd (none_beyond p (record_of records i).rows l n (at_most l (length (record_of records i).rows) shut.closed.layers at long) (shut.closed.covered i l n li got))
+    let long = (shut.closed.shards i li).same_layers in
+    absurd (none_beyond p (record_of records i).rows l n (at_most l (length (record_of records i).rows) shut.closed.layers at long) ((shut.closed.shards i li).covered l n got))
   where
     at_most : (l a b : ℕ) → l + 0 ≡ b → a ≡ b → a ≤ l
     at_most l a b e f = omega arith
 from_layer p records opening best least shut below above (suc k) l at i n li got steps value done =
-    let c = shut.closed.covered i l n li got in
+    let c = (shut.closed.shards i li).covered l n got in
     elim c.1 [
       | inl kept ↦
           let got' = shut.rooted.kept i l c.0 li kept in
           covering p records opening best least shut i l n c.0 li got got' c.2
-          (λ u v done'. elim (shut.closed.fates i l c.0 li kept) [
+          (λ u v done'. elim ((shut.closed.shards i li).fates l c.0 kept) [
             | inl pruned ↦
                 let facts = known p records shut.inner shut.rooted i l c.0 li got' in
                 least_trans least (pos best) (word_of p (join_onto p.model.join c.0.cost v)) below
@@ -205,7 +205,7 @@ none_below : (p : Pass) (records : List ShardRecord) (opening best : ℕ) (least
 none_below p records opening best least shut below above steps cost solution =
     let i = p.owner p.model.target in
     let li = p.owned p.model.target in
-    let start = shut.closed.target i li in
+    let start = (shut.closed.shards i li).target in
     let n = target_received p i (record_of records i).start start refl in
     let is = (started p i (record_of records i).start n.0 start n.1).0 in
     let done = subst (λ (s : PlainState). Completion p.model s steps cost) (sym is.state) solution.completes in
@@ -230,7 +230,7 @@ law p records opening best inner trusted ledger closed =
       inner = inner;
       fair = fair p trusted;
       rooted = closed_rooted p records opening best ledger closed;
-      dropped = λ i l n li d. (ledger.rows i l li).dropped n d;
+      dropped = λ i l n li d. ((ledger.shards i li).rows l).dropped n d;
       closed = closed;
     } in (
       λ none. none_below p records opening best (pos best) shut (self (pos best)) (λ i l n li d. absurd (none i l n li d)),

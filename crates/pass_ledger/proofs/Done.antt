@@ -4,10 +4,10 @@ use Rattle.std.proofs.lemmas.List.{append-nil}
 use Rattle.std.proofs.lemmas.Bool.{cases_lt, cases_eq}
 use Rattle.dp_claims.specs.Enough.{Has}
 use Rattle.pass_ledger.specs.Letters.{of, layer_of, InGroups, states_at, all_states_at, told_at}
-use Rattle.pass_ledger.specs.Passes.{Pass, StartsInner}
+use Rattle.pass_ledger.specs.Passes.{Pass}
 use Rattle.pass_ledger.specs.Rows.{row, Received}
 use Rattle.pass_ledger.specs.Records.{Accounted, IsPruned, IsFaultAt, visit_of, record_of, Own, Done, Together}
-use Rattle.pass_ledger.specs.Ledgers.{Ledger, Closed, Totals, IsBest, PrunesAbove, AllDone, IsSound, LawRecords}
+use Rattle.pass_ledger.specs.Ledgers.{Ledger, IsClosedOf, Closed, Totals, IsBest, PrunesAbove, AllDone, IsSound, LawRecords}
 use Rattle.state_layout.specs.declared.node.Node.{Node}
 use Rattle.pass_ledger.specs.declared.mail.Letter.{Letter}
 use Rattle.pass_ledger.specs.declared.mail.Letter.TheVariants.{State, Mark}
@@ -186,35 +186,37 @@ totals p records s done i li j f l y t h =
 
 done_ledger : (p : Pass) (records : List ShardRecord) → length records ≡ p.shards → Together p records → Ledger p records
 done_ledger p records long s =
-    record {
-      shards = long;
-      rows = λ i l li. (s.own i li).rows l;
-      visits = λ i v li h. (s.own i li).turns.visited v h;
-      once = λ i li. (s.own i li).turns.once;
-    }
+    record { long = long; shards = λ i li. (let own = s.own i li in record { rows = own.rows; visits = own.turns.visited; once = own.turns.once }) }
 
-done_closed : (p : Pass) (records : List ShardRecord) → StartsInner p → Together p records → (opening best : ℕ) → IsBest p records opening best → PrunesAbove p records best → AllDone p records → Closed p records opening best
-done_closed p records inner s opening best is_best above done =
-    let l0 = p.owned p.model.target in
+done_shard : (p : Pass) (records : List ShardRecord) → Together p records → (best : ℕ) → PrunesAbove p records best → AllDone p records → (i : ℕ) → i < p.shards → IsClosedOf p i (length (record_of records (p.owner p.model.target)).rows) best (record_of records i)
+done_shard p records s best above done i li =
+    let own = s.own i li in
     let first = p.owner p.model.target in
+    let l0 = p.owned p.model.target in
     record {
-      target = λ i li. (s.own i li).start;
-      covered = λ i l n li got. (s.own i li).covered l n (within_rows p records s done i li l n got) got;
-      made = λ i j from l n li h. ((s.own i li).sends.signed j (State from l n) h, (s.own i li).sends.made j from l n h);
-      once = λ i j a b from l n li. (s.own i li).sends.once j a b from l n;
-      fates = λ i l n li k. row_done p i (record_of records i) li (s.own i li) (done i li) l n k;
-      fine = λ i li. (at_rest p i (record_of records i) li (s.own i li) (done i li)).1;
-      accounted = λ i place v li at. all_accounted p i (record_of records i) li (s.own i li) (done i li) place v at;
-      arrived = λ i j li lj. (let q = s.prefix i j li lj in all_arrived p records s done i j li lj q.0 q.1);
-      posted = λ i j li. (s.own i li).sends.lawful j;
-      totals = λ i li. totals p records s done i li;
-      pruned = λ i q li h. (above i q li h, (s.own i li).pruned q h);
-      layers = length (record_of records first).rows;
-      same_layers = λ i li. rows_same p records s done i first li l0;
-      ended = λ i j li lj. (let m = (done j lj).ended i li in
+      target = own.start;
+      covered = λ l n got. own.covered l n (within_rows p records s done i li l n got) got;
+      made = λ j from l n h. (own.sends.signed j (State from l n) h, own.sends.made j from l n h);
+      once = own.sends.once;
+      fates = row_done p i (record_of records i) li own (done i li);
+      fine = (at_rest p i (record_of records i) li own (done i li)).1;
+      accounted = all_accounted p i (record_of records i) li own (done i li);
+      posted = own.sends.lawful;
+      totals = totals p records s done i li;
+      pruned = λ q h. (above i q li h, own.pruned q h);
+      same_layers = rows_same p records s done i first li l0;
+      ended = λ j lj. (let m = (done j lj).ended i li in
           let e = rows_same p records s done j first lj l0 in
           (m.0, subst (λ (x : ℕ). Has (of (record_of records i).posted j) (Mark i x m.0 0)) e (sent p records s j i lj li (Mark i (length (record_of records j).rows) m.0 0) m.1)));
-      held = λ i h li e. (s.own i li).held h e;
+      held = own.held;
+    }
+
+done_closed : (p : Pass) (records : List ShardRecord) → Together p records → (opening best : ℕ) → IsBest p records opening best → PrunesAbove p records best → AllDone p records → Closed p records opening best
+done_closed p records s opening best is_best above done =
+    record {
+      layers = length (record_of records (p.owner p.model.target)).rows;
+      shards = done_shard p records s best above done;
+      arrived = λ i j li lj. (let q = s.prefix i j li lj in all_arrived p records s done i j li lj q.0 q.1);
       is_best = is_best;
     }
 
@@ -229,4 +231,4 @@ sound p records s =
 
 pub records_law : LawRecords
 records_law p records inner long s =
-    (sound p records s, λ opening best is_best above done. (done_ledger p records long s, done_closed p records inner s opening best is_best above done))
+    (sound p records s, λ opening best is_best above done. (done_ledger p records long s, done_closed p records s opening best is_best above done))

@@ -130,9 +130,9 @@ state_sends p i layers visits ready rest posted to f' n' lt signed groups q s =
           s.once;
     }
 
-state_marks : (shards layers i : ℕ) (waiting : List Node) (ready rest : List Unsent) (fault : Option FaultHere) (posted : List (List Letter)) (to f' : ℕ) (n' : Node) → to < length posted → Passes i to layers n' ready rest
-    → Marks shards layers waiting ready fault posted → Marks shards layers waiting rest fault (append_at posted to (State f' layers n'))
-state_marks shards layers i waiting ready rest fault posted to f' n' lt q m =
+state_marks : (layers i : ℕ) (waiting : List Node) (ready rest : List Unsent) (fault : Option FaultHere) (posted : List (List Letter)) (to f' : ℕ) (n' : Node) → to < length posted → Passes i to layers n' ready rest
+    → Marks layers waiting ready fault posted → Marks layers waiting rest fault (append_at posted to (State f' layers n'))
+state_marks layers i waiting ready rest fault posted to f' n' lt q m =
     record {
       layer = λ j f l y t h. m.layer j f l y t (mark_old j f l y t h);
       total_before = λ j f l y t h before.
@@ -218,9 +218,9 @@ mark_sends p i layers visits ready posted to f' l' y' t' lt signed groups s =
     state_old : (j f l : ℕ) (n : Node) → Has (of (append_at posted to (Mark f' l' y' t')) j) (State f l n) → Has (of posted j) (State f l n)
     state_old j f l n h = elim (append_cases posted to (Mark f' l' y' t') j (State f l n) h) [ inl a ↦ a | inr new ↦ absurd (not_mark f l n f' l' y' t' (sym new.1)) ]
 
-mark_marks : (shards : ℕ) (r : ShardRecord) (to f' l' y' t' : ℕ) (rest : List Unsent) → to < length r.posted → CanPostMark r to l' t' rest
-    → Marks shards (length r.rows) r.waiting r.unsent r.fault r.posted → Marks shards (length r.rows) r.waiting r.unsent r.fault (append_at r.posted to (Mark f' l' y' t'))
-mark_marks shards r to f' l' y' t' rest lt can m =
+mark_marks : (r : ShardRecord) (to f' l' y' t' : ℕ) (rest : List Unsent) → to < length r.posted → CanPostMark r to l' t' rest
+    → Marks (length r.rows) r.waiting r.unsent r.fault r.posted → Marks (length r.rows) r.waiting r.unsent r.fault (append_at r.posted to (Mark f' l' y' t'))
+mark_marks r to f' l' y' t' rest lt can m =
     record {
       layer = λ j f l y t h. elim (append_cases r.posted to (Mark f' l' y' t') j (Mark f l y t) h) [
         | inl a ↦ m.layer j f l y t a
@@ -283,7 +283,7 @@ own_post p i r own to (State f' l' n') rest can =
       pruned = own.pruned;
       held = own.held;
       sends = state_sends p i (length r.rows) r.visits r.unsent rest r.posted to f' n' lt can.signed groups q own.sends;
-      marks = state_marks p.shards (length r.rows) i r.waiting r.unsent rest r.fault r.posted to f' n' lt q own.marks;
+      marks = state_marks (length r.rows) i r.waiting r.unsent rest r.fault r.posted to f' n' lt q own.marks;
     })
 own_post p i r own to (Mark f' l' y' t') rest can =
     let lt = subst (λ (n : ℕ). to < n) (sym own.sizes.1) can.receiver in
@@ -307,7 +307,7 @@ own_post p i r own to (Mark f' l' y' t') rest can =
       pruned = own.pruned;
       held = own.held;
       sends = mark_sends p i (length r.rows) r.visits r.unsent r.posted to f' l' y' t' lt can.signed can.in_groups own.sends;
-      marks = mark_marks p.shards r to f' l' y' t' rest lt can.letter own.marks;
+      marks = mark_marks r to f' l' y' t' rest lt can.letter own.marks;
     })
   where
     mark_sent : (m : Node) (l : ℕ) → IsSent p i r.posted r.unsent l m → IsSent p i (append_at r.posted to (Mark f' l' y' t')) r.unsent l m

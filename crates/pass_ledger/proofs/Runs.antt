@@ -11,9 +11,9 @@ use Rattle.dp_model.specs.declared.whole.Model.{Model}
 use Rattle.pass_ledger.specs.Letters.{of, Posted}
 use Rattle.pass_ledger.specs.Passes.{Pass, word_of, IsStart}
 use Rattle.pass_ledger.specs.Records.{record_of, Starts, Own, Together}
-use Rattle.pass_ledger.specs.Events.{take, close, prune, visit, post}
+use Rattle.pass_ledger.specs.Events.{fresh, take, close, prune, visit, post}
 use Rattle.pass_ledger.specs.Ledgers.{IsBest, AllDone}
-use Rattle.pass_ledger.specs.Worlds.{World, Seat, Turn, Event, seat, happens, IsOffered, IsFree, Raises, Allowed, Runs, after, start_of, fresh, opened, offers, least_offer, is_draw, draws, IsRaised, LawRuns}
+use Rattle.pass_ledger.specs.Worlds.{World, Seat, Turn, Event, seat, happens, IsOffered, IsFree, Raises, Allowed, Runs, after, start_of, opened, offers, least_offer, is_draw, draws, IsRaised, LawRuns}
 use Rattle.state_layout.specs.declared.node.Node.{Node}
 use Rattle.pass_ledger.specs.declared.mail.Letter.{Letter}
 use Rattle.pass_ledger.specs.declared.mail.Letter.TheVariants.{State, Mark}

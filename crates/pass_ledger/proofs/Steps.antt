@@ -162,9 +162,9 @@ close_sends p i layers later visits ready posted none s =
       once = s.once;
     }
 
-close_marks : (shards layers later : ℕ) (waiting fresh : List Node) (ready : List Unsent) (fault : Option FaultHere) (posted : List (List Letter)) → later ≡ layers + 1 → ready ≡ []
-    → Marks shards layers waiting ready fault posted → Marks shards later fresh ready fault posted
-close_marks shards layers later waiting fresh ready fault posted e none m =
+close_marks : (layers later : ℕ) (waiting fresh : List Node) (ready : List Unsent) (fault : Option FaultHere) (posted : List (List Letter)) → later ≡ layers + 1 → ready ≡ []
+    → Marks layers waiting ready fault posted → Marks later fresh ready fault posted
+close_marks layers later waiting fresh ready fault posted e none m =
     record {
       layer = λ j f l y t h. up l layers later e (m.layer j f l y t h);
       total_before = λ j f l y t h lt. elim (cases_lt l layers) [
@@ -221,7 +221,7 @@ own_close p i r own new can =
       pruned = own.pruned;
       held = own.held;
       sends = close_sends p i (length r.rows) (length (r.rows ++ new ∷ [])) r.visits r.unsent r.posted can.sent own.sends;
-      marks = close_marks p.shards (length r.rows) (length (r.rows ++ new ∷ [])) r.waiting new.kept r.unsent r.fault r.posted (length_push r.rows new) can.sent own.marks;
+      marks = close_marks (length r.rows) (length (r.rows ++ new ∷ [])) r.waiting new.kept r.unsent r.fault r.posted (length_push r.rows new) can.sent own.marks;
     }
   where
     past : (l a b : ℕ) → b ≡ a + 1 → a < l → l < b → ⊥
@@ -250,9 +250,9 @@ some_waits : (waiting : List Node) (n : Node) (rest : List Node) → waiting ≡
 some_waits waiting n rest e f = let clash : [] ≡ n ∷ rest = sym f ∙ e in cc
 
 -- the marks are as before where the last layer has none
-pub waiting_marks : (shards layers : ℕ) (waiting rest : List Node) (n : Node) (ready more : List Unsent) (fault met : Option FaultHere) (posted : List (List Letter)) → waiting ≡ n ∷ rest
-    → Marks shards layers waiting ready fault posted → Marks shards layers rest more met posted
-waiting_marks shards layers waiting rest n ready more fault met posted e m =
+pub waiting_marks : (layers : ℕ) (waiting rest : List Node) (n : Node) (ready more : List Unsent) (fault met : Option FaultHere) (posted : List (List Letter)) → waiting ≡ n ∷ rest
+    → Marks layers waiting ready fault posted → Marks layers rest more met posted
+waiting_marks layers waiting rest n ready more fault met posted e m =
     record {
       layer = m.layer;
       total_before = m.total_before;
@@ -336,7 +336,7 @@ own_prune p i r own n rest best can =
       ];
       held = own.held;
       sends = own.sends;
-      marks = waiting_marks p.shards (length r.rows) r.waiting rest n r.unsent r.unsent r.fault r.fault r.posted can.first own.marks;
+      marks = waiting_marks (length r.rows) r.waiting rest n r.unsent r.unsent r.fault r.fault r.posted can.first own.marks;
     }
   where
     now : (m : Node) → n ≡ m → Has (r.pruned ++ record { node = n; best = best } ∷ []) (record { node = m; best = best })

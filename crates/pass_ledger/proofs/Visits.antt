@@ -172,7 +172,7 @@ own_visit p i r own l n rest made prunes held fault can =
         | inr new ↦ record { place = length r.visits; visit = visit_of l n; logged = get_last r.visits (visit_of l n); parent = new.0; total = new.1 }
       ];
       sends = visit_sends p i r l n rest made prunes held fault can own.sends;
-      marks = waiting_marks p.shards (length r.rows) r.waiting rest n r.unsent (r.unsent ++ made) r.fault fault r.posted can.first own.marks;
+      marks = waiting_marks (length r.rows) r.waiting rest n r.unsent (r.unsent ++ made) r.fault fault r.posted can.first own.marks;
     }
   where
     same_layer : (a b c : ℕ) → a + 1 ≡ c → b + 1 ≡ c → a ≡ b

@@ -1,5 +1,5 @@
 -- The worked ledgers are closed.
-use Rattle.std.proofs.Common.{◌≡◌, ℕ, ◌+◌, ◌<◌, ◌≤◌, zero, suc, false, ◌⊎◌, inl, inr, List, [], ◌∷◌, slice_get, length, Option, Some, None, refl, sym, ap, subst, ◌∙◌, arith}
+use Rattle.std.proofs.Common.{◌≡◌, ℕ, ◌+◌, ◌<◌, ◌≤◌, zero, suc, false, ◌⊎◌, inl, inr, List, [], ◌∷◌, slice_get, Option, Some, None, refl, sym, ap, subst, ◌∙◌, arith}
 use Rattle.std.specs.Prelude.{pos, ◌≤ℤ◌}
 use Rattle.std.proofs.lemmas.Int.{ints}
 use Rattle.dp_model.specs.Costs.{InRange}
@@ -7,10 +7,10 @@ use Rattle.dp_claims.specs.Enough.{Has, Different}
 use Rattle.dp_model.specs.declared.parts.PlainValue.TheVariants.{Number}
 use Rattle.dp_model.specs.declared.parts.PlainState.{PlainState}
 use Rattle.pass_ledger.specs.Letters.{of, InOrder, Posted, all_told_at}
-use Rattle.pass_ledger.specs.Passes.{word_of, CoversNode, IsStart, Prunes}
+use Rattle.pass_ledger.specs.Passes.{word_of, CoversNode, IsStart}
 use Rattle.pass_ledger.specs.Rows.{row, Received, IsCovered, Apart, IsRow}
 use Rattle.pass_ledger.specs.Records.{visit_of, IsSuccessor, IsTotal, Accounted, IsPruned, Made, IsHeld, Starts, record_of}
-use Rattle.pass_ledger.specs.Ledgers.{Ledger, Closed, Totals, IsBest}
+use Rattle.pass_ledger.specs.Ledgers.{IsLedgerOf, Ledger, IsClosedOf, Closed, Totals, IsBest}
 use Rattle.pass_ledger.specs.TwoWays.{at}
 use Rattle.pass_ledger.specs.Worked.{plain, alone, n0, n1, n2, letters, held, row_of, first_pass, second_pass, word_11, word_3, no_word, LawFirstPass, LawSecondPass, LawBestWay}
 use Rattle.state_layout.specs.declared.node.Node.{Node}
@@ -73,6 +73,10 @@ is_mark f l y t h =
 
 pub one_shard : (i : ℕ) → suc i < 1 → ⊥
 one_shard i lt = absurd (omega arith)
+
+pub only_one : (P : ℕ → Type 0) → P 0 → (i : ℕ) → i < 1 → P i
+only_one P h zero li = h
+only_one P h (suc i) li = absurd (one_shard i li)
 
 -- what the shard received
 received_is : (share l : ℕ) (n : Node) → Received (alone share) (Some n0) (letters ∷ []) l n → ((0 ≡ l) × (n0 ≡ n)) ⊎ ((1 ≡ l) × ((n1 ≡ n) ⊎ (n2 ≡ n)))
@@ -276,23 +280,7 @@ first_once : Different first_pass.visits
 first_once = (λ h. layers_differ n0 n1 (sym (has_one (visit_of 1 n1) (visit_of 0 n0) h)), (λ h. has_none (visit_of 1 n1) h, tt))
 
 first_ledger : Ledger (alone 1) (first_pass ∷ [])
-first_ledger = record { shards = refl; rows = rows; visits = visits; once = once_only }
-  where
-    rows : (i l : ℕ) → i < 1 → IsRow (alone 1) (record_of (first_pass ∷ []) i).start (record_of (first_pass ∷ []) i).received l (row (record_of (first_pass ∷ []) i).rows l)
-    rows zero l li = first_rows l
-    rows (suc i) l li = absurd (one_shard i li)
-
-    visits : (i : ℕ) (v : Visit) → i < 1 → Has (record_of (first_pass ∷ []) i).visits v → Has (row (record_of (first_pass ∷ []) i).rows v.layer).kept v.node
-    visits zero v li h = first_visits v h
-    visits (suc i) v li h = absurd (one_shard i li)
-
-    once_only : (i : ℕ) → i < 1 → Different (record_of (first_pass ∷ []) i).visits
-    once_only zero li = first_once
-    once_only (suc i) li = absurd (one_shard i li)
-
-pub only_one : (P : ℕ → Type 0) → P 0 → (i : ℕ) → i < 1 → P i
-only_one P h zero li = h
-only_one P h (suc i) li = absurd (one_shard i li)
+first_ledger = record { long = refl; shards = only_one (λ i. IsLedgerOf (alone 1) (record_of (first_pass ∷ []) i)) (record { rows = first_rows; visits = first_visits; once = first_once }) }
 
 starts : (share : ℕ) → Starts (alone share) 0 (Some n0)
 starts share = (start_is share, refl)
@@ -316,26 +304,26 @@ first_best =
     above (suc i) h li e = absurd (one_shard i li)
 
 first_closed : Closed (alone 1) (first_pass ∷ []) no_word word_11
-first_closed =
-    record {
-      target = only_one (λ i. Starts (alone 1) i (record_of (first_pass ∷ []) i).start) (starts 1);
-      covered = λ i l n li. only_one (λ i. Received (alone 1) (record_of (first_pass ∷ []) i).start (record_of (first_pass ∷ []) i).received l n → IsCovered (alone 1) (row (record_of (first_pass ∷ []) i).rows l) n) (first_covered l n) i li;
-      made = λ i j f l n li. only_one (λ i. Has (of (record_of (first_pass ∷ []) i).posted j) (State f l n) → (f ≡ i) × Made (alone 1) i (record_of (first_pass ∷ []) i).visits j l n) (made 1 first_pass.visits refl j f l n) i li;
-      once = λ i j a b f l n li. only_one (λ i. slice_get (of (record_of (first_pass ∷ []) i).posted j) a ≡ Some (State f l n) → slice_get (of (record_of (first_pass ∷ []) i).posted j) b ≡ Some (State f l n) → a ≡ b) (once j a b f l n) i li;
-      fates = λ i l n li. only_one (λ i. Has (row (record_of (first_pass ∷ []) i).rows l).kept n → IsPruned (record_of (first_pass ∷ []) i).pruned n ⊎ Has (record_of (first_pass ∷ []) i).visits (visit_of l n)) (first_fates l n) i li;
-      fine = only_one (λ i. (record_of (first_pass ∷ []) i).fault ≡ None) refl;
-      accounted = λ i place v li. only_one (λ i. slice_get (record_of (first_pass ∷ []) i).visits place ≡ Some v → Accounted (alone 1) i (record_of (first_pass ∷ []) i).held (record_of (first_pass ∷ []) i).posted [] (record_of (first_pass ∷ []) i).pruned place v) (first_accounted place v) i li;
-      arrived = arrived;
-      posted = λ i j li. only_one (λ i. Posted plain (of (record_of (first_pass ∷ []) i).posted j)) (all_posted j) i li;
-      totals = only_one (λ i. Totals (record_of (first_pass ∷ []) i).posted) totals;
-      pruned = λ i q li. only_one (λ i. Has (record_of (first_pass ∷ []) i).pruned q → (word_11 ≤ q.best) × Prunes (alone 1) q.best q.node) (λ h. absurd (has_none q h)) i li;
-      layers = 2;
-      same_layers = only_one (λ i. length (record_of (first_pass ∷ []) i).rows ≡ 2) refl;
-      ended = λ i j li lj. only_one (λ i. (to_you : ℕ) × Has (of (record_of (first_pass ∷ []) i).posted j) (Mark i 2 to_you 0)) (only_one (λ j. (to_you : ℕ) × Has (of (letters ∷ []) j) (Mark 0 2 to_you 0)) (0, (3, refl)) j lj) i li;
-      held = λ i h li. only_one (λ i. (record_of (first_pass ∷ []) i).held ≡ Some h → IsHeld (alone 1) i (record_of (first_pass ∷ []) i).visits h) (λ e. subst (IsHeld (alone 1) 0 first_pass.visits) (some_is (held (pos 11) 1 2) h e) (held_11 1)) i li;
-      is_best = first_best;
-    }
+first_closed = record { layers = 2; shards = only_one (λ i. IsClosedOf (alone 1) i 2 word_11 (record_of (first_pass ∷ []) i)) shard; arrived = arrived; is_best = first_best }
   where
+    shard : IsClosedOf (alone 1) 0 2 word_11 first_pass
+    shard =
+        record {
+          target = starts 1;
+          covered = first_covered;
+          made = made 1 first_pass.visits refl;
+          once = once;
+          fates = first_fates;
+          fine = refl;
+          accounted = first_accounted;
+          posted = all_posted;
+          totals = totals;
+          pruned = λ q h. absurd (has_none q h);
+          same_layers = refl;
+          ended = only_one (λ j. (to_you : ℕ) × Has (of (letters ∷ []) j) (Mark 0 2 to_you 0)) (0, (3, refl));
+          held = λ h e. subst (IsHeld (alone 1) 0 first_pass.visits) (some_is (held (pos 11) 1 2) h e) (held_11 1);
+        }
+
     arrived : (i j : ℕ) → i < 1 → j < 1 → of (record_of (first_pass ∷ []) i).received j ≡ of (record_of (first_pass ∷ []) j).posted i
     arrived zero zero li lj = refl
     arrived (suc i) j li lj = absurd (one_shard i li)
@@ -390,19 +378,7 @@ second_once = (
 )
 
 second_ledger : Ledger (alone 2) (second_pass ∷ [])
-second_ledger = record { shards = refl; rows = rows; visits = visits; once = once_only }
-  where
-    rows : (i l : ℕ) → i < 1 → IsRow (alone 2) (record_of (second_pass ∷ []) i).start (record_of (second_pass ∷ []) i).received l (row (record_of (second_pass ∷ []) i).rows l)
-    rows zero l li = second_rows l
-    rows (suc i) l li = absurd (one_shard i li)
-
-    visits : (i : ℕ) (v : Visit) → i < 1 → Has (record_of (second_pass ∷ []) i).visits v → Has (row (record_of (second_pass ∷ []) i).rows v.layer).kept v.node
-    visits zero v li h = second_visits v h
-    visits (suc i) v li h = absurd (one_shard i li)
-
-    once_only : (i : ℕ) → i < 1 → Different (record_of (second_pass ∷ []) i).visits
-    once_only zero li = second_once
-    once_only (suc i) li = absurd (one_shard i li)
+second_ledger = record { long = refl; shards = only_one (λ i. IsLedgerOf (alone 2) (record_of (second_pass ∷ []) i)) (record { rows = second_rows; visits = second_visits; once = second_once }) }
 
 second_best : IsBest (alone 2) (second_pass ∷ []) word_11 word_3
 second_best =
@@ -417,26 +393,26 @@ second_best =
     above (suc i) h li e = absurd (one_shard i li)
 
 second_closed : Closed (alone 2) (second_pass ∷ []) word_11 word_3
-second_closed =
-    record {
-      target = only_one (λ i. Starts (alone 2) i (record_of (second_pass ∷ []) i).start) (starts 2);
-      covered = λ i l n li. only_one (λ i. Received (alone 2) (record_of (second_pass ∷ []) i).start (record_of (second_pass ∷ []) i).received l n → IsCovered (alone 2) (row (record_of (second_pass ∷ []) i).rows l) n) (second_covered l n) i li;
-      made = λ i j f l n li. only_one (λ i. Has (of (record_of (second_pass ∷ []) i).posted j) (State f l n) → (f ≡ i) × Made (alone 2) i (record_of (second_pass ∷ []) i).visits j l n) (made 2 second_pass.visits refl j f l n) i li;
-      once = λ i j a b f l n li. only_one (λ i. slice_get (of (record_of (second_pass ∷ []) i).posted j) a ≡ Some (State f l n) → slice_get (of (record_of (second_pass ∷ []) i).posted j) b ≡ Some (State f l n) → a ≡ b) (once j a b f l n) i li;
-      fates = λ i l n li. only_one (λ i. Has (row (record_of (second_pass ∷ []) i).rows l).kept n → IsPruned (record_of (second_pass ∷ []) i).pruned n ⊎ Has (record_of (second_pass ∷ []) i).visits (visit_of l n)) (second_fates l n) i li;
-      fine = only_one (λ i. (record_of (second_pass ∷ []) i).fault ≡ None) refl;
-      accounted = λ i place v li. only_one (λ i. slice_get (record_of (second_pass ∷ []) i).visits place ≡ Some v → Accounted (alone 2) i (record_of (second_pass ∷ []) i).held (record_of (second_pass ∷ []) i).posted [] (record_of (second_pass ∷ []) i).pruned place v) (second_accounted place v) i li;
-      arrived = arrived;
-      posted = λ i j li. only_one (λ i. Posted plain (of (record_of (second_pass ∷ []) i).posted j)) (all_posted j) i li;
-      totals = only_one (λ i. Totals (record_of (second_pass ∷ []) i).posted) totals;
-      pruned = λ i q li. only_one (λ i. Has (record_of (second_pass ∷ []) i).pruned q → (word_3 ≤ q.best) × Prunes (alone 2) q.best q.node) (λ h. absurd (has_none q h)) i li;
-      layers = 2;
-      same_layers = only_one (λ i. length (record_of (second_pass ∷ []) i).rows ≡ 2) refl;
-      ended = λ i j li lj. only_one (λ i. (to_you : ℕ) × Has (of (record_of (second_pass ∷ []) i).posted j) (Mark i 2 to_you 0)) (only_one (λ j. (to_you : ℕ) × Has (of (letters ∷ []) j) (Mark 0 2 to_you 0)) (0, (3, refl)) j lj) i li;
-      held = λ i h li. only_one (λ i. (record_of (second_pass ∷ []) i).held ≡ Some h → IsHeld (alone 2) i (record_of (second_pass ∷ []) i).visits h) (λ e. subst (IsHeld (alone 2) 0 second_pass.visits) (some_is (held (pos 3) 2 3) h e) (held_3 2)) i li;
-      is_best = second_best;
-    }
+second_closed = record { layers = 2; shards = only_one (λ i. IsClosedOf (alone 2) i 2 word_3 (record_of (second_pass ∷ []) i)) shard; arrived = arrived; is_best = second_best }
   where
+    shard : IsClosedOf (alone 2) 0 2 word_3 second_pass
+    shard =
+        record {
+          target = starts 2;
+          covered = second_covered;
+          made = made 2 second_pass.visits refl;
+          once = once;
+          fates = second_fates;
+          fine = refl;
+          accounted = second_accounted;
+          posted = all_posted;
+          totals = totals;
+          pruned = λ q h. absurd (has_none q h);
+          same_layers = refl;
+          ended = only_one (λ j. (to_you : ℕ) × Has (of (letters ∷ []) j) (Mark 0 2 to_you 0)) (0, (3, refl));
+          held = λ h e. subst (IsHeld (alone 2) 0 second_pass.visits) (some_is (held (pos 3) 2 3) h e) (held_3 2);
+        }
+
     arrived : (i j : ℕ) → i < 1 → j < 1 → of (record_of (second_pass ∷ []) i).received j ≡ of (record_of (second_pass ∷ []) j).posted i
     arrived zero zero li lj = refl
     arrived (suc i) j li lj = absurd (one_shard i li)

@@ -1,5 +1,5 @@
 -- The worked ledgers with floors are closed, and their model is honest.
-use Rattle.std.proofs.Common.{◌≡◌, ℕ, ◌+◌, ◌<◌, ◌≤◌, zero, suc, true, false, ◌⊎◌, inl, inr, List, [], ◌∷◌, slice_get, length, Option, Some, None, Result, Ok, refl, sym, ap, subst, ◌∙◌, arith}
+use Rattle.std.proofs.Common.{◌≡◌, ℕ, ◌+◌, ◌<◌, ◌≤◌, zero, suc, true, false, ◌⊎◌, inl, inr, List, [], ◌∷◌, slice_get, Option, Some, None, Result, Ok, refl, sym, ap, subst, ◌∙◌, arith}
 use Rattle.std.specs.Prelude.{ℤ, pos, ◌≤ℤ◌, ◌+ℤ◌}
 use Rattle.std.proofs.lemmas.Int.{ints}
 use Rattle.dp_model.specs.Costs.{IsBetter, join, join_onto}
@@ -18,10 +18,10 @@ use Rattle.dp_model.specs.declared.parts.PlainValue.TheVariants.{Number}
 use Rattle.dp_model.specs.declared.parts.PlainState.{PlainState}
 use Rattle.dp_claims.proofs.Plain.{same_values, same_state, not_better_self}
 use Rattle.pass_ledger.specs.Letters.{of, InOrder, Posted, all_told_at}
-use Rattle.pass_ledger.specs.Passes.{word_of, CoversNode, IsStart, Prunes}
+use Rattle.pass_ledger.specs.Passes.{word_of, CoversNode, IsStart}
 use Rattle.pass_ledger.specs.Rows.{row, Received, IsCovered, Apart, IsRow}
 use Rattle.pass_ledger.specs.Records.{visit_of, IsSuccessor, IsTotal, Accounted, IsPruned, Made, IsHeld, Starts, record_of}
-use Rattle.pass_ledger.specs.Ledgers.{Ledger, Closed, Totals, IsBest, IsFloorOfDropped}
+use Rattle.pass_ledger.specs.Ledgers.{IsLedgerOf, Ledger, IsClosedOf, Closed, Totals, IsBest, IsFloorOfDropped}
 use Rattle.pass_ledger.specs.TwoWays.{at, variables}
 use Rattle.pass_ledger.specs.Worked.{held, row_of, word_11, no_word}
 use Rattle.pass_ledger.specs.WorkedFloors.{one, one_typed, bounded, pruning, f0, f1, f2, two_letters, dropping, LawHonest, LawDropping}
@@ -362,19 +362,7 @@ dropping_once : Different dropping.visits
 dropping_once = (λ h. layers_differ f0 f1 (sym (has_one (visit_of 1 f1) (visit_of 0 f0) h)), (λ h. has_none (visit_of 1 f1) h, tt))
 
 dropping_ledger : Ledger pruning (dropping ∷ [])
-dropping_ledger = record { shards = refl; rows = rows; visits = visits; once = once_only }
-  where
-    rows : (i l : ℕ) → i < 1 → IsRow pruning (record_of (dropping ∷ []) i).start (record_of (dropping ∷ []) i).received l (row (record_of (dropping ∷ []) i).rows l)
-    rows zero l li = dropping_rows l
-    rows (suc i) l li = absurd (one_shard i li)
-
-    visits : (i : ℕ) (v : Visit) → i < 1 → Has (record_of (dropping ∷ []) i).visits v → Has (row (record_of (dropping ∷ []) i).rows v.layer).kept v.node
-    visits zero v li h = dropping_visits v h
-    visits (suc i) v li h = absurd (one_shard i li)
-
-    once_only : (i : ℕ) → i < 1 → Different (record_of (dropping ∷ []) i).visits
-    once_only zero li = dropping_once
-    once_only (suc i) li = absurd (one_shard i li)
+dropping_ledger = record { long = refl; shards = only_one (λ i. IsLedgerOf pruning (record_of (dropping ∷ []) i)) (record { rows = dropping_rows; visits = dropping_visits; once = dropping_once }) }
 
 pub starts : Starts pruning 0 (Some f0)
 starts = (start_is, refl)
@@ -395,26 +383,26 @@ dropping_best =
     above (suc i) h li e = absurd (one_shard i li)
 
 dropping_closed : Closed pruning (dropping ∷ []) no_word word_11
-dropping_closed =
-    record {
-      target = only_one (λ i. Starts pruning i (record_of (dropping ∷ []) i).start) starts;
-      covered = λ i l n li. only_one (λ i. Received pruning (record_of (dropping ∷ []) i).start (record_of (dropping ∷ []) i).received l n → IsCovered pruning (row (record_of (dropping ∷ []) i).rows l) n) (dropping_covered l n) i li;
-      made = λ i j f l n li. only_one (λ i. Has (of (record_of (dropping ∷ []) i).posted j) (State f l n) → (f ≡ i) × Made pruning i (record_of (dropping ∷ []) i).visits j l n) (made dropping.visits refl j f l n) i li;
-      once = λ i j a b f l n li. only_one (λ i. slice_get (of (record_of (dropping ∷ []) i).posted j) a ≡ Some (State f l n) → slice_get (of (record_of (dropping ∷ []) i).posted j) b ≡ Some (State f l n) → a ≡ b) (once j a b f l n) i li;
-      fates = λ i l n li. only_one (λ i. Has (row (record_of (dropping ∷ []) i).rows l).kept n → IsPruned (record_of (dropping ∷ []) i).pruned n ⊎ Has (record_of (dropping ∷ []) i).visits (visit_of l n)) (dropping_fates l n) i li;
-      fine = only_one (λ i. (record_of (dropping ∷ []) i).fault ≡ None) refl;
-      accounted = λ i place v li. only_one (λ i. slice_get (record_of (dropping ∷ []) i).visits place ≡ Some v → Accounted pruning i (record_of (dropping ∷ []) i).held (record_of (dropping ∷ []) i).posted [] (record_of (dropping ∷ []) i).pruned place v) (dropping_accounted place v) i li;
-      arrived = arrived;
-      posted = λ i j li. only_one (λ i. Posted bounded (of (record_of (dropping ∷ []) i).posted j)) (all_posted j) i li;
-      totals = only_one (λ i. Totals (record_of (dropping ∷ []) i).posted) totals;
-      pruned = λ i q li. only_one (λ i. Has (record_of (dropping ∷ []) i).pruned q → (word_11 ≤ q.best) × Prunes pruning q.best q.node) (λ h. absurd (has_none q h)) i li;
-      layers = 2;
-      same_layers = only_one (λ i. length (record_of (dropping ∷ []) i).rows ≡ 2) refl;
-      ended = λ i j li lj. only_one (λ i. (to_you : ℕ) × Has (of (record_of (dropping ∷ []) i).posted j) (Mark i 2 to_you 0)) (only_one (λ j. (to_you : ℕ) × Has (of (two_letters ∷ []) j) (Mark 0 2 to_you 0)) (0, (3, refl)) j lj) i li;
-      held = λ i h li. only_one (λ i. (record_of (dropping ∷ []) i).held ≡ Some h → IsHeld pruning i (record_of (dropping ∷ []) i).visits h) (λ e. subst (IsHeld pruning 0 dropping.visits) (some_is (held (pos 11) 1 2) h e) held_11) i li;
-      is_best = dropping_best;
-    }
+dropping_closed = record { layers = 2; shards = only_one (λ i. IsClosedOf pruning i 2 word_11 (record_of (dropping ∷ []) i)) shard; arrived = arrived; is_best = dropping_best }
   where
+    shard : IsClosedOf pruning 0 2 word_11 dropping
+    shard =
+        record {
+          target = starts;
+          covered = dropping_covered;
+          made = made dropping.visits refl;
+          once = once;
+          fates = dropping_fates;
+          fine = refl;
+          accounted = dropping_accounted;
+          posted = all_posted;
+          totals = totals;
+          pruned = λ q h. absurd (has_none q h);
+          same_layers = refl;
+          ended = only_one (λ j. (to_you : ℕ) × Has (of (two_letters ∷ []) j) (Mark 0 2 to_you 0)) (0, (3, refl));
+          held = λ h e. subst (IsHeld pruning 0 dropping.visits) (some_is (held (pos 11) 1 2) h e) (held_11);
+        }
+
     arrived : (i j : ℕ) → i < 1 → j < 1 → of (record_of (dropping ∷ []) i).received j ≡ of (record_of (dropping ∷ []) j).posted i
     arrived zero zero li lj = refl
     arrived (suc i) j li lj = absurd (one_shard i li)

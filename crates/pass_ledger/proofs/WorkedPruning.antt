@@ -1,13 +1,13 @@
 -- The worked ledger that prunes a successor is closed.
-use Rattle.std.proofs.Common.{◌≡◌, ℕ, ◌+◌, ◌<◌, ◌≤◌, zero, suc, ◌⊎◌, inl, inr, [], ◌∷◌, slice_get, length, Some, None, refl, sym, ap, subst, ◌∙◌, arith}
+use Rattle.std.proofs.Common.{◌≡◌, ℕ, ◌+◌, ◌<◌, ◌≤◌, zero, suc, ◌⊎◌, inl, inr, [], ◌∷◌, slice_get, Some, refl, sym, ap, subst, ◌∙◌, arith}
 use Rattle.std.specs.Prelude.{pos, ◌≤ℤ◌}
 use Rattle.std.proofs.lemmas.Int.{ints}
 use Rattle.dp_claims.specs.Enough.{Has, Different}
 use Rattle.pass_ledger.specs.Letters.{of, InOrder, Posted, all_told_at}
 use Rattle.pass_ledger.specs.Passes.{word_of, Prunes}
 use Rattle.pass_ledger.specs.Rows.{row, Received, IsCovered, IsRow}
-use Rattle.pass_ledger.specs.Records.{visit_of, IsSuccessor, IsTotal, Accounted, IsPruned, Made, IsHeld, Starts, record_of}
-use Rattle.pass_ledger.specs.Ledgers.{Ledger, Closed, Totals, IsBest, DropsNone}
+use Rattle.pass_ledger.specs.Records.{visit_of, IsSuccessor, IsTotal, Accounted, IsPruned, Made, IsHeld, record_of}
+use Rattle.pass_ledger.specs.Ledgers.{IsLedgerOf, Ledger, IsClosedOf, Closed, Totals, IsBest, DropsNone}
 use Rattle.pass_ledger.specs.Worked.{held, row_of, word_3}
 use Rattle.pass_ledger.specs.WorkedFloors.{one, one_typed, bounded, pruning, f0, f1, f2, one_letter, pruned_one, LawPruning}
 use Rattle.state_layout.specs.declared.node.Node.{Node}
@@ -132,13 +132,7 @@ prunes : (q : PrunedAt) → Has pruned_one.pruned q → (word_3 ≤ q.best) × P
 prunes q h = subst (λ (x : PrunedAt). (word_3 ≤ x.best) × Prunes pruning x.best x.node) (has_one (record { node = f2; best = word_3 }) q h) (omega arith, (pos 3, refl, omega (arith, ints)))
 
 ledger : Ledger pruning (pruned_one ∷ [])
-ledger =
-    record {
-      shards = refl;
-      rows = λ i l li. only_one (λ i. IsRow pruning (record_of (pruned_one ∷ []) i).start (record_of (pruned_one ∷ []) i).received l (row (record_of (pruned_one ∷ []) i).rows l)) (rows l) i li;
-      visits = λ i v li. only_one (λ i. Has (record_of (pruned_one ∷ []) i).visits v → Has (row (record_of (pruned_one ∷ []) i).rows v.layer).kept v.node) (visits v) i li;
-      once = only_one (λ i. Different (record_of (pruned_one ∷ []) i).visits) visited_once;
-    }
+ledger = record { long = refl; shards = only_one (λ i. IsLedgerOf pruning (record_of (pruned_one ∷ []) i)) (record { rows = rows; visits = visits; once = visited_once }) }
 
 best : IsBest pruning (pruned_one ∷ []) word_3 word_3
 best = record { opening_above = omega arith; held_above = above; is_one = inl refl }
@@ -148,27 +142,26 @@ best = record { opening_above = omega arith; held_above = above; is_one = inl re
     above (suc i) h li e = absurd (one_shard i li)
 
 closed : Closed pruning (pruned_one ∷ []) word_3 word_3
-closed =
-    record {
-      target = only_one (λ i. Starts pruning i (record_of (pruned_one ∷ []) i).start) starts;
-      covered = λ i l n li. only_one (λ i. Received pruning (record_of (pruned_one ∷ []) i).start (record_of (pruned_one ∷ []) i).received l n → IsCovered pruning (row (record_of (pruned_one ∷ []) i).rows l) n) (covered l n) i li;
-      made = λ i j f l n li. only_one (λ i. Has (of (record_of (pruned_one ∷ []) i).posted j) (State f l n) → (f ≡ i) × Made pruning i (record_of (pruned_one ∷ []) i).visits j l n) (made j f l n) i li;
-      once = λ i j a b f l n li. only_one (λ i. slice_get (of (record_of (pruned_one ∷ []) i).posted j) a ≡ Some (State f l n) → slice_get (of (record_of (pruned_one ∷ []) i).posted j) b ≡ Some (State f l n) → a ≡ b) (once j a b f l n) i li;
-      fates = λ i l n li. only_one (λ i. Has (row (record_of (pruned_one ∷ []) i).rows l).kept n → IsPruned (record_of (pruned_one ∷ []) i).pruned n ⊎ Has (record_of (pruned_one ∷ []) i).visits (visit_of l n)) (fates l n) i li;
-      fine = only_one (λ i. (record_of (pruned_one ∷ []) i).fault ≡ None) refl;
-      accounted = λ i place v li. only_one (λ i. slice_get (record_of (pruned_one ∷ []) i).visits place ≡ Some v → Accounted pruning i (record_of (pruned_one ∷ []) i).held (record_of (pruned_one ∷ []) i).posted [] (record_of (pruned_one ∷ []) i).pruned place v) (accounted place v) i li;
-      arrived = arrived;
-      posted = λ i j li. only_one (λ i. Posted bounded (of (record_of (pruned_one ∷ []) i).posted j)) (posted j) i li;
-      totals = only_one (λ i. Totals (record_of (pruned_one ∷ []) i).posted) totals;
-      pruned = λ i q li. only_one (λ i. Has (record_of (pruned_one ∷ []) i).pruned q → (word_3 ≤ q.best) × Prunes pruning q.best q.node) (prunes q) i li;
-      layers = 2;
-      same_layers = only_one (λ i. length (record_of (pruned_one ∷ []) i).rows ≡ 2) refl;
-      ended = λ i j li lj. only_one (λ i. (to_you : ℕ) × Has (of (record_of (pruned_one ∷ []) i).posted j) (Mark i 2 to_you 0)) (only_one (λ j. (to_you : ℕ) × Has (of (one_letter ∷ []) j) (Mark 0 2 to_you 0)) (0, (2, refl)) j lj) i li;
-      held = λ i h li. only_one (λ i. (record_of (pruned_one ∷ []) i).held ≡ Some h → IsHeld pruning i (record_of (pruned_one ∷ []) i).visits h)
-          (λ e. subst (IsHeld pruning 0 pruned_one.visits) (some_is (held (pos 11) 1 2) h e) (record { place = 1; visit = visit_of 1 f1; logged = refl; parent = refl; total = total_11 })) i li;
-      is_best = best;
-    }
+closed = record { layers = 2; shards = only_one (λ i. IsClosedOf pruning i 2 word_3 (record_of (pruned_one ∷ []) i)) shard; arrived = arrived; is_best = best }
   where
+    shard : IsClosedOf pruning 0 2 word_3 pruned_one
+    shard =
+        record {
+          target = starts;
+          covered = covered;
+          made = made;
+          once = once;
+          fates = fates;
+          fine = refl;
+          accounted = accounted;
+          posted = posted;
+          totals = totals;
+          pruned = prunes;
+          same_layers = refl;
+          ended = only_one (λ j. (to_you : ℕ) × Has (of (one_letter ∷ []) j) (Mark 0 2 to_you 0)) (0, (2, refl));
+          held = λ h e. subst (IsHeld pruning 0 pruned_one.visits) (some_is (held (pos 11) 1 2) h e) (record { place = 1; visit = visit_of 1 f1; logged = refl; parent = refl; total = total_11 });
+        }
+
     arrived : (i j : ℕ) → i < 1 → j < 1 → of (record_of (pruned_one ∷ []) i).received j ≡ of (record_of (pruned_one ∷ []) j).posted i
     arrived zero zero li lj = refl
     arrived (suc i) j li lj = absurd (one_shard i li)

@@ -45,7 +45,7 @@ only_n1 f l n h =
 -- the step to the state 2 leads nowhere that the ledger accounts for
 left_out : Closed (alone 1) (leaves_out ∷ []) no_word word_11 → ⊥
 left_out closed =
-    elim (closed.accounted 0 0 (visit_of 0 n0) lt_1 refl 1 (considered [] refl refl (at 0) 1) (step_enabled plain (at 0) 1 (Some (pos 2)) (at 2) (q_step [] refl refl))) [
+    elim ((closed.shards 0 lt_1).accounted 0 (visit_of 0 n0) refl 1 (considered [] refl refl (at 0) 1) (step_enabled plain (at 0) 1 (Some (pos 2)) (at 2) (q_step [] refl refl))) [
       | inl out ↦
           let same = step_same plain (at 0) 1 (Some (pos 2)) out.0 (at 2) out.1 (q_step [] refl refl) out.2 in
           forbidden_not_allowed plain (at 2) (subst (Forbidden plain) (sym same.1) out.3) (inner_at [] refl refl 2 refl).allowed
@@ -68,38 +68,38 @@ left_out closed =
     ]
 
 early : Ledger (alone 2) (first_pass ∷ []) → ⊥
-early ledger = differ 1 2 (omega arith) ((ledger.rows 0 1 lt_1).full n2 (0, refl))
+early ledger = differ 1 2 (omega arith) (((ledger.shards 0 lt_1).rows 1).full n2 (0, refl))
 
 unoffered : Closed pruning (pruned_one ∷ []) no_word word_11 → ⊥
-unoffered closed = too_low (closed.pruned 0 (record { node = f2; best = word_3 }) lt_1 (0, refl)).0
+unoffered closed = too_low ((closed.shards 0 lt_1).pruned (record { node = f2; best = word_3 }) (0, refl)).0
   where
     too_low : word_11 ≤ word_3 → ⊥
     too_low h = absurd (omega arith)
 
 forgotten : Closed (alone 1) (forgets ∷ []) no_word no_word → ⊥
-forgotten closed = closed.target 0 lt_1 refl
+forgotten closed = (closed.shards 0 lt_1).target refl
 
 twice_marked : Closed (alone 2) (marks_twice ∷ []) word_11 word_3 → ⊥
-twice_marked closed = differ 1 2 (omega arith) (closed.posted 0 0 lt_1).groups.1.1.2.0
+twice_marked closed = differ 1 2 (omega arith) ((closed.shards 0 lt_1).posted 0).groups.1.1.2.0
 
 step_place : (a b : ℕ) → Some (step_id 0 a) ≡ Some (step_id 0 b) → a ≡ b
 step_place a b e = ap (λ (id : StepId). id.place) (some_is (step_id 0 a) (step_id 0 b) e)
 
 round : Closed (alone 2) (goes_round ∷ []) word_11 word_3 → ⊥
 round closed =
-    let m = (closed.made 0 0 0 1 own_parent lt_1 (0, refl)).1 in
+    let m = ((closed.shards 0 lt_1).made 0 0 1 own_parent (0, refl)).1 in
     let place = step_place 1 m.place m.successor.parent in
     let logged = subst (λ (k : ℕ). slice_get goes_round.visits k ≡ Some m.visit) (sym place) m.logged in
     let visit = some_is (visit_of 1 own_parent) m.visit logged in
     differ 1 2 (omega arith) (m.next_layer ∙ ap (λ (v : Visit). v.layer + 1) (sym visit))
 
 counted_twice : Ledger (alone 2) (counts_twice ∷ []) → ⊥
-counted_twice ledger = (ledger.once 0 lt_1).1.0 (0, refl)
+counted_twice ledger = (ledger.shards 0 lt_1).once.1.0 (0, refl)
 
 -- the total of the step from the state 2 is 3
 invented : Closed (alone 2) (invents ∷ []) word_11 word_3 → ⊥
 invented closed =
-    let h = closed.held 0 (held (pos 2) 2 3) lt_1 refl in
+    let h = (closed.shards 0 lt_1).held (held (pos 2) 2 3) refl in
     let place = ap (λ (id : StepId). id.place) h.parent in
     let logged = subst (λ (k : ℕ). slice_get invents.visits k ≡ Some h.visit) (sym place) h.logged in
     let visit = some_is (visit_of 1 n2) h.visit logged in
@@ -116,26 +116,26 @@ invented closed =
         ∙ ap (λ (b : ℤ). join_onto plain.join (Some (pos 3)) b) (sym base))
 
 foreign : (other : ShardRecord) → Closed both (keeps_foreign ∷ other ∷ []) no_word word_11 → ⊥
-foreign other closed = differ 0 1 (omega arith) (sym (closed.made 0 0 0 1 n1 (zero-lt-suc 1) (0, refl)).1.owner)
+foreign other closed = differ 0 1 (omega arith) (sym ((closed.shards 0 (zero-lt-suc 1)).made 0 0 1 n1 (0, refl)).1.owner)
 
 crowded : Ledger (alone 1) (second_pass ∷ []) → ⊥
-crowded ledger = too_many ((ledger.rows 0 1 lt_1).few)
+crowded ledger = too_many (((ledger.shards 0 lt_1).rows 1).few)
   where
     too_many : 2 ≤ 1 → ⊥
     too_many h = absurd (omega arith)
 
 twins : Ledger (alone 2) (keeps_twins ∷ []) → ⊥
-twins ledger = ((ledger.rows 0 1 lt_1).apart.0 n1 (0, refl)).0 (reflexive plain false n1.state n1.cost)
+twins ledger = (((ledger.shards 0 lt_1).rows 1).apart.0 n1 (0, refl)).0 (reflexive plain false n1.state n1.cost)
 
 n1_not_n2 : n1 ≡ n2 → ⊥
 n1_not_n2 e = at_apart (ap (λ (n : Node). n.state) e)
 
 visited_dropped : Ledger (alone 1) (visits_dropped ∷ []) → ⊥
-visited_dropped ledger = n1_not_n2 (has_one n1 n2 (ledger.visits 0 (visit_of 1 n2) lt_1 (2, refl)))
+visited_dropped ledger = n1_not_n2 (has_one n1 n2 ((ledger.shards 0 lt_1).visits (visit_of 1 n2) (2, refl)))
 
 skipped : Closed (alone 2) (skips ∷ []) no_word word_11 → ⊥
 skipped closed =
-    elim (closed.fates 0 1 n2 lt_1 (1, refl)) [
+    elim ((closed.shards 0 lt_1).fates 1 n2 (1, refl)) [
       | inl pruned ↦ has_none _ pruned.1
       | inr visited ↦ elim (has_two (visit_of 0 n0) (visit_of 1 n1) (visit_of 1 n2) visited) [
         | inl e ↦ differ 0 1 (omega arith) (ap (λ (v : Visit). v.layer) e)
@@ -145,7 +145,7 @@ skipped closed =
 
 lost : Closed (alone 1) (loses ∷ []) no_word word_11 → ⊥
 lost closed =
-    let c = closed.covered 0 1 n2 lt_1 (0, lt_1, (1, refl)) in
+    let c = (closed.shards 0 lt_1).covered 1 n2 (0, lt_1, (1, refl)) in
     elim c.1 [
       | inl kept ↦ at_apart (ap (λ (n : Node). n.state) (has_one n1 c.0 kept) ∙ c.2.0)
       | inr dropped ↦ has_none c.0 dropped
@@ -155,15 +155,15 @@ received_more : Closed (alone 2) (receives_more ∷ []) word_11 word_3 → ⊥
 received_more closed = differ 4 5 (omega arith) (sym (ap (λ (xs : List Letter). length xs) (closed.arrived 0 0 lt_1 lt_1)))
 
 posted_twice : Closed (alone 2) (posts_twice ∷ []) word_11 word_3 → ⊥
-posted_twice closed = differ 0 1 (omega arith) (closed.once 0 0 0 1 0 1 n1 lt_1 refl refl)
+posted_twice closed = differ 0 1 (omega arith) ((closed.shards 0 lt_1).once 0 0 1 0 1 n1 refl refl)
 
 added_wrong : Closed (alone 2) (adds_wrong ∷ []) word_11 word_3 → ⊥
-added_wrong closed = differ 2 5 (omega arith) (sym (closed.totals 0 lt_1 0 0 1 2 5 (2, refl)))
+added_wrong closed = differ 2 5 (omega arith) (sym ((closed.shards 0 lt_1).totals 0 0 1 2 5 (2, refl)))
 
 stopped_early : Closed (alone 2) (stops_early ∷ []) word_11 word_3 → ⊥
 stopped_early closed =
-    let m = closed.ended 0 0 lt_1 lt_1 in
-    let at_2 = subst (λ (l : ℕ). Has (State 0 1 n1 ∷ State 0 1 n2 ∷ Mark 0 1 2 2 ∷ []) (Mark 0 l m.0 0)) (sym (closed.same_layers 0 lt_1)) m.1 in
+    let m = (closed.shards 0 lt_1).ended 0 lt_1 in
+    let at_2 = subst (λ (l : ℕ). Has (State 0 1 n1 ∷ State 0 1 n2 ∷ Mark 0 1 2 2 ∷ []) (Mark 0 l m.0 0)) (sym (closed.shards 0 lt_1).same_layers) m.1 in
     elim (has_head (State 0 1 n1) (State 0 1 n2 ∷ Mark 0 1 2 2 ∷ []) (Mark 0 2 m.0 0) at_2) [
       | inl e ↦ not_both 0 1 0 2 m.0 0 n1 e
       | inr later ↦ elim (has_two (State 0 1 n2) (Mark 0 1 2 2) (Mark 0 2 m.0 0) later) [
@@ -173,7 +173,7 @@ stopped_early closed =
     ]
 
 faulted : Closed (alone 2) (met_fault ∷ []) word_11 word_3 → ⊥
-faulted closed = none_is _ (sym (closed.fine 0 lt_1))
+faulted closed = none_is _ (sym ((closed.shards 0 lt_1).fine))
 
 cost_differs : (w : Option ℤ) → Some (pos 1) ≡ w → Some (pos 5) ≡ join plain.join None w → ⊥
 cost_differs w e f = one_five (some_is (pos 5) (pos 1) (f ∙ sym e))
@@ -183,7 +183,7 @@ cost_differs w e f = one_five (some_is (pos 5) (pos 1) (f ∙ sym e))
 
 joined_wrong : Closed (alone 1) (costs_more ∷ []) no_word word_11 → ⊥
 joined_wrong closed =
-    let m = (closed.made 0 0 0 1 dear lt_1 (0, refl)).1 in
+    let m = ((closed.shards 0 lt_1).made 0 0 1 dear (0, refl)).1 in
     let x = m.successor in
     let place = step_place 0 m.place x.parent in
     let logged = subst (λ (k : ℕ). slice_get costs_more.visits k ≡ Some m.visit) (sym place) m.logged in
@@ -195,7 +195,7 @@ joined_wrong closed =
     cost_differs x.weight same.0 cost
 
 no_floor : Closed pruning (lacks_floor ∷ []) no_word word_11 → ⊥
-no_floor closed = true_false ((closed.made 0 0 0 1 n1 lt_1 (0, refl)).1.successor.floor)
+no_floor closed = true_false (((closed.shards 0 lt_1).made 0 0 1 n1 (0, refl)).1.successor.floor)
   where
     true_false : true ≡ false → ⊥
     true_false e = cc

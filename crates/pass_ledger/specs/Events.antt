@@ -1,10 +1,10 @@
 -- What a shard may do next, and its record afterwards.
-use Rattle.std.specs.Prelude.{◌≡◌, ℕ, ◌+◌, ◌<◌, ◌⊎◌, List, [], ◌∷◌, ◌++◌, length, slice_set, Option, Some, None, ℤ}
+use Rattle.std.specs.Prelude.{◌≡◌, ℕ, ◌+◌, ◌<◌, ◌⊎◌, List, [], ◌∷◌, ◌++◌, length, slice_set, replicate, Option, Some, None, ℤ}
 use Rattle.dp_claims.specs.Enough.{Has, Different}
 use Rattle.pass_ledger.specs.Letters.{of, sender, InGroups, InOrder, Posted, all_states_at}
 use Rattle.pass_ledger.specs.Passes.{Pass, Prunes}
 use Rattle.pass_ledger.specs.Rows.{Received, IsCovered, IsRow}
-use Rattle.pass_ledger.specs.Records.{step_id, unsent, visit_of, IsSuccessor, IsTotal, Reaches, Accounted, IsFaultAt, MeetsHere}
+use Rattle.pass_ledger.specs.Records.{step_id, unsent, visit_of, IsSuccessor, IsTotal, Reaches, Accounted, IsFaultAt, MeetsHere, Starts, Own}
 use Rattle.state_layout.specs.declared.node.Node.{Node}
 use Rattle.pass_ledger.specs.declared.mail.Letter.{Letter}
 use Rattle.pass_ledger.specs.declared.mail.Letter.TheVariants.{State, Mark}
@@ -107,3 +107,20 @@ pub record CanPost (p : Pass) (i : ℕ) (r : ShardRecord) (to : ℕ) (x : Letter
   pub signed : sender x ≡ i
   pub in_groups : InGroups 1 0 (of r.posted to ++ x ∷ [])
   pub letter : CanPostLetter r to x rest
+
+-- ---- the record stays its shard's own
+
+-- a shard that has not begun
+abbrev pub fresh : ℕ → Option Node → ShardRecord
+fresh shards start =
+    record { start = start; received = replicate shards []; rows = []; waiting = []; visits = []; unsent = []; pruned = []; posted = replicate shards []; held = None; fault = None }
+
+-- The record of a shard that has not begun is its own, and each event keeps it so.
+pub record LawOwn : Type 0 where
+  pub begins : (p : Pass) (i : ℕ) (start : Option Node) → Starts p i start → Own p i (fresh p.shards start)
+  pub takes : (p : Pass) (i : ℕ) (r : ShardRecord) → Own p i r → (x : Letter) → CanTake p r x → Own p i (take r x)
+  pub closes : (p : Pass) (i : ℕ) (r : ShardRecord) → Own p i r → (new : LedgerRow) → CanClose p r new → Own p i (close r new)
+  pub prunes : (p : Pass) (i : ℕ) (r : ShardRecord) → Own p i r → (n : Node) (rest : List Node) (best : ℕ) → CanPrune p r n rest best → Own p i (prune r n rest best)
+  pub visits : (p : Pass) (i : ℕ) (r : ShardRecord) → Own p i r → (l : ℕ) (n : Node) (rest : List Node) (made : List Unsent) (prunes : List PrunedAt) (held : Option Held) (fault : Option FaultHere)
+      → CanVisit p i r l n rest made prunes held fault → Own p i (visit r l n rest made prunes held fault)
+  pub posts : (p : Pass) (i : ℕ) (r : ShardRecord) → Own p i r → (to : ℕ) (x : Letter) (rest : List Unsent) → CanPost p i r to x rest → Own p i (post r to x rest)

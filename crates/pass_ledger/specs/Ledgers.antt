@@ -15,13 +15,16 @@ use Rattle.pass_ledger.specs.declared.records.Held.{Held}
 use Rattle.pass_ledger.specs.declared.records.FaultHere.{FaultHere}
 use Rattle.pass_ledger.specs.declared.records.ShardRecord.{ShardRecord}
 
--- The ledger of a pass: a record for each shard, whose rows keep the share, and whose visits were kept nodes, each visited
--- once.
+-- The rows of a shard keep the share, and its visits were kept nodes, each visited once.
+pub record IsLedgerOf (p : Pass) (r : ShardRecord) : Type 0 where
+  pub rows : (l : ℕ) → IsRow p r.start r.received l (row r.rows l)
+  pub visits : (v : Visit) → Has r.visits v → Has (row r.rows v.layer).kept v.node
+  pub once : Different r.visits
+
+-- the ledger of a pass: a record for each shard
 pub record Ledger (p : Pass) (records : List ShardRecord) : Type 0 where
-  pub shards : length records ≡ p.shards
-  pub rows : (i l : ℕ) → i < p.shards → IsRow p (record_of records i).start (record_of records i).received l (row (record_of records i).rows l)
-  pub visits : (i : ℕ) (v : Visit) → i < p.shards → Has (record_of records i).visits v → Has (row (record_of records i).rows v.layer).kept v.node
-  pub once : (i : ℕ) → i < p.shards → Different (record_of records i).visits
+  pub long : length records ≡ p.shards
+  pub shards : (i : ℕ) → i < p.shards → IsLedgerOf p (record_of records i)
 
 -- the marks of one sender for one layer have one total, the sum of what they tell their receivers
 abbrev pub Totals : List (List Letter) → Type 0
@@ -33,32 +36,36 @@ pub record IsBest (p : Pass) (records : List ShardRecord) (opening best : ℕ) :
   pub held_above : (i : ℕ) (h : Held) → i < p.shards → (record_of records i).held ≡ Some h → pos best ≤ℤ word_of p h.cost
   pub is_one : (best ≡ opening) ⊎ ((i : ℕ) × (h : Held) × (i < p.shards) × ((record_of records i).held ≡ Some h) × (pos best ≡ word_of p h.cost))
 
--- The ledger of a pass is closed, for the best word before the pass and that after it.
-pub record Closed (p : Pass) (records : List ShardRecord) (opening best : ℕ) : Type 0 where
+-- What it takes of the record of shard i that the ledger is closed, after so many layers, with this best word.
+pub record IsClosedOf (p : Pass) (i layers best : ℕ) (r : ShardRecord) : Type 0 where
   -- 1: the target's node is received for layer 0, by its owner alone
-  pub target : (i : ℕ) → i < p.shards → Starts p i (record_of records i).start
+  pub target : Starts p i r.start
   -- 2: each received node is covered by a kept or dropped one of its row
-  pub covered : (i l : ℕ) (n : Node) → i < p.shards → Received p (record_of records i).start (record_of records i).received l n → IsCovered p (row (record_of records i).rows l) n
+  pub covered : (l : ℕ) (n : Node) → Received p r.start r.received l n → IsCovered p (row r.rows l) n
   -- 3: each posted state was made by a step from a node that its sender visited in the layer before, and each once; each kept
   -- node is recorded as pruned or was visited, without a fault; and each step from a visited node is accounted for
-  pub made : (i j from l : ℕ) (n : Node) → i < p.shards → Has (of (record_of records i).posted j) (State from l n) → (from ≡ i) × Made p i (record_of records i).visits j l n
-  pub once : (i j a b from l : ℕ) (n : Node) → i < p.shards → slice_get (of (record_of records i).posted j) a ≡ Some (State from l n) → slice_get (of (record_of records i).posted j) b ≡ Some (State from l n) → a ≡ b
-  pub fates : (i l : ℕ) (n : Node) → i < p.shards → Has (row (record_of records i).rows l).kept n → IsPruned (record_of records i).pruned n ⊎ Has (record_of records i).visits (visit_of l n)
-  pub fine : (i : ℕ) → i < p.shards → (record_of records i).fault ≡ None
-  pub accounted : (i place : ℕ) (v : Visit) → i < p.shards → slice_get (record_of records i).visits place ≡ Some v → Accounted p i (record_of records i).held (record_of records i).posted [] (record_of records i).pruned place v
-  -- 4: what was received is what was posted, in groups of layers, and the totals are sums
-  pub arrived : (i j : ℕ) → i < p.shards → j < p.shards → of (record_of records i).received j ≡ of (record_of records j).posted i
-  pub posted : (i j : ℕ) → i < p.shards → Posted p.model (of (record_of records i).posted j)
-  pub totals : (i : ℕ) → i < p.shards → Totals (record_of records i).posted
+  pub made : (j from l : ℕ) (n : Node) → Has (of r.posted j) (State from l n) → (from ≡ i) × Made p i r.visits j l n
+  pub once : (j a b from l : ℕ) (n : Node) → slice_get (of r.posted j) a ≡ Some (State from l n) → slice_get (of r.posted j) b ≡ Some (State from l n) → a ≡ b
+  pub fates : (l : ℕ) (n : Node) → Has (row r.rows l).kept n → IsPruned r.pruned n ⊎ Has r.visits (visit_of l n)
+  pub fine : r.fault ≡ None
+  pub accounted : (place : ℕ) (v : Visit) → slice_get r.visits place ≡ Some v → Accounted p i r.held r.posted [] r.pruned place v
+  -- 4: what it posted is in groups of layers, and the totals are sums
+  pub posted : (j : ℕ) → Posted p.model (of r.posted j)
+  pub totals : Totals r.posted
   -- 5: each recorded pruning used a value that is not less than the best word, and not greater than the word of the floor
-  pub pruned : (i : ℕ) (q : PrunedAt) → i < p.shards → Has (record_of records i).pruned q → (best ≤ q.best) × Prunes p q.best q.node
-  -- 6: all shards have closed the same layers, and the totals of the layer after them are 0
+  pub pruned : (q : PrunedAt) → Has r.pruned q → (best ≤ q.best) × Prunes p q.best q.node
+  -- 6: it closed just these layers, and its totals of the next one are 0
+  pub same_layers : length r.rows ≡ layers
+  pub ended : (j : ℕ) → j < p.shards → (to_you : ℕ) × Has (of r.posted j) (Mark i layers to_you 0)
+  -- 7: what it holds is the cheapest step to a base state from a node that it visited (3 says that it is no worse than others)
+  pub held : (h : Held) → r.held ≡ Some h → IsHeld p i r.visits h
+
+-- The ledger of a pass is closed, for the best word before the pass and that after it: all shards closed the same layers, what
+-- was received is what was posted (4), and the best word is the least of the opening word and the held ones (7).
+pub record Closed (p : Pass) (records : List ShardRecord) (opening best : ℕ) : Type 0 where
   pub layers : ℕ
-  pub same_layers : (i : ℕ) → i < p.shards → length (record_of records i).rows ≡ layers
-  pub ended : (i j : ℕ) → i < p.shards → j < p.shards → (to_you : ℕ) × Has (of (record_of records i).posted j) (Mark i layers to_you 0)
-  -- 7: each held solution is the cheapest step to a base state from what its shard visited (that it is no worse than any
-  -- other is part of 3), and the best word is the least of the opening word and the held ones
-  pub held : (i : ℕ) (h : Held) → i < p.shards → (record_of records i).held ≡ Some h → IsHeld p i (record_of records i).visits h
+  pub shards : (i : ℕ) → i < p.shards → IsClosedOf p i layers best (record_of records i)
+  pub arrived : (i j : ℕ) → i < p.shards → j < p.shards → of (record_of records i).received j ≡ of (record_of records j).posted i
   pub is_best : IsBest p records opening best
 
 -- no node was dropped

@@ -162,7 +162,7 @@ pub record Sends (p : Pass) (i : ℕ) (layers : ℕ) (visits : List Visit) (read
 -- A mark of a layer is posted where the layer before it is closed, and each node kept there was pruned or visited without a
 -- fault, and all its states for that receiver were posted. The marks of one layer have one total: how many states of the
 -- layer are sent to all shards.
-pub record Marks (shards layers : ℕ) (waiting : List Node) (ready : List Unsent) (fault : Option FaultHere) (posted : List (List Letter)) : Type 0 where
+pub record Marks (layers : ℕ) (waiting : List Node) (ready : List Unsent) (fault : Option FaultHere) (posted : List (List Letter)) : Type 0 where
   pub layer : (j from l to_you total : ℕ) → Has (of posted j) (Mark from l to_you total) → l ≤ layers
   pub total_before : (j from l to_you total : ℕ) → Has (of posted j) (Mark from l to_you total) → l < layers → total ≡ all_states_at l posted
   pub total_now : (j from l to_you total : ℕ) → Has (of posted j) (Mark from l to_you total) → l ≡ layers → total ≡ all_states_at l posted + length ready
@@ -185,7 +185,7 @@ pub record Own (p : Pass) (i : ℕ) (r : ShardRecord) : Type 0 where
   pub pruned : (q : PrunedAt) → Has r.pruned q → Prunes p q.best q.node
   pub held : (h : Held) → r.held ≡ Some h → IsHeld p i r.visits h
   pub sends : Sends p i (length r.rows) r.visits r.unsent r.posted
-  pub marks : Marks p.shards (length r.rows) r.waiting r.unsent r.fault r.posted
+  pub marks : Marks (length r.rows) r.waiting r.unsent r.fault r.posted
 
 -- The record is done: all its letters and marks are posted, and the marks of all shards for the next layer are there, with
 -- totals that add up to 0.

@@ -5,7 +5,7 @@ use Rattle.dp_claims.specs.Enough.{Has}
 use Rattle.pass_ledger.specs.Letters.{of}
 use Rattle.pass_ledger.specs.Passes.{Pass, word_of, StartsInner, IsStart, Prunes}
 use Rattle.pass_ledger.specs.Records.{record_of, Together, IsMet}
-use Rattle.pass_ledger.specs.Events.{append_at, take, close, CanClose, prune, visit, CanVisit, post, CanPost}
+use Rattle.pass_ledger.specs.Events.{fresh, append_at, take, close, CanClose, prune, visit, CanVisit, post, CanPost}
 use Rattle.pass_ledger.specs.Ledgers.{Ledger, Closed, AllDone, PrunesAbove}
 use Rattle.state_layout.specs.declared.node.Node.{Node}
 use Rattle.pass_ledger.specs.declared.mail.Letter.{Letter}
@@ -128,10 +128,6 @@ after w (e ∷ events) = after (happens w e) events
 
 abbrev pub start_of : Pass → Node → ℕ → Option Node
 start_of p start i = if nat_eq (p.owner p.model.target) i then Some start else None
-
-abbrev pub fresh : ℕ → Option Node → ShardRecord
-fresh shards start =
-    record { start = start; received = replicate shards []; rows = []; waiting = []; visits = []; unsent = []; pruned = []; posted = replicate shards []; held = None; fault = None }
 
 -- no letter was taken and no node visited; only the target's owner has a node, the target's
 abbrev pub opened : Pass → (start : Node) → (budget opening drawn : ℕ) → World

@@ -1,4 +1,5 @@
 ghost use Rattle.pass_ledger.specs.Counts.{LawEnough};
+ghost use Rattle.pass_ledger.specs.Events.{LawOwn};
 ghost use Rattle.pass_ledger.specs.Groups.{LawEmpty, LawGrown, LawMarks, LawNext, LawPrefix, LawStates};
 ghost use Rattle.pass_ledger.specs.Logs.{LawLogs};
 ghost use Rattle.pass_ledger.specs.Ledgers.{LawClosed, LawRecords};
@@ -42,4 +43,9 @@ pub fn law_letters()
 /// in the logs.
 pub fn law_logs()
     ensures { LawLogs }
+{}
+
+/// The record of a shard that has not begun keeps what a record keeps by itself, and each event of its shard keeps it.
+pub fn law_own()
+    ensures { LawOwn }
 {}

@@ -56,6 +56,15 @@ impl Layout {
         Ok(Layout { slots })
     }
 
+    /// An equal layout.
+    pub fn copy(&self, alloc: Global) -> Result<Layout, AllocError>
+        ensures { IfOk result (λ layout. layout ≡ self.now) }
+    {
+        Ok(Layout {
+            slots: Vec::from_slice(alloc, &self.slots)?,
+        })
+    }
+
     /// A state of the layout's model in packed form.
     pub fn pack(&self, alloc: Global, s: &PlainState) -> Result<Packed, AllocError>
         requires { IsStateFor self.now s.now }

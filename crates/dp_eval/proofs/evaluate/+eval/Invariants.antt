@@ -1,7 +1,7 @@
 use Rattle.std.proofs.Common.{◌≡◌, ◌∷◌, ◌++◌, [], map, drop, Ok}
-use Rattle.dp_base.specs.Results.{◌>>=◌, in_turn}
-use Rattle.dp_model.specs.Evaluation.{each_holds, num_value, cond_value, NumValue}
-use Rattle.dp_eval.specs.Terms.{term_value, term_values}
+use Rattle.dp_base.specs.Results.{◌>>=◌}
+use Rattle.dp_model.specs.Evaluation.{each_holds, cond_value}
+use Rattle.dp_eval.specs.Terms.{num_values, term_value, term_values}
 use Rattle.dp_eval.proofs.evaluate.+eval.Given as goal
 
 abbrev pub invariant-eval_all-loop-member : goal.invariant-eval_all-loop-member
@@ -10,9 +10,7 @@ invariant-eval_all-loop-member l =
     ≡ each_holds (λ k. cond_value l.model l.s l.c (l.args ++ k ∷ [])) l.members
 
 abbrev pub invariant-eval_nums-loop-n : goal.invariant-eval_nums-loop-n
-invariant-eval_nums-loop-n l =
-    (in_turn (λ (n : NumValue). n l.args) (map (num_value l.model l.s) (drop l.n-index l.n-items)) >>= λ more. Ok (l.values.items ++ more))
-    ≡ in_turn (λ (n : NumValue). n l.args) (map (num_value l.model l.s) l.n-items)
+invariant-eval_nums-loop-n l = (num_values l.model l.s (drop l.n-index l.n-items) l.args >>= λ more. Ok (l.values.items ++ more)) ≡ num_values l.model l.s l.n-items l.args
 
 abbrev pub invariant-eval_terms-loop-term : goal.invariant-eval_terms-loop-term
 invariant-eval_terms-loop-term l =

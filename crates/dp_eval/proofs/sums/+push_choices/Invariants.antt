@@ -2,4 +2,4 @@ use Rattle.std.proofs.Common.{length}
 use Rattle.dp_eval.proofs.sums.+push_choices.Given as goal
 
 abbrev pub decreases-push_choices : goal.decreases-push_choices
-decreases-push_choices l = length l.objects.now
+decreases-push_choices l = length l.counts.now

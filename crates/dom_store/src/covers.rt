@@ -1,0 +1,97 @@
+//! When a node covers another, so that the other is needless. No call takes memory.
+
+ghost use Rattle.std.specs.Prelude.{◌≡◌, ◌↔◌, IsTrue, IfSome, Bool, true, false, int_le};
+ghost use Rattle.dp_model.specs.Costs.{InRange, order_word};
+ghost use Rattle.dp_model.specs.declared.parts.JoinOp.{JoinOp};
+ghost use Rattle.dp_model.specs.declared.whole.Model.{Model as DpModel};
+ghost use Rattle.dp_claims.specs.Dominance.{Covers as CoversIn};
+ghost use Rattle.cost_laws.specs.Orders.{IsLawOf};
+ghost use Rattle.state_layout.specs.Conditions.{IsLayoutOf, IsNodeFor};
+ghost use Rattle.dom_store.specs.Covering.{covers, IsReflexive, IsTransitive, KeepsSignature};
+ghost use Rattle.dom_store.specs.Laws.{reflexive, transitive, one_signature};
+
+use cost_laws::CostLaw;
+use state_layout::{Layout, Node};
+use std::marker::PhantomData;
+
+/// When a node covers another.
+pub trait Covers {
+    /// Whether states are compared by dominance; else they have to be the same.
+    ghost prune: { Bool };
+
+    /// The law of costs.
+    ghost minimize: { Bool };
+
+    ghost operator: { JoinOp };
+
+    /// Whether a node covers another: its cost so far is no worse, and its state is the same or dominates the other's.
+    fn covers(layout: &Layout, n: &Node, other: &Node) -> bool
+        requires left { IsNodeFor layout.now n.now }
+        requires right { IsNodeFor layout.now other.now }
+        ensures test { result ≡ covers prune minimize operator layout.now n.now other.now }
+        ensures covering { (m : DpModel) → IsLayoutOf m layout.now → IsLawOf m minimize operator → IsTrue result ↔ CoversIn m prune n.now.state n.now.cost other.now.state other.now.cost };
+
+    /// Each node covers itself.
+    ghost reflexive: { IsReflexive prune minimize operator };
+
+    /// What covers a node covers what that node covers.
+    ghost transitive: { IsTransitive prune minimize operator };
+
+    /// A node and what it covers have one signature.
+    ghost one_signature: { KeepsSignature prune minimize operator };
+}
+
+/// A node covers another of the same state whose cost so far is no better: the covering without pruning.
+pub struct Exact<L> {
+    law: PhantomData<L>,
+}
+
+impl<L: CostLaw> Covers for Exact<L> {
+    ghost prune = { false };
+
+    ghost minimize = { L.minimize };
+
+    ghost operator = { L.operator };
+
+    ghost reflexive = { reflexive false L.minimize L.operator };
+
+    ghost transitive = { transitive false L.minimize L.operator };
+
+    ghost one_signature = { one_signature false L.minimize L.operator };
+
+    fn covers(layout: &Layout, n: &Node, other: &Node) -> bool {
+        layout.same(&n.state, &other.state) && is_no_worse::<L>(n, other)
+    }
+}
+
+/// A node covers another whose state its own dominates, and whose cost so far is no better: the covering with pruning.
+pub struct Dominating<L> {
+    law: PhantomData<L>,
+}
+
+impl<L: CostLaw> Covers for Dominating<L> {
+    ghost prune = { true };
+
+    ghost minimize = { L.minimize };
+
+    ghost operator = { L.operator };
+
+    ghost reflexive = { reflexive true L.minimize L.operator };
+
+    ghost transitive = { transitive true L.minimize L.operator };
+
+    ghost one_signature = { one_signature true L.minimize L.operator };
+
+    fn covers(layout: &Layout, n: &Node, other: &Node) -> bool {
+        layout.dominates(&n.state, &other.state) && is_no_worse::<L>(n, other)
+    }
+}
+
+// whether the cost so far of a node is no worse than that of another
+fn is_no_worse<L: CostLaw>(n: &Node, other: &Node) -> bool
+    requires left { IfSome n.now.cost InRange }
+    requires right { IfSome other.now.cost InRange }
+    ensures { result ≡ int_le (order_word L.minimize L.operator n.now.cost) (order_word L.minimize L.operator other.now.cost) }
+{
+    L::word(n.cost) <= L::word(other.cost)
+}

@@ -1,5 +1,0 @@
-use Rattle.std.proofs.Common.{◌≡◌, ◌∷◌, ◌++◌, map, take}
-use Rattle.dp_eval.proofs.sums.push_prefixed.Given as goal
-
-abbrev pub invariant-loop-members : goal.invariant-loop-members
-invariant-loop-members l = l.ways.items ≡ l.initial.ways.items ++ map (λ members. l.member ∷ members) (take l.members-index l.rest)
