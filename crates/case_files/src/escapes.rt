@@ -1,3 +1,5 @@
+//! How a case writes bytes that do not stand in a line: escapes, written and read back.
+
 ghost use Rattle.std.specs.Prelude.{◌<◌};
 
 use std::alloc::{AllocError, Global};

@@ -1,3 +1,5 @@
+//! Files of cases: entries of a key and a text.
+
 use crate::escapes::push_unescaped;
 use std::alloc::{AllocError, Global};
 

@@ -1,3 +1,5 @@
+//! Cases of `read_expr`: an expression's tree, or its refusal with its offset.
+
 ghost use Rattle.std.specs.Prelude.{◌≤◌, length};
 
 use case_files::escaped;

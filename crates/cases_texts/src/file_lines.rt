@@ -1,3 +1,5 @@
+//! Cases of `lines`: the lines of a file, or its refusal.
+
 ghost use Rattle.std.specs.Prelude.{◌≤◌, length};
 
 use dp_base::Place;

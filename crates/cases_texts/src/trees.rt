@@ -1,3 +1,5 @@
+//! Cases of `read`: the tree of a text, or its refusal with its place.
+
 ghost use Rattle.std.specs.Prelude.{◌≤◌, length};
 
 use crate::file_lines::{end_shown, refused};

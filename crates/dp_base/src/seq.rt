@@ -1,3 +1,5 @@
+//! A vector that contracts see as the list of its items.
+
 ghost use Rattle.std.specs.Prelude.{◌≡◌};
 ghost use Rattle.std.specs.Borrow.{Lends, sem};
 ghost use Rattle.dp_base.specs.Lending.{vec_row};

@@ -1,3 +1,5 @@
+//! A text that contracts see as the list of its bytes.
+
 ghost use Rattle.std.specs.Prelude.{◌≡◌, ◌++◌, string_bytes, OnOk, OnErr};
 
 use std::alloc::AllocError;

@@ -1,3 +1,6 @@
+//! What a search, a replay or an evaluation answers: faults and their spots, solutions, verdicts; and how a model is to be
+//! solved.
+
 ghost use Rattle.std.specs.Prelude.{◌≡◌};
 
 use dp_base::Seq;

@@ -1,3 +1,5 @@
+//! The parts of a model: object types, variables, tables, transitions, base cases, and states.
+
 ghost use Rattle.std.specs.Prelude.{◌≡◌};
 
 use crate::trees::{Cond, Num, Over, SetEx};

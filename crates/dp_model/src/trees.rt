@@ -1,3 +1,5 @@
+//! Expressions as trees: numbers, sets and conditions.
+
 use dp_base::{Boxed, Seq};
 
 /// An operation on two numbers. `Over` rounds toward zero, and `Rest` has the dividend's sign.

@@ -1,3 +1,5 @@
+//! A model as a whole, and what every model keeps.
+
 ghost use Rattle.std.specs.Prelude.{◌≡◌, IsTrue};
 ghost use Rattle.dp_model.specs.Typing.{are_trees, are_variables, are_tables, is_state, are_grounded};
 ghost use Rattle.dp_model.specs.Limits.{are_few_names, are_few_rules};

@@ -1,3 +1,5 @@
+//! A shelf and a sink that never fail.
+
 ghost use Rattle.std.specs.Prelude.{◌≡◌, [], ◌∷◌, ◌++◌, Some, None, OnOk, OnErr, IfSome, IsSome};
 ghost use Rattle.std.specs.Option.{option_copied};
 ghost use Rattle.dp_outside.specs.Files.{file_under, bytes_or_none};

@@ -1,3 +1,5 @@
+//! What is called at each turn of a shard.
+
 /// What each turn of a shard passes first. A test can hold shards back here.
 pub trait Gate: Sync {
     /// Called at the start of each turn of a shard, with the shard's number and the number of its turns before.

@@ -1,3 +1,5 @@
+//! Files in memory, with reads that are told to fail.
+
 ghost use Rattle.std.specs.Prelude.{◌≡◌, ℕ, ◌≤◌, ◌<◌, ◌↔◌, ◌⊎◌, List, [], ◌∷◌, ◌++◌, None, length, Contains, IfOk, IfSome, IsErr, IsNone, OnOk, OnErr};
 ghost use Rattle.dp_outside.specs.Files.{file_under};
 ghost use Rattle.dp_outside.specs.Memory.{one_more};

@@ -1,3 +1,5 @@
+//! Output in memory, with writes that are told to fail.
+
 ghost use Rattle.std.specs.Prelude.{◌≡◌, ◌≤◌, ◌<◌, [], ◌∷◌, ◌++◌, Some, length, take, Contains, IfOk, IsErr, OnOk, OnErr};
 ghost use Rattle.std.specs.Option.{option_copied};
 ghost use Rattle.dp_outside.specs.Memory.{one_more};

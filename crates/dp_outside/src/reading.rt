@@ -1,3 +1,5 @@
+//! A file read whole, up to a limit.
+
 ghost use Rattle.std.specs.Prelude.{◌≡◌, ℕ, ◌≤◌, ◌<◌, List, length, vec_len, [], IfOk, IfSome, IsErrOf};
 ghost use Rattle.dp_outside.specs.Outside.{Rose};
 ghost use Rattle.dp_outside.specs.declared.reading.ReadEnd.TheVariants.{Fault, Memory};

@@ -1,3 +1,5 @@
+//! The real files and the real standard output: the trusted edge.
+
 ghost use Rattle.std.specs.Prelude.{◌≡◌, ◌≤◌, length, None, IfOk};
 
 use crate::failing::Failed;

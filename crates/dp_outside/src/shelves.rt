@@ -1,3 +1,5 @@
+//! What files are read from.
+
 ghost use Rattle.std.specs.Prelude.{◌≡◌, ℕ, ◌≤◌, ◌<◌, List, Option, length, IfOk, OnErr, IfSome};
 ghost use Rattle.dp_outside.specs.Outside.{Rose, ReadsAt};
 

@@ -1,3 +1,5 @@
+//! What the output goes to.
+
 ghost use Rattle.std.specs.Prelude.{ℕ, ◌≤◌, ◌<◌, [], List, Option, length, take, IfOk, OnErr};
 ghost use Rattle.dp_outside.specs.Outside.{Rose, Takes};
 

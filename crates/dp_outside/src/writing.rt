@@ -1,3 +1,5 @@
+//! A piece written whole.
+
 ghost use Rattle.std.specs.Prelude.{◌≤◌, ◌<◌, length, OnOk, OnErr};
 ghost use Rattle.dp_outside.specs.Outside.{Rose, Takes, TakesFront};
 

@@ -1,3 +1,5 @@
+//! The program: the words of the command line, the real files and the real output, and the status of `run`.
+
 // Solves a model in two files, as the words of the command line ask, and ends with the status of the run.
 #![tactic(auto)]
 

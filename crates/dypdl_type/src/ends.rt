@@ -1,3 +1,5 @@
+//! Why an expression has no meaning in its place.
+
 ghost use Rattle.std.specs.Prelude.{◌≡◌};
 ghost use Rattle.dypdl_type.specs.declared.ends.TypeEnd.TheVariants.{Memory};
 

@@ -1,3 +1,5 @@
+//! The names in force where an expression stands.
+
 // LEAD NOTE 08:20: read /work/typing/LEAD_NOTE.md before you go on (typing as a function of lists, not of Scope)
 ghost use Rattle.std.specs.Prelude.{◌<◌, ◌^◌, length};
 

@@ -1,3 +1,5 @@
+//! Ledgers that are written out, closed ones and wrong ones, as laws.
+
 ghost use Rattle.pass_ledger.specs.Worked.{LawBestWay, LawFirstPass, LawSecondPass};
 ghost use Rattle.pass_ledger.specs.WorkedEnough.{LawWorkedEnough};
 ghost use Rattle.pass_ledger.specs.WorkedFault.{LawWorkedFault};

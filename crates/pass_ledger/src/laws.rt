@@ -1,3 +1,5 @@
+//! The three laws of a pass, as functions without a body.
+
 ghost use Rattle.pass_ledger.specs.Counts.{LawEnough};
 ghost use Rattle.pass_ledger.specs.Events.{LawOwn};
 ghost use Rattle.pass_ledger.specs.Groups.{LawEmpty, LawGrown, LawMarks, LawNext, LawPrefix, LawStates};

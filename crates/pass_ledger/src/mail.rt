@@ -1,3 +1,5 @@
+//! Letters: states for the next layer, and the marks that end a layer.
+
 use state_layout::Node;
 
 /// What a shard sends to a shard: the node of a state of a layer, or the mark that ends a layer. A mark tells how many

@@ -1,3 +1,5 @@
+//! What a shard's pass was: the data of the definitions.
+
 use crate::mail::Letter;
 use dp_model::{FaultKind, Seq, Spot};
 use path_log::StepId;

@@ -1,3 +1,5 @@
+//! Lines of the report, each written in one piece where it is short.
+
 ghost use Rattle.std.specs.Prelude.{◌≡◌};
 ghost use Rattle.dp_base.specs.Bytes.{line};
 ghost use Rattle.solve_report.specs.Lines.{solution_text, pass_line};

@@ -1,3 +1,5 @@
+//! The top call: what the program does with its words.
+
 ghost use Rattle.std.specs.Prelude.{◌≡◌, ◌≤◌, ◌⊎◌, ◌++◌, ℕ, List, map, string_bytes, length, IfOk, IfErr, IfSome};
 ghost use Rattle.dp_outside.specs.Outside.{Rose};
 ghost use Rattle.dypdl_load.specs.Meaning.{Means};

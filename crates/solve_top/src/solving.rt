@@ -1,3 +1,5 @@
+//! The command `solve`: files, model, search and report.
+
 ghost use Rattle.std.specs.Prelude.{codes, pos, ◌≡◌, ◌+◌, ◌-◌, ◌≤◌, ◌<◌, ◌⊎◌, ℕ, ℤ, List, [], true, false, None, Some, Option, IfSome, IfNone, OnOk, OnErr};
 ghost use Rattle.dp_outside.specs.Outside.{Rose, Takes, TakesFront};
 ghost use Rattle.dp_model.specs.Costs.{IsBetter};

@@ -1,3 +1,5 @@
+//! The words of the command line.
+
 ghost use Rattle.std.specs.Prelude.{◌≡◌, ◌≤◌, ◌∷◌, [], List, ℕ, IsTrue, codes, length, map, string_bytes, IfSome, IfNone};
 ghost use Rattle.std.specs.List.{list_all};
 ghost use Rattle.dp_base.specs.Bytes.{is_digit as digit_test};

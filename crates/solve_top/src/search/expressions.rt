@@ -1,3 +1,5 @@
+//! The few forms of expressions that the plain search evaluates.
+
 ghost use Rattle.std.specs.Prelude.{◌≡◌, ◌+◌, ◌≤◌, ℕ, ℤ, pos, ◌+ℤ◌, length, List, [], Ok, All, slice_index_or};
 ghost use Rattle.dp_model.specs.Costs.{InRange};
 ghost use Rattle.dp_model.specs.Evaluation.{compares, num_value, cond_value};

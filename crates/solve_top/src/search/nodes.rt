@@ -1,3 +1,5 @@
+//! Nodes of the plain search: a state, its cost so far and its list.
+
 ghost use Rattle.std.specs.Prelude.{◌≡◌, ◌+◌, ◌∷◌, ◌++◌, ◌≤◌, ◌<◌, length, [], ℕ, ℤ, Some, All, IfOk, OnOk, vec_len, IsTrue, IfSome, HoldsAt, is_ok, if◌then◌else◌, ◌↔◌, Option};
 ghost use Rattle.dp_steps.specs.Lists.{Solution};
 ghost use Rattle.dp_model.specs.declared.parts.PlainState.{PlainState};

@@ -1,3 +1,5 @@
+//! Passes of the plain search, with a share that doubles.
+
 ghost use Rattle.std.specs.Prelude.{◌≡◌, ◌+◌, ◌*◌, ◌≤◌, ◌<◌, ◌^◌, ℕ, ℤ, length, Err, None, Some, Option, All, OnOk, IfOk, IfSome, vec_len};
 ghost use Rattle.dp_steps.specs.States.{Inner};
 ghost use Rattle.dp_model.specs.declared.parts.PlainState.{PlainState};

@@ -1,3 +1,5 @@
+//! States of the plain search as numbers of the variables.
+
 ghost use Rattle.std.specs.Prelude.{◌≡◌, ◌+◌, ◌+ℤ◌, ◌≤◌, ◌<◌, length, pos, [], Some, Ok, MatchBool, IfOk, IfSome};
 ghost use Rattle.dp_model.specs.Costs.{InRange, join};
 ghost use Rattle.dp_model.specs.StepTexts.{ground_of};

@@ -1,3 +1,5 @@
+//! Successors of a node in the plain search.
+
 ghost use Rattle.std.specs.Prelude.{◌≡◌, ◌+◌, ◌≤◌, ◌<◌, ℕ, length, List, [], Ok, All, IfOk};
 ghost use Rattle.dp_model.specs.Evaluation.{kind_of};
 ghost use Rattle.dp_steps.specs.States.{effect_value};

@@ -1,3 +1,5 @@
+//! Visits of a layer's nodes in the plain search.
+
 ghost use Rattle.std.specs.Prelude.{◌≡◌, ◌+◌, ◌≤◌, ◌<◌, ℕ, ℤ, length, All, OnOk, vec_len, Option};
 ghost use Rattle.dp_model.specs.declared.parts.PlainState.{PlainState};
 ghost use Rattle.solve_top.specs.Plain.{IsPlain};
