@@ -1,5 +1,3 @@
-pub mod FirstForm
+pub mod Settings
+pub mod Together
 pub mod Meaning
-pub mod Reading
-pub mod ReadFirst
-pub mod Parts

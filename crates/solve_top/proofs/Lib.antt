@@ -7,6 +7,7 @@ pub mod Expanding
 pub mod Exhausting
 pub mod Passing
 pub mod AtTarget
-pub mod Loaded
+pub mod PlainModels
+pub mod Texts
 pub mod Programs
 pub mod Concluding

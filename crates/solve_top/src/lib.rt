@@ -1,10 +1,13 @@
 //! The program whole: from the words of the command line and the files to the lines printed and the status.
 #![tactic(auto)]
 
+mod causes;
+mod plain;
 mod program;
 mod search;
 mod solving;
 mod status;
+mod texts;
 mod words;
 
 pub use program::run;
