@@ -3,30 +3,33 @@
 
 ghost use Rattle.std.specs.Prelude.{◌≡◌, Some, length};
 ghost use Rattle.dp_base.specs.Results.{Answers, AnswersBy, in_turn};
-ghost use Rattle.dypdl_type.specs.Ends.{told};
+ghost use Rattle.dypdl_words.specs.Ends.{told};
 ghost use Rattle.dypdl_type.specs.Forms.{typings, number_size, number_cell, sum_over, members_cell, complemented, set_relation, compared, membership, emptiness, negated, condition_cell};
 ghost use Rattle.dypdl_type.specs.Typing.{Typing, typing, operation_of, chosen_number, terms, term, set_operation_of, changed, chosen_members, connection_of, choice_of_conditions, number_pair, set_pair, condition_pair};
 
-use crate::ends::TypeEnd;
-use crate::folding::{
-    changed_set, chosen_condition, chosen_number, chosen_set, connected, folded_numbers,
-    folded_sets, related,
-};
 use crate::forms::{
-    ConditionForm, MembersForm, NumberForm, SetRelation, condition_form, members_form, number_form,
+    ConditionForm, MembersForm, NumberForm, condition_form, members_form, number_form,
 };
-use crate::leaves::{condition_word, members_word, number_word};
 use crate::levels::levels_below;
-use crate::scope::Scope;
 use crate::set_kind::holds_set;
-use crate::words::{Change, Connective};
-use dp_model::{Arg, Boxed, Compare, Cond, Num, NumOp, Seq, SetEx, SetOp};
+use dp_base::{Boxed, Seq};
+use dp_model::{Arg, Compare, Cond, Num, NumOp, SetEx, SetOp};
 use dypdl_expr::Expr;
+use dypdl_words::{
+    Change, Connective, Scope, SetRelation, TypeEnd, changed_set, chosen_condition, chosen_number,
+    chosen_set, condition_word, connected, folded_numbers, folded_sets, members_word, number_word,
+    related,
+};
 use std::alloc::Global;
 
 /// The tree of an expression where a number is wanted.
 #[cycle(typing)]
-pub(crate) fn number(alloc: Global, scope: &Scope, levels: u32, e: &Expr) -> Result<Num, TypeEnd>
+pub(crate) fn number(
+    alloc: Global,
+    scope: &Scope<'_>,
+    levels: u32,
+    e: &Expr,
+) -> Result<Num, TypeEnd>
     ensures { Answers told result (typing scope.now e.now).number }
 {
     let Some(below) = levels_below(levels, e) else {
@@ -44,7 +47,7 @@ pub(crate) fn number(alloc: Global, scope: &Scope, levels: u32, e: &Expr) -> Res
 
 /// The number of a set's members.
 #[cycle(typing)]
-fn number_size(alloc: Global, scope: &Scope, levels: u32, e: &Expr) -> Result<Num, TypeEnd>
+fn number_size(alloc: Global, scope: &Scope<'_>, levels: u32, e: &Expr) -> Result<Num, TypeEnd>
     ensures { Answers told result (number_size (typing scope.now e.now)) }
 {
     let (_, set) = members(alloc, scope, levels, None, e)?;
@@ -55,7 +58,7 @@ fn number_size(alloc: Global, scope: &Scope, levels: u32, e: &Expr) -> Result<Nu
 #[cycle(typing)]
 fn operation(
     alloc: Global,
-    scope: &Scope,
+    scope: &Scope<'_>,
     levels: u32,
     op: NumOp,
     first: &Expr,
@@ -72,7 +75,7 @@ fn operation(
 #[cycle(typing)]
 fn number_choice(
     alloc: Global,
-    scope: &Scope,
+    scope: &Scope<'_>,
     levels: u32,
     c: &Expr,
     a: &Expr,
@@ -89,7 +92,7 @@ fn number_choice(
 #[cycle(typing)]
 fn number_pair(
     alloc: Global,
-    scope: &Scope,
+    scope: &Scope<'_>,
     levels: u32,
     a: &Expr,
     b: &Expr,
@@ -105,7 +108,7 @@ fn number_pair(
 #[cycle(typing)]
 fn number_cell(
     alloc: Global,
-    scope: &Scope,
+    scope: &Scope<'_>,
     levels: u32,
     t: u32,
     operands: &[Expr],
@@ -118,7 +121,7 @@ fn number_cell(
 
 /// The trees of expressions where numbers are wanted, in order.
 #[cycle(typing)]
-fn numbers(alloc: Global, scope: &Scope, levels: u32, es: &[Expr]) -> Result<Vec<Num>, TypeEnd>
+fn numbers(alloc: Global, scope: &Scope<'_>, levels: u32, es: &[Expr]) -> Result<Vec<Num>, TypeEnd>
     ensures { AnswersBy told (λ v. v.items) result (in_turn (λ (e : Typing). e.number) (typings scope.now es.now)) }
 {
     let mut trees = Vec::new(alloc);
@@ -132,7 +135,7 @@ fn numbers(alloc: Global, scope: &Scope, levels: u32, es: &[Expr]) -> Result<Vec
 #[cycle(typing)]
 fn sum(
     alloc: Global,
-    scope: &Scope,
+    scope: &Scope<'_>,
     levels: u32,
     t: u32,
     objects: &[u32],
@@ -149,7 +152,7 @@ fn sum(
 #[cycle(typing)]
 fn terms(
     alloc: Global,
-    scope: &Scope,
+    scope: &Scope<'_>,
     levels: u32,
     objects: &[u32],
     es: &[Expr],
@@ -166,7 +169,13 @@ fn terms(
 
 /// The tree of an argument of a `sum`, of this object type.
 #[cycle(typing)]
-fn term(alloc: Global, scope: &Scope, levels: u32, object: u32, e: &Expr) -> Result<Arg, TypeEnd>
+fn term(
+    alloc: Global,
+    scope: &Scope<'_>,
+    levels: u32,
+    object: u32,
+    e: &Expr,
+) -> Result<Arg, TypeEnd>
     ensures { Answers told result (term object (typing scope.now e.now)) }
 {
     if holds_set(scope, e) {
@@ -181,7 +190,7 @@ fn term(alloc: Global, scope: &Scope, levels: u32, object: u32, e: &Expr) -> Res
 #[cycle(typing)]
 pub(crate) fn members(
     alloc: Global,
-    scope: &Scope,
+    scope: &Scope<'_>,
     levels: u32,
     wanted: Option<u32>,
     e: &Expr,
@@ -211,7 +220,7 @@ pub(crate) fn members(
 #[cycle(typing)]
 fn set_operation(
     alloc: Global,
-    scope: &Scope,
+    scope: &Scope<'_>,
     levels: u32,
     wanted: Option<u32>,
     op: SetOp,
@@ -229,7 +238,7 @@ fn set_operation(
 #[cycle(typing)]
 fn complement(
     alloc: Global,
-    scope: &Scope,
+    scope: &Scope<'_>,
     levels: u32,
     wanted: Option<u32>,
     e: &Expr,
@@ -244,7 +253,7 @@ fn complement(
 #[cycle(typing)]
 fn members_change(
     alloc: Global,
-    scope: &Scope,
+    scope: &Scope<'_>,
     levels: u32,
     wanted: Option<u32>,
     change: Change,
@@ -262,7 +271,7 @@ fn members_change(
 #[cycle(typing)]
 fn members_choice(
     alloc: Global,
-    scope: &Scope,
+    scope: &Scope<'_>,
     levels: u32,
     wanted: Option<u32>,
     c: &Expr,
@@ -280,7 +289,7 @@ fn members_choice(
 #[cycle(typing)]
 fn set_pair(
     alloc: Global,
-    scope: &Scope,
+    scope: &Scope<'_>,
     levels: u32,
     wanted: Option<u32>,
     a: &Expr,
@@ -297,7 +306,7 @@ fn set_pair(
 #[cycle(typing)]
 fn members_cell(
     alloc: Global,
-    scope: &Scope,
+    scope: &Scope<'_>,
     levels: u32,
     object: u32,
     t: u32,
@@ -313,7 +322,7 @@ fn members_cell(
 #[cycle(typing)]
 fn sets(
     alloc: Global,
-    scope: &Scope,
+    scope: &Scope<'_>,
     levels: u32,
     object: u32,
     es: &[Expr],
@@ -331,7 +340,7 @@ fn sets(
 #[cycle(typing)]
 pub(crate) fn condition(
     alloc: Global,
-    scope: &Scope,
+    scope: &Scope<'_>,
     levels: u32,
     e: &Expr,
 ) -> Result<Cond, TypeEnd>
@@ -359,7 +368,7 @@ pub(crate) fn condition(
 #[cycle(typing)]
 fn comparison(
     alloc: Global,
-    scope: &Scope,
+    scope: &Scope<'_>,
     levels: u32,
     op: Compare,
     a: &Expr,
@@ -375,7 +384,7 @@ fn comparison(
 #[cycle(typing)]
 fn set_relation(
     alloc: Global,
-    scope: &Scope,
+    scope: &Scope<'_>,
     levels: u32,
     relation: SetRelation,
     a: &Expr,
@@ -391,7 +400,7 @@ fn set_relation(
 #[cycle(typing)]
 fn membership(
     alloc: Global,
-    scope: &Scope,
+    scope: &Scope<'_>,
     levels: u32,
     n: &Expr,
     e: &Expr,
@@ -405,7 +414,7 @@ fn membership(
 
 /// Whether a set is empty.
 #[cycle(typing)]
-fn emptiness(alloc: Global, scope: &Scope, levels: u32, e: &Expr) -> Result<Cond, TypeEnd>
+fn emptiness(alloc: Global, scope: &Scope<'_>, levels: u32, e: &Expr) -> Result<Cond, TypeEnd>
     ensures { Answers told result (emptiness (typing scope.now e.now)) }
 {
     let (_, set) = members(alloc, scope, levels, None, e)?;
@@ -414,7 +423,7 @@ fn emptiness(alloc: Global, scope: &Scope, levels: u32, e: &Expr) -> Result<Cond
 
 /// Whether a condition does not hold.
 #[cycle(typing)]
-fn negation(alloc: Global, scope: &Scope, levels: u32, c: &Expr) -> Result<Cond, TypeEnd>
+fn negation(alloc: Global, scope: &Scope<'_>, levels: u32, c: &Expr) -> Result<Cond, TypeEnd>
     ensures { Answers told result (negated (typing scope.now c.now)) }
 {
     let c = condition(alloc, scope, levels, c)?;
@@ -425,7 +434,7 @@ fn negation(alloc: Global, scope: &Scope, levels: u32, c: &Expr) -> Result<Cond,
 #[cycle(typing)]
 fn connection(
     alloc: Global,
-    scope: &Scope,
+    scope: &Scope<'_>,
     levels: u32,
     op: Connective,
     first: &Expr,
@@ -442,7 +451,7 @@ fn connection(
 #[cycle(typing)]
 fn condition_choice(
     alloc: Global,
-    scope: &Scope,
+    scope: &Scope<'_>,
     levels: u32,
     c: &Expr,
     a: &Expr,
@@ -459,7 +468,7 @@ fn condition_choice(
 #[cycle(typing)]
 fn condition_pair(
     alloc: Global,
-    scope: &Scope,
+    scope: &Scope<'_>,
     levels: u32,
     a: &Expr,
     b: &Expr,
@@ -475,7 +484,7 @@ fn condition_pair(
 #[cycle(typing)]
 fn condition_cell(
     alloc: Global,
-    scope: &Scope,
+    scope: &Scope<'_>,
     levels: u32,
     t: u32,
     operands: &[Expr],
@@ -488,7 +497,12 @@ fn condition_cell(
 
 /// The trees of expressions where conditions are wanted, in order.
 #[cycle(typing)]
-fn conditions(alloc: Global, scope: &Scope, levels: u32, es: &[Expr]) -> Result<Vec<Cond>, TypeEnd>
+fn conditions(
+    alloc: Global,
+    scope: &Scope<'_>,
+    levels: u32,
+    es: &[Expr],
+) -> Result<Vec<Cond>, TypeEnd>
     ensures { AnswersBy told (λ v. v.items) result (in_turn (λ (e : Typing). e.condition) (typings scope.now es.now)) }
 {
     let mut trees = Vec::new(alloc);
