@@ -1,4 +1,4 @@
--- What the code finds of a word, of a list's head, and of an expression in a place before its operands are typed.
+-- What the code finds of an expression in a place before its operands are typed.
 use Rattle.std.specs.Prelude.{◌≡◌, ℕ, List, map, length, Option, None, Result, Ok, Err, ⊤}
 use Rattle.dp_base.specs.Results.{◌>>=◌, in_turn, Refuses}
 use Rattle.dp_model.specs.declared.trees.Compare.{Compare}
@@ -11,10 +11,6 @@ use Rattle.dp_model.specs.declared.trees.Cond.TheVariants as cond
 use Rattle.dypdl_expr.specs.declared.expr.Expr.{Expr}
 use Rattle.dypdl_words.specs.Scopes.{Names}
 use Rattle.dypdl_words.specs.declared.ends.TypeEnd.{TypeEnd}
-use Rattle.dypdl_words.specs.declared.words.WordForm.{WordForm}
-use Rattle.dypdl_words.specs.declared.words.WordForm.TheVariants as word_form
-use Rattle.dypdl_words.specs.declared.words.HeadForm.{HeadForm}
-use Rattle.dypdl_words.specs.declared.words.HeadForm.TheVariants as head_form
 use Rattle.dypdl_type.specs.declared.forms.NumberForm.{NumberForm}
 use Rattle.dypdl_type.specs.declared.forms.NumberForm.TheVariants as number_form
 use Rattle.dypdl_type.specs.declared.forms.MembersForm.{MembersForm}
@@ -22,10 +18,9 @@ use Rattle.dypdl_type.specs.declared.forms.MembersForm.TheVariants as members_fo
 use Rattle.dypdl_type.specs.declared.forms.ConditionForm.{ConditionForm}
 use Rattle.dypdl_type.specs.declared.forms.ConditionForm.TheVariants as condition_form
 use Rattle.dypdl_words.specs.declared.folding.SetRelation.{SetRelation}
-use Rattle.dypdl_words.specs.declared.folding.SetRelation.TheVariants as relations
 use Rattle.dypdl_words.specs.Ends.{told}
-use Rattle.dypdl_words.specs.Words.{Meaning, Head}
-use Rattle.dypdl_words.specs.Words as words
+use Rattle.dypdl_words.specs.Seen.{meaning_seen}
+use Rattle.dypdl_words.specs.Folding.{related}
 use Rattle.dypdl_words.specs.Leaves.{number_word, members_word, condition_word}
 use Rattle.dypdl_type.specs.Typing.{Typing, typing, operation_of, chosen_number, terms, set_operation_of, changed, chosen_members, set_pair, number_pair, connection_of, choice_of_conditions}
 

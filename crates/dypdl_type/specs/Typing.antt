@@ -1,11 +1,10 @@
 -- The typing of an expression: the tree that it stands for in a number's place, in a set's place and in a
 -- condition's place, or what is refused first there. It is a fold over expressions. A form is typed from the outside
 -- in and from left to right: its head, then the number of its operands, then the operands.
-use Rattle.std.specs.Prelude.{ℕ, Bool, true, false, ◌&&◌, nat_lt, ◌==◌, if◌then◌else◌, List, [], ◌∷◌, length, map, codes, fold, Option, Some, None, Result, Ok, Err}
+use Rattle.std.specs.Prelude.{ℕ, Bool, true, false, ◌&&◌, nat_lt, ◌==◌, if◌then◌else◌, List, [], ◌∷◌, length, map, codes, Option, Some, None, Result, Ok, Err}
 use Rattle.std.specs.Str.{bytes_eq}
 use Rattle.dp_base.specs.Results.{◌>>=◌, in_turn}
 use Rattle.dypdl_expr.specs.declared.expr.Expr as exprs
-use Rattle.dp_model.specs.declared.parts.VarKind.TheVariants as kinds
 use Rattle.dp_model.specs.declared.parts.JoinOp.{JoinOp}
 use Rattle.dp_model.specs.declared.parts.JoinOp.TheVariants as joins
 use Rattle.dp_model.specs.declared.trees.NumOp.{NumOp}
@@ -35,13 +34,13 @@ use Rattle.dypdl_words.specs.declared.scope.Named.TheVariants as named
 use Rattle.dypdl_words.specs.declared.words.Operator.{Operator}
 use Rattle.dypdl_words.specs.declared.words.Operator.TheVariants as operators
 use Rattle.dypdl_words.specs.declared.words.Change.{Change}
-use Rattle.dypdl_words.specs.declared.words.Change.TheVariants as changes
 use Rattle.dypdl_words.specs.declared.words.Connective.{Connective}
-use Rattle.dypdl_words.specs.declared.words.Connective.TheVariants as connectives
 use Rattle.dypdl_words.specs.declared.words.SetTest.{SetTest}
 use Rattle.dypdl_words.specs.declared.words.SetTest.TheVariants as tests
 use Rattle.dypdl_words.specs.Words.{Meaning, Head, meaning, head_of, is_cost}
 use Rattle.dypdl_words.specs.Words as words
+use Rattle.dypdl_words.specs.Leaves.{are_whole, are_truths, are_sets, number_word, word_refused, of_object, members_word, condition_word, word_holds_set, head_refused}
+use Rattle.dypdl_words.specs.Folding.{folded_numbers, folded_sets, changed_set, connected}
 
 -- What an expression is in each place. A set has its object type, and may be wanted of one.
 pub record Typing : Type 0 where

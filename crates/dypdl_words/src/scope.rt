@@ -7,7 +7,7 @@ ghost use Rattle.dypdl_words.specs.Scopes.{name_in, param_in};
 
 use crate::names::{innermost, names_of};
 use dp_base::{Seq, Text};
-use dp_model::{Over, TableData, VarKind, Variable};
+use dp_model::{ObjectType, Over, TableData, VarKind, Variable};
 use indexmap::IndexMap;
 use std::alloc::{AllocError, Global};
 use std::marker::Model;
@@ -65,9 +65,11 @@ impl<'m> Model for Scope<'m> {
 }
 
 impl<'m> Scope<'m> {
-    /// The names of a model's variables and tables, and no parameters.
+    /// The names of a model's variables and tables, and no parameters. The object types are those that the kinds,
+    /// arguments and cells name.
     pub fn new(
         alloc: Global,
+        _objects: &Seq<ObjectType>,
         variables: &'m Seq<Variable>,
         tables: &'m Seq<TableData>,
     ) -> Result<Scope<'m>, AllocError>
