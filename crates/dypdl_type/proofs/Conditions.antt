@@ -10,17 +10,19 @@ use Rattle.dp_model.specs.declared.trees.Num.{Num}
 use Rattle.dp_model.specs.declared.trees.SetEx.{SetEx}
 use Rattle.dp_model.specs.declared.trees.Cond.{Cond}
 use Rattle.dp_model.specs.declared.trees.Cond.TheVariants as cond
-use Rattle.dypdl_type.specs.declared.ends.TypeEnd.{TypeEnd}
-use Rattle.dypdl_type.specs.declared.words.Operator.{Operator}
-use Rattle.dypdl_type.specs.declared.words.Operator.TheVariants as operators
-use Rattle.dypdl_type.specs.declared.words.Connective.{Connective}
-use Rattle.dypdl_type.specs.declared.words.Connective.TheVariants as connectives
-use Rattle.dypdl_type.specs.declared.words.SetTest.{SetTest}
-use Rattle.dypdl_type.specs.declared.words.SetTest.TheVariants as tests
+use Rattle.dypdl_words.specs.declared.ends.TypeEnd.{TypeEnd}
+use Rattle.dypdl_words.specs.declared.words.Operator.{Operator}
+use Rattle.dypdl_words.specs.declared.words.Operator.TheVariants as operators
+use Rattle.dypdl_words.specs.declared.words.Connective.{Connective}
+use Rattle.dypdl_words.specs.declared.words.Connective.TheVariants as connectives
+use Rattle.dypdl_words.specs.declared.words.SetTest.{SetTest}
+use Rattle.dypdl_words.specs.declared.words.SetTest.TheVariants as tests
 use Rattle.dp_base.specs.Results.{in_turn}
-use Rattle.dypdl_type.specs.Words.{Head}
-use Rattle.dypdl_type.specs.Words as words
-use Rattle.dypdl_type.specs.Typing.{Typing, are_truths as hold_truths, arguments, number_pair, set_pair, condition_pair, same_sets, tests_equality, comparison_of, comparison, connect, connected, connection, negation, set_test, condition_choice, condition_operator, condition_list}
+use Rattle.dypdl_words.specs.Words.{Head}
+use Rattle.dypdl_words.specs.Words as words
+use Rattle.dypdl_words.specs.Leaves.{are_truths as hold_truths}
+use Rattle.dypdl_words.specs.Folding.{connect, connected}
+use Rattle.dypdl_type.specs.Typing.{Typing, arguments, number_pair, set_pair, condition_pair, same_sets, tests_equality, comparison_of, comparison, connection, negation, set_test, condition_choice, condition_operator, condition_list}
 use Rattle.dypdl_type.proofs.Trees.{Each, IsSetOf, cond_cell, cond_numbers, cond_same, cond_other, cond_in, cond_subset, cond_empty, cond_not, cond_and, cond_or, cond_if}
 use Rattle.dypdl_type.proofs.Numbers.{FitNumbers, number_pair_fits}
 use Rattle.dypdl_type.proofs.Sets.{FitsPair, set_pair_fits}

@@ -9,17 +9,19 @@ use Rattle.dp_model.specs.declared.trees.Num.{Num}
 use Rattle.dp_model.specs.declared.trees.SetEx.{SetEx}
 use Rattle.dp_model.specs.declared.trees.SetEx.TheVariants as set
 use Rattle.dp_model.specs.declared.trees.Cond.{Cond}
-use Rattle.dypdl_type.specs.declared.scope.CellKind.{CellKind}
-use Rattle.dypdl_type.specs.declared.scope.CellKind.TheVariants as cells
-use Rattle.dypdl_type.specs.declared.scope.Shape.{Shape}
-use Rattle.dypdl_type.specs.declared.words.Operator.{Operator}
-use Rattle.dypdl_type.specs.declared.words.Operator.TheVariants as operators
-use Rattle.dypdl_type.specs.declared.words.Change.{Change}
-use Rattle.dypdl_type.specs.declared.words.Change.TheVariants as changes
+use Rattle.dypdl_words.specs.declared.scope.CellKind.{CellKind}
+use Rattle.dypdl_words.specs.declared.scope.CellKind.TheVariants as cells
+use Rattle.dypdl_words.specs.declared.scope.Shape.{Shape}
+use Rattle.dypdl_words.specs.declared.words.Operator.{Operator}
+use Rattle.dypdl_words.specs.declared.words.Operator.TheVariants as operators
+use Rattle.dypdl_words.specs.declared.words.Change.{Change}
+use Rattle.dypdl_words.specs.declared.words.Change.TheVariants as changes
 use Rattle.dp_base.specs.Results.{in_turn}
-use Rattle.dypdl_type.specs.Words.{Head}
-use Rattle.dypdl_type.specs.Words as words
-use Rattle.dypdl_type.specs.Typing.{Typing, fits, arguments, sets_are_enough, folded_sets, members_operation, members_complement, changed_set, members_change, set_pair, members_choice, members_operator, members_table, members_list}
+use Rattle.dypdl_words.specs.Words.{Head}
+use Rattle.dypdl_words.specs.Words as words
+use Rattle.dypdl_words.specs.Leaves.{fits}
+use Rattle.dypdl_words.specs.Folding.{folded_sets, changed_set}
+use Rattle.dypdl_type.specs.Typing.{Typing, arguments, sets_are_enough, members_operation, members_complement, members_change, set_pair, members_choice, members_operator, members_table, members_list}
 use Rattle.dypdl_type.proofs.Trees.{Each, IsSetOf, set_cell, set_op, set_not, set_with, set_without, set_if}
 use Rattle.dypdl_type.proofs.Meanings.{AreCells, HeadFits}
 use Rattle.dypdl_type.proofs.Sound.{and_then, if_allowed, in_turn_each, NumFits, SetFits, CondFits, Sound, wanted_set, sets_fit, AreArguments, arguments_fit}

@@ -1,0 +1,8 @@
+//! The data of a model's texts: object types, state variables, tables with their cells, and the target.
+#![tactic(auto)]
+
+mod names;
+mod words;
+
+pub use names::{Names, transition_name, word_name};
+pub use words::{is_transition_name, is_word_name};
