@@ -117,7 +117,7 @@ fn reduce_of(tree: Option<&Tree>) -> Result<Option<bool>, LoadEnd>
 /// What both files say before any part of a model: the keys of the domain, those of the problem, and then what is
 /// better. The problem's word goes before the domain's.
 #[tactic(auto, unfolding(crate::specs::Settings::settings_of))]
-pub fn settings<'a>(domain: &'a Tree, problem: &'a Tree) -> Result<Settings<'a>, LoadEnd>
+pub fn read_settings<'a>(domain: &'a Tree, problem: &'a Tree) -> Result<Settings<'a>, LoadEnd>
     ensures { AnswersBy told settings_seen result (settings_of domain.now problem.now) }
 {
     let domain = domain_file(domain)?;

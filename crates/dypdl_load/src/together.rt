@@ -1,7 +1,7 @@
 //! What is asked of all transitions together: one operator of costs, not too many ground transitions, and no two steps
 //! with one text.
 
-ghost use Rattle.std.specs.Prelude.{◌≡◌, ◌≤◌, ◌++◌, ◌∷◌, [], codes, decimal, length, map, string_bytes, not, IfOk, OnOk, if◌then◌else◌};
+ghost use Rattle.std.specs.Prelude.{◌≡◌, ◌≤◌, ◌+◌, ◌++◌, ◌∷◌, [], codes, decimal, length, map, string_bytes, not, IfOk, OnOk, if◌then◌else◌};
 ghost use Rattle.std.specs.List.{flat_map};
 ghost use Rattle.dp_base.specs.Results.{Answers, AnswersBy};
 ghost use Rattle.dypdl_nodes.specs.Reads.{told};
@@ -24,19 +24,19 @@ const MOST_GROUND: usize = 65_536;
 
 // ---- operators
 
-/// Takes in how one more transition joins its weight.
-fn take_joining(held: &mut Option<JoinOp>, joining: &Option<Joining>) -> Result<(), LoadEnd>
-    ensures { AnswersBy told (λ _. held.new) result (joined_with held.old joining.now) }
+/// The operator of the weights so far, after one more transition.
+fn joined_with(
+    held: Option<JoinOp>,
+    joining: &Option<Joining>,
+) -> Result<Option<JoinOp>, LoadEnd>
+    ensures { Answers told result (joined_with held joining.now) }
 {
     let Some(joining) = joining else {
-        return Ok(());
+        return Ok(held);
     };
-    match *held {
-        None => {
-            *held = Some(joining.op);
-            Ok(())
-        }
-        Some(op) if op == joining.op => Ok(()),
+    match held {
+        None => Ok(Some(joining.op)),
+        Some(op) if op == joining.op => Ok(Some(op)),
         Some(_) => Err(refused(MIXED_COST, joining.place)),
     }
 }
@@ -48,7 +48,7 @@ pub fn join_of(moves: &[Move]) -> Result<JoinOp, LoadEnd>
 {
     let mut held = None;
     for item in moves {
-        take_joining(&mut held, &item.joining)?;
+        held = joined_with(held, &item.joining)?;
     }
     Ok(held.unwrap_or(JoinOp::Plus))
 }
@@ -60,15 +60,6 @@ pub fn join_of(moves: &[Move]) -> Result<JoinOp, LoadEnd>
 pub struct Grounding {
     pub number: u32,
     pub grounds: Vec<Ground>,
-}
-
-fn push_grounds(grounds: &mut Vec<Ground>, more: Seq<Ground>) -> Result<(), AllocError>
-    ensures { OnOk result (grounds.new.items ≡ grounds.old.items ++ more) }
-{
-    for item in more.into_list() {
-        grounds.push(item)?;
-    }
-    Ok(())
 }
 
 /// Takes in the ground transitions of one more transition, where there are not too many with them.
@@ -86,21 +77,21 @@ fn take_grounds(
     ensures few { OnOk result (length so_far.new.grounds.items ≤ 65536) }
     ensures numbered { OnOk result (so_far.new.number ≡ so_far.old.number + 1) }
 {
-    let more = match ground(
+    let mut more = match ground(
         alloc,
         objects,
         variables,
         so_far.number,
         &item.transition,
     ) {
-        Ok(more) => more,
+        Ok(more) => more.into_list(),
         Err(GroundEnd::TooMany(_)) => return Err(refused(TOO_MANY_GROUND, item.place)),
         Err(GroundEnd::Memory) => return Err(LoadEnd::Memory),
     };
-    if so_far.grounds.len() + more.list().len() > MOST_GROUND {
+    if so_far.grounds.len() + more.len() > MOST_GROUND {
         return Err(refused(TOO_MANY_GROUND, item.place));
     }
-    push_grounds(&mut so_far.grounds, more)?;
+    so_far.grounds.append(&mut more)?;
     so_far.number += 1;
     Ok(())
 }
@@ -159,7 +150,7 @@ fn add_text(texts: &mut IndexSet<String>, text: String) -> Result<bool, AllocFai
     ensures added { IfOk result (λ fresh. texts_seen texts.new
         ≡ (if fresh then texts_seen texts.old ++ string_bytes text ∷ [] else texts_seen texts.old)) }
 {
-    texts.insert(text)
+    Ok(texts.insert(text)?)
 }
 
 /// Takes in the text of one more step. A transition that makes one that was there before is refused.

@@ -1,3 +1,4 @@
+pub mod Digits
 pub mod WordsLists
 pub mod Values
 pub mod Layers
@@ -8,6 +9,7 @@ pub mod Exhausting
 pub mod Passing
 pub mod AtTarget
 pub mod PlainModels
-pub mod Texts
+pub mod TextCauses
+pub mod OneMeaning
 pub mod Programs
 pub mod Concluding

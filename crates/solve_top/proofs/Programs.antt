@@ -29,7 +29,7 @@ pub attempted : (words : List (List ℕ)) (files : List ℕ → Option (List ℕ
     (outcome : Outcome) × ComesOf words files outcome × Printed before after outcome status
 attempted words files job m before after status asks texts plain other = elim (cases_Bool (is_plain m)) [
   | inl is ↦ solved words files job m before after status asks texts (plain is)
-  | inr no ↦ (NotYet m, (job, asks, texts, no), other no)
+  | inr isnt ↦ (NotYet m, (job, asks, texts, isnt), other isnt)
 ]
 
 not_read_fault : (e : Ending) → ending_status e ≡ statuses.ReadFault → ⊥
@@ -100,14 +100,6 @@ module _ (files : List ℕ → Option (List ℕ)) (job : SolveJob) (d p : List �
   pub loaded_cause : (r : Result Model NoModel) → IfErr r (RefusedBy (IsRefused d p)) → IfErr r (λ e. (words : List (List ℕ)) → Asks words job → ComesOf words files (outcome_of e))
   loaded_cause (Ok m) h = tt
   loaded_cause (Err e) h = λ words asks. refused_cause words files job e (d, p, text, other, short, also, h) asks
-
-  pub loaded_model : (r : Result Model NoModel) → IfOk r (Means d p) → IfOk r (λ m. OfTexts files job (λ a b. Means a b m))
-  loaded_model (Ok m) h = (d, p, text, other, short, also, h)
-  loaded_model (Err e) h = tt
-
-  pub loaded_fault : (r : Result Model NoModel) (P : ℕ → Type 0) → IfErr r (RefusedBy (IsRefused d p)) → (file : ℕ) → IfErr r (λ e. e ≡ causes.ReadFault file → P file)
-  loaded_fault (Ok m) P h file = tt
-  loaded_fault (Err e) P h file = λ same. absurd (subst (λ (x : NoModel). RefusedBy (IsRefused d p) x) same h)
 
 -- an error that is passed on
 pub passed_on : (r : Result Model NoModel) (e : NoModel) (P : NoModel → Type 0) → IsErrAnd r (λ x. x ≡ e) → P e → IfErr r P

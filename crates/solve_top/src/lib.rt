@@ -2,6 +2,7 @@
 #![tactic(auto)]
 
 mod causes;
+mod laws;
 mod plain;
 mod program;
 mod search;
@@ -10,6 +11,7 @@ mod status;
 mod texts;
 mod words;
 
+pub use laws::one_model;
 pub use program::run;
 pub use solving::run_out;
 pub use status::Status;

@@ -1,11 +1,11 @@
 //! Whether the plain search takes a model.
 
-ghost use Rattle.std.specs.Prelude.{◌≡◌, ◌≤◌, ◌^◌, length, ℤ, Bool};
+ghost use Rattle.std.specs.Prelude.{◌≡◌};
 ghost use Rattle.std.specs.List.{list_all};
-ghost use Rattle.solve_top.specs.PlainTest.{is_small, is_leaf, is_plain_num, is_plain_cond, is_plain_effect, is_fixed, is_small_weight, is_plain_transition, is_zero, has_plain_base, is_small_value, is_variable, has_plain_states, has_plain_costs, is_plain};
+ghost use Rattle.solve_top.specs.PlainTest.{is_small, is_leaf, is_plain_num, is_plain_cond, is_plain_effect, is_fixed, is_small_weight, is_plain_transition, is_zero, has_plain_base, is_integer, is_small_value, is_variable, has_plain_states, has_plain_costs, is_plain};
 
 use dp_model::{
-    BaseCase, Cond, Effect, JoinOp, Model, Num, NumOp, PlainValue, Transition, VarKind,
+    BaseCase, Cond, Effect, JoinOp, Model, Num, NumOp, PlainValue, Transition, VarKind, Variable,
 };
 
 /// Whether a number has at most six digits.
@@ -144,17 +144,34 @@ fn is_small_value(value: &PlainValue) -> bool
     }
 }
 
+fn is_integer(kind: VarKind) -> bool
+    ensures { result ≡ is_integer kind }
+{
+    match kind {
+        VarKind::Integer => true,
+        VarKind::Element(_) | VarKind::Set(_) => false,
+    }
+}
+
+fn are_integers(variables: &[Variable]) -> bool
+    ensures { result ≡ list_all (λ v. is_integer v.kind) variables.now }
+{
+    variables.iter().all(|v| is_integer(v.kind))
+}
+
+fn are_small_values(values: &[PlainValue]) -> bool
+    ensures { result ≡ list_all is_small_value values.now }
+{
+    values.iter().all(|v| is_small_value(v))
+}
+
 /// Whether states have small numbers alone, and no constraints.
 fn has_plain_states(model: &Model) -> bool
     ensures { result ≡ has_plain_states model.now }
 {
     model.constraints.list().is_empty()
-        && model
-            .variables
-            .list()
-            .iter()
-            .all(|v| v.kind == VarKind::Integer)
-        && model.target.values.list().iter().all(is_small_value)
+        && are_integers(model.variables.list())
+        && are_small_values(model.target.values.list())
 }
 
 /// Whether the least sum of weights is best.

@@ -68,7 +68,7 @@ fn no_tree(end: YamlEnd) -> NoModel
 }
 
 /// The tree that the text of a file spells.
-#[tactic(auto, using(crate::proofs::Texts::unread_by))]
+#[tactic(auto, using(crate::proofs::TextCauses::unread_by))]
 fn read_tree(alloc: Global, file: u8, bytes: &[u8]) -> Result<Tree, NoModel>
     requires { length bytes.now ≤ 16777216 }
     ensures tree { IfOk result (λ tree. Spells file bytes.now tree) }

@@ -1,7 +1,6 @@
--- What the texts of a domain and a problem are read as.
-use Rattle.std.proofs.Common.{◌≡◌, ℕ, List, Option, Some, None, ◌⊎◌, inl, inr, refl, sym, ◌∙◌, ap}
+-- Why the texts of a domain and a problem have no model.
+use Rattle.std.proofs.Common.{◌≡◌, ℕ, List, inl, inr, refl}
 use Rattle.std.specs.Prelude.{Result, Ok, Err, IfOk, IfErr}
-use Rattle.std.specs.Result.{IsErrAnd}
 use Rattle.dp_model.specs.declared.whole.Model.{Model}
 use Rattle.yaml_scan.specs.declared.line.ScanEnd.TheVariants as lines
 use Rattle.yaml_tree.specs.declared.tree.Tree.{Tree}
@@ -9,41 +8,14 @@ use Rattle.yaml_tree.specs.declared.tree.YamlEnd.{YamlEnd}
 use Rattle.yaml_tree.specs.declared.tree.YamlEnd.TheVariants as trees
 use Rattle.yaml_tree.specs.Results.{MemoryOr}
 use Rattle.yaml_tree.specs.Texts.{Spells, Refused as IsUnread}
-use Rattle.dypdl_expr.specs.Tokens.{tokens_of}
-use Rattle.dypdl_expr.specs.Grammar.{Reads as IsRead}
-use Rattle.dypdl_expr.specs.Refusals.{Refused as IsNoExpression}
-use Rattle.dypdl_expr.specs.declared.expr.Expr.{Expr}
-use Rattle.dypdl_expr.specs.declared.expr.ExprEnd.{ExprEnd}
-use Rattle.dypdl_expr.proofs.OneAtLeast.{has_whole}
 use Rattle.dypdl_nodes.specs.Reads.{Refusal}
-use Rattle.dypdl_rules.specs.Expressions.{Reading, IsOutcome, IsReading}
+use Rattle.dypdl_rules.specs.Expressions.{Reading, IsReading}
 use Rattle.dypdl_load.specs.Meaning.{meaning, parts_of}
+use Rattle.dypdl_load.proofs.Readings.{the_reading, reads}
 use Rattle.solve_top.specs.Texts.{IsUnreadAs, Read, Means, IsRefused}
 use Rattle.solve_top.specs.Runs.{unread_as, RefusedBy}
 use Rattle.solve_top.specs.declared.causes.NoModel.{NoModel}
 use Rattle.solve_top.specs.declared.causes.NoModel.TheVariants as causes
-
--- ---- there is a reading of expressions
-
-abbrev Told : List ℕ → Type 0
-Told text = ((e : Expr) × IsRead text e) ⊎ ((r : ExprEnd) × IsNoExpression text r)
-
-abbrev told_as : (text : List ℕ) → Told text → Result Expr ExprEnd
-told_as text (inl is) = Ok is.0
-told_as text (inr bad) = Err bad.0
-
-told_is : (text : List ℕ) (t : Told text) → IsOutcome text (told_as text t)
-told_is text (inl is) = is.1
-told_is text (inr bad) = bad.1
-
-abbrev pub told : (text : List ℕ) → Told text
-told text = has_whole 200 (tokens_of text)
-
-abbrev pub the_reading : Reading
-the_reading = λ text. told_as text (told text)
-
-pub reads : IsReading the_reading
-reads text = told_is text (told text)
 
 -- ---- causes
 

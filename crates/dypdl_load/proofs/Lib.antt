@@ -1,0 +1,7 @@
+pub mod Strings
+pub mod Readings
+pub mod Same
+pub mod Grounding
+pub mod StepTexts
+pub mod Steps
+pub mod Loaded
