@@ -2,7 +2,9 @@
 #![tactic(auto)]
 
 mod names;
+mod object_types;
 mod words;
 
 pub use names::{Names, transition_name, word_name};
+pub use object_types::{ObjectTypes, objects};
 pub use words::{is_transition_name, is_word_name};
