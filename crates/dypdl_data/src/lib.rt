@@ -3,8 +3,10 @@
 
 mod names;
 mod object_types;
+mod state_variables;
 mod words;
 
 pub use names::{Names, transition_name, word_name};
 pub use object_types::{ObjectTypes, objects};
+pub use state_variables::{StateVariables, variables};
 pub use words::{is_transition_name, is_word_name};
