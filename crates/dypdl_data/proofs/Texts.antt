@@ -1,6 +1,7 @@
 -- Texts behind references.
-use Rattle.std.proofs.Common.{◌≡◌, ℕ, ◌+◌, Bool, true, false, cond, ◌||◌, List, [], ◌∷◌, ◌++◌, Bor, Option, Some, option_map, slice_get, position, refl, sym, ap, ◌∙◌}
+use Rattle.std.proofs.Common.{◌≡◌, ℕ, ◌+◌, Bool, cond, ◌||◌, List, [], ◌∷◌, ◌++◌, Bor, Option, Some, option_map, slice_get, position, refl, sym, ap, ◌∙◌}
 use Rattle.std.proofs.lemmas.Iterator.Adapters.{position_from-zero}
+use Rattle.std.proofs.lemmas.List.Folds.{list_any-append}
 use Rattle.std.proofs.lemmas.Option.{slice_get-map}
 use Rattle.std.specs.List.{list_any, position_from}
 use Rattle.std.specs.Str.{bytes_eq}
@@ -23,13 +24,5 @@ position_texts ws word = position_from-zero (bytes_eq word) (texts ws) ∙ from_
 pub text_at : (ws : List (Bor (List ℕ))) (i : ℕ) → slice_get (texts ws) i ≡ option_map (λ (w : Bor (List ℕ)). w.now) (slice_get ws i)
 text_at ws i = slice_get-map (λ (w : Bor (List ℕ)). w.now) ws i
 
-or_assoc : (a b c : Bool) → a || (b || c) ≡ (a || b) || c
-or_assoc true b c = refl
-or_assoc false b c = refl
-
-any_append : (p : List ℕ → Bool) (ws vs : List (List ℕ)) → list_any p (ws ++ vs) ≡ list_any p ws || list_any p vs
-any_append p [] vs = refl
-any_append p (w ∷ ws) vs = ap (λ (b : Bool). p w || b) (any_append p ws vs) ∙ or_assoc (p w) (list_any p ws) (list_any p vs)
-
 pub among_append : (ws vs : List (List ℕ)) (word : List ℕ) → is_among (ws ++ vs) word ≡ is_among ws word || is_among vs word
-among_append ws vs word = any_append (bytes_eq word) ws vs
+among_append ws vs word = list_any-append (bytes_eq word) ws vs
