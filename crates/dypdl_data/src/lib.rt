@@ -1,10 +1,12 @@
 //! The data of a model's texts: object types, state variables, tables with their cells, and the target.
 #![tactic(auto)]
 
+mod heads;
 mod kinds;
 mod members;
 mod names;
 mod object_types;
+mod sizes;
 mod state_variables;
 mod words;
 
