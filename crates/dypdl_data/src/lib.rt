@@ -1,8 +1,17 @@
 //! The data of a model's texts: object types, state variables, tables with their cells, and the target.
 #![tactic(auto)]
 
+mod heads;
+mod kinds;
+mod members;
 mod names;
+mod object_types;
+mod sizes;
+mod state_variables;
 mod words;
 
+pub use kinds::{Cell, CellKind, TableHead, TypeWord};
 pub use names::{Names, transition_name, word_name};
+pub use object_types::{ObjectTypes, objects};
+pub use state_variables::{StateVariables, variables};
 pub use words::{is_transition_name, is_word_name};

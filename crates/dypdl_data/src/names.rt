@@ -1,6 +1,6 @@
 //! Names, found by hash.
 
-ghost use Rattle.std.specs.Prelude.{◌≡◌, ◌==◌, ◌++◌, ◌∷◌, [], OnErr, IfOk, IfSome, not, length, ◌<◌, if◌then◌else◌};
+ghost use Rattle.std.specs.Prelude.{◌≡◌, ◌==◌, ◌++◌, ◌∷◌, [], OnErr, IfOk, IfSome, not, length, ◌<◌, if◌then◌else◌, slice_get, Some};
 ghost use Rattle.dp_base.specs.Results.{Answers, AnswersBy};
 ghost use Rattle.dypdl_nodes.specs.Reads.{told};
 ghost use Rattle.dypdl_nodes.specs.Shapes.{texts, is_among};
@@ -51,6 +51,18 @@ impl<'a> Names<'a> {
         ensures { result ≡ (length self.now == 0) }
     {
         self.set.is_empty()
+    }
+
+    /// The name with this number.
+    #[tactic(auto, using(crate::proofs::Texts::text_at))]
+    pub fn word(&self, number: usize) -> &'a str
+        requires { number < length self.now }
+        ensures { slice_get self.now number ≡ Some result.now }
+    {
+        match self.set.get_index(number) {
+            Some(word) => *word,
+            None => unreachable!(),
+        }
     }
 
     /// The number of a word.
