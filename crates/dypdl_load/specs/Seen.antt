@@ -6,7 +6,7 @@ use Rattle.dypdl_load.specs.Together.{Grounding}
 use Rattle.dypdl_load.specs.declared.settings.File.{File as FileRead}
 use Rattle.dypdl_load.specs.declared.settings.Settings.{Settings as SettingsRead}
 use Rattle.dypdl_load.specs.declared.together.Grounding.{Grounding as GroundingRead}
-use Rattle.dypdl_rules.specs.Declared.{Declared}
+use Rattle.dypdl_rules.specs.Declarations.{Declared}
 use Rattle.dypdl_load.specs.Meaning.{Rules, Parts}
 use Rattle.dypdl_load.specs.declared.whole.Lists.{Lists as ListsRead}
 use Rattle.dypdl_load.specs.declared.whole.Rules.{Rules as RulesRead}
@@ -28,12 +28,12 @@ abbrev pub texts_seen : {A S : Type 0} → IndexSet (String A) S → List (List 
 texts_seen texts = map string_bytes texts.keys
 
 abbrev pub lists_seen : ListsRead → Declared
-lists_seen l = record { objects = l.objects; variables = l.variables; tables = l.tables }
+lists_seen l = record { objects = l.objects.list; variables = l.variables.list; tables = l.tables.list }
 
 abbrev pub rules_seen : RulesRead → Rules
 rules_seen r = record { moves = r.moves; join = r.join; constraints = r.constraints; base_cases = r.base_cases; bounds = r.bounds }
 
 abbrev pub parts_seen : PartsRead → Parts
 parts_seen p = record {
-  domain = p.domain; problem = p.problem; minimize = p.minimize; join = p.join; objects = p.lists.objects; variables = p.lists.variables; tables = p.lists.tables;
+  domain = p.domain; problem = p.problem; minimize = p.minimize; join = p.join; objects = p.objects; variables = p.variables; tables = p.tables;
   transitions = p.transitions; grounds = p.grounds; constraints = p.constraints; base_cases = p.base_cases; bounds = p.bounds; target = p.target }

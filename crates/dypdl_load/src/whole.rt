@@ -17,19 +17,20 @@ use dp_model::{
     BaseCase, Cond, Ground, JoinOp, Model, Num, ObjectType, PlainState, TableData, Transition,
     Variable,
 };
-use dypdl_data::{objects, tables, target, variables};
+use dypdl_data::{ObjectTypes, StateVariables, objects, target, variables};
 use dypdl_nodes::rules::NO_BASE;
 use dypdl_nodes::{LoadEnd, refused, value_in};
-use dypdl_rules::{Declared, Move, base_cases, bounds, constraints, moves};
+use dypdl_rules::{Declared, Move, base_cases, bounds, constraints, read_moves};
+use dypdl_tables::{Tables, read_tables};
 use std::alloc::{AllocError, Global};
 use yaml_tree::Tree;
 
 /// What both files declare: object types with their numbers, variables, and tables with their cells.
 #[derive(Drop)]
-pub struct Lists {
-    pub objects: Seq<ObjectType>,
-    pub variables: Seq<Variable>,
-    pub tables: Seq<TableData>,
+pub struct Lists<'a> {
+    pub objects: ObjectTypes<'a>,
+    pub variables: StateVariables<'a>,
+    pub tables: Tables<'a>,
 }
 
 /// What both files say of states and steps.
@@ -49,7 +50,9 @@ pub struct Parts {
     pub problem: Text,
     pub minimize: bool,
     pub join: JoinOp,
-    pub lists: Lists,
+    pub objects: Seq<ObjectType>,
+    pub variables: Seq<Variable>,
+    pub tables: Seq<TableData>,
     pub transitions: Seq<Transition>,
     pub grounds: Seq<Ground>,
     pub constraints: Seq<Cond>,
@@ -60,7 +63,11 @@ pub struct Parts {
 
 /// What both files declare. `problem` is the place of the problem.
 #[tactic(auto, unfolding(crate::specs::Meaning::declared_of))]
-fn lists_of(alloc: Global, problem: Place, settings: &Settings<'_>) -> Result<Lists, LoadEnd>
+fn lists_of<'a>(
+    alloc: Global,
+    problem: Place,
+    settings: &Settings<'a>,
+) -> Result<Lists<'a>, LoadEnd>
     ensures { AnswersBy told lists_seen result (declared_of problem (settings_seen settings.now)) }
 {
     let declared = settings.domain.entries;
@@ -72,7 +79,7 @@ fn lists_of(alloc: Global, problem: Place, settings: &Settings<'_>) -> Result<Li
         value_in(given, "object_numbers"),
     )?;
     let variables = variables(alloc, &objects, settings.domain.needed)?;
-    let tables = tables(
+    let tables = read_tables(
         alloc,
         &objects,
         &variables,
@@ -80,9 +87,9 @@ fn lists_of(alloc: Global, problem: Place, settings: &Settings<'_>) -> Result<Li
         value_in(given, "table_values"),
     )?;
     Ok(Lists {
-        objects: objects.list,
-        variables: variables.list,
-        tables: tables.list,
+        objects,
+        variables,
+        tables,
     })
 }
 
@@ -102,15 +109,20 @@ fn read_rules(
     alloc: Global,
     domain: Place,
     settings: &Settings<'_>,
-    lists: &Lists,
+    lists: &Lists<'_>,
 ) -> Result<Rules, LoadEnd>
     ensures { (read : Reading) → IsReading read → AnswersBy told rules_seen result
         (rules_of read domain (settings_seen settings.now) (lists_seen lists.now)) }
 {
     let first = settings.domain.entries;
     let second = settings.problem.entries;
-    let mut declared = Declared::new(alloc, &lists.objects, &lists.variables, &lists.tables)?;
-    let moves = moves(
+    let mut declared = Declared::new(
+        alloc,
+        &lists.objects.list,
+        &lists.variables.list,
+        &lists.tables.list,
+    )?;
+    let moves = read_moves(
         alloc,
         &mut declared,
         value_in(first, "transitions"),
@@ -146,11 +158,11 @@ fn read_rules(
 }
 
 /// The ground transitions, where no two steps have one text.
-fn read_grounds(alloc: Global, lists: &Lists, moves: &[Move]) -> Result<Seq<Ground>, LoadEnd>
+fn read_grounds(alloc: Global, lists: &Lists<'_>, moves: &[Move]) -> Result<Seq<Ground>, LoadEnd>
     requires { length moves.now ≤ 65536 }
     ensures { Answers told result (grounded_of (lists_seen lists.now) moves.now) }
 {
-    let grounds = grounds_of(alloc, &lists.objects, &lists.variables, moves)?;
+    let grounds = grounds_of(alloc, &lists.objects.list, &lists.variables.list, moves)?;
     texts_of(alloc, moves, grounds.list())?;
     Ok(grounds)
 }
@@ -172,7 +184,7 @@ fn owned(alloc: Global, text: &str) -> Result<Text, AllocError>
 }
 
 /// The parts of the model that two trees mean.
-fn read_parts(alloc: Global, domain: &Tree, problem: &Tree) -> Result<Parts, LoadEnd>
+fn read_parts<'a>(alloc: Global, domain: &'a Tree, problem: &'a Tree) -> Result<Parts, LoadEnd>
     ensures { (read : Reading) → IsReading read → AnswersBy told parts_seen result
         (meaning read domain.now problem.now) }
 {
@@ -191,7 +203,9 @@ fn read_parts(alloc: Global, domain: &Tree, problem: &Tree) -> Result<Parts, Loa
         problem: owned(alloc, settings.problem_title)?,
         minimize: settings.minimize,
         join: rules.join,
-        lists,
+        objects: lists.objects.list,
+        variables: lists.variables.list,
+        tables: lists.tables.list,
         transitions: transitions_of(alloc, rules.moves)?,
         grounds,
         constraints: rules.constraints,
@@ -211,9 +225,9 @@ fn model_of(parts: Parts) -> Model
         problem: parts.problem,
         minimize: parts.minimize,
         join: parts.join,
-        objects: parts.lists.objects,
-        variables: parts.lists.variables,
-        tables: parts.lists.tables,
+        objects: parts.objects,
+        variables: parts.variables,
+        tables: parts.tables,
         transitions: parts.transitions,
         dp_ground: parts.grounds,
         constraints: parts.constraints,

@@ -69,7 +69,7 @@ abbrev VariableOf : ℕ → Num → Type 0
 VariableOf n e = (v : ℕ) × (v < n) × (e ≡ num_variants.Var v)
 
 variable_at : (n : ℕ) (e : Num) (f : NumForm) → e ≡ nums.roll-Num f → variable_form n f ≡ true → VariableOf n e
-variable_at n e (nums.Num-F.Num::Var v) is h = (v, ltb-true v n h, is ∙ sym (num_variants.rolls-Var v))
+variable_at n e (nums.Num-F.Num::Var v) is h = (v, ltb-true v n h, is ∙ num_variants.rolls-Var v)
 variable_at n e f is h = absurd (cc)
 
 variable_of : (n : ℕ) (e : Num) → is_variable n e ≡ true → VariableOf n e
@@ -79,28 +79,28 @@ abbrev FixedOf : (ℤ → Bool) → Num → Type 0
 FixedOf test e = (k : ℤ) × (test k ≡ true) × (e ≡ num_variants.Fixed k)
 
 fixed_at : (test : ℤ → Bool) (e : Num) (f : NumForm) → e ≡ nums.roll-Num f → fixed_form test f ≡ true → FixedOf test e
-fixed_at test e (nums.Num-F.Num::Fixed k) is h = (k, h, is ∙ sym (num_variants.rolls-Fixed k))
+fixed_at test e (nums.Num-F.Num::Fixed k) is h = (k, h, is ∙ num_variants.rolls-Fixed k)
 fixed_at test e f is h = absurd (cc)
 
 fixed_of : (test : ℤ → Bool) (e : Num) → is_fixed test e ≡ true → FixedOf test e
 fixed_of test e h = fixed_at test e (nums.out-Num e) (sym (nums.roll-out-Num e)) h
 
 leaf_at : (n : ℕ) (e : Num) (f : NumForm) → e ≡ nums.roll-Num f → leaf_form n f ≡ true → IsLeaf n e
-leaf_at n e (nums.Num-F.Num::Var v) is h = inl (v, ltb-true v n h, is ∙ sym (num_variants.rolls-Var v))
-leaf_at n e (nums.Num-F.Num::Fixed k) is h = inr (k, is ∙ sym (num_variants.rolls-Fixed k))
+leaf_at n e (nums.Num-F.Num::Var v) is h = inl (v, ltb-true v n h, is ∙ num_variants.rolls-Var v)
+leaf_at n e (nums.Num-F.Num::Fixed k) is h = inr (k, is ∙ num_variants.rolls-Fixed k)
 leaf_at n e f is h = absurd (cc)
 
 leaf_of : (n : ℕ) (e : Num) → is_leaf n e ≡ true → IsLeaf n e
 leaf_of n e h = leaf_at n e (nums.out-Num e) (sym (nums.roll-out-Num e)) h
 
 plain_num_at : (n : ℕ) (e : Num) (f : NumForm) → e ≡ nums.roll-Num f → plain_num_form n f ≡ true → IsPlainNum n e
-plain_num_at n e (nums.Num-F.Num::Fixed k) is h = record { number = k; small = small_of k h; shape = inl (is ∙ sym (num_variants.rolls-Fixed k)) }
+plain_num_at n e (nums.Num-F.Num::Fixed k) is h = record { number = k; small = small_of k h; shape = inl (is ∙ num_variants.rolls-Fixed k) }
 plain_num_at n e (nums.Num-F.Num::Op operations.Plus a b) is h =
     let both = and_parts (is_variable n a) (is_fixed is_small b) h in
     let v = variable_of n a both.0 in
     let k = fixed_of is_small b both.1 in
     let whole : e ≡ num_variants.Op operations.Plus (num_variants.Var v.0) (num_variants.Fixed k.0) =
-        is ∙ sym (num_variants.rolls-Op operations.Plus a b) ∙ ap (λ (x : Num). num_variants.Op operations.Plus x b) v.2 ∙ ap (λ (y : Num). num_variants.Op operations.Plus (num_variants.Var v.0) y) k.2 in
+        is ∙ num_variants.rolls-Op operations.Plus a b ∙ ap (λ (x : Num). num_variants.Op operations.Plus x b) v.2 ∙ ap (λ (y : Num). num_variants.Op operations.Plus (num_variants.Var v.0) y) k.2 in
     record { number = k.0; small = small_of k.0 k.1; shape = inr (v.0, v.1, whole) }
 plain_num_at n e f is h = absurd (cc)
 
@@ -110,7 +110,7 @@ plain_num_of n e h = plain_num_at n e (nums.out-Num e) (sym (nums.roll-out-Num e
 plain_cond_at : (n : ℕ) (c : Cond) (f : CondForm) → c ≡ conds.roll-Cond f → plain_cond_form n f ≡ true → IsPlainCond n c
 plain_cond_at n c (conds.Cond-F.Numbers op a b) is h =
     let both = and_parts (is_leaf n a) (is_leaf n b) h in
-    record { op = op; left = a; right = b; left_leaf = leaf_of n a both.0; right_leaf = leaf_of n b both.1; shape = is ∙ sym (cond_variants.rolls-Numbers op a b) }
+    record { op = op; left = a; right = b; left_leaf = leaf_of n a both.0; right_leaf = leaf_of n b both.1; shape = is ∙ cond_variants.rolls-Numbers op a b }
 plain_cond_at n c f is h = absurd (cc)
 
 plain_cond_of : (n : ℕ) (c : Cond) → is_plain_cond n c ≡ true → IsPlainCond n c
