@@ -26,3 +26,6 @@ capped_times n w = by_size n w (cases_lt n (most_words + 1))
 
 pub capped_few : (n : ℕ) → capped n ≤ most_words → n ≤ most_words
 capped_few n h = omega arith
+
+pub capped_is : (n : ℕ) → capped n ≤ most_words → n ≡ capped n
+capped_is n h = omega arith
