@@ -4,3 +4,4 @@ pub mod Variables
 pub mod Tables
 pub mod Marks
 pub mod Sizes
+pub mod Cells

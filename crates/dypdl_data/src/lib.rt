@@ -1,6 +1,8 @@
 //! The data of a model's texts: object types, state variables, tables with their cells, and the target.
 #![tactic(auto)]
 
+mod blanks;
+mod cells;
 mod heads;
 mod kinds;
 mod members;
