@@ -17,7 +17,7 @@ use Rattle.dp_model.specs.declared.parts.Transition.{Transition}
 use Rattle.dp_model.specs.declared.parts.Ground.{Ground}
 use Rattle.dypdl_ground.specs.Grounds.{most_ground, members_below, choice_count, argument_lists, ground_with, grounded, grounded_from, all_grounded}
 use Rattle.dypdl_nodes.specs.Reads.{Reads}
-use Rattle.dypdl_rules.specs.declared.moves.Move.{Move}
+use Rattle.dypdl_rules.specs.declared.transitions.Move.{Move}
 use Rattle.dypdl_load.specs.Together.{transitions_of, Grounding, grounding_step, grounds_of}
 
 all_below : (n : ℕ) → list_all (λ k. nat_lt k n) (range_with_len 0 n) ≡ true

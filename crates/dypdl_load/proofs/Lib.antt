@@ -4,4 +4,5 @@ pub mod Same
 pub mod Grounding
 pub mod StepTexts
 pub mod Steps
+pub mod Fitting
 pub mod Loaded

@@ -14,7 +14,7 @@ use Rattle.dp_model.specs.declared.whole.Model.{Model}
 use Rattle.yaml_tree.specs.declared.tree.Tree.{Tree}
 use Rattle.dypdl_ground.specs.Grounds.{all_grounded}
 use Rattle.dypdl_rules.specs.Expressions.{Reading}
-use Rattle.dypdl_rules.specs.declared.moves.Move.{Move}
+use Rattle.dypdl_rules.specs.declared.transitions.Move.{Move}
 use Rattle.dypdl_load.specs.Together.{transitions_of, text_of_ground}
 use Rattle.dypdl_load.specs.Meaning.{Parts, parts_of, meaning}
 use Rattle.dypdl_load.proofs.Grounding.{grounded_fit, grounds_are}

@@ -10,7 +10,7 @@ use Rattle.dp_model.specs.declared.parts.Ground.{Ground}
 use Rattle.dp_model.specs.declared.parts.Transition.{Transition}
 use Rattle.dypdl_nodes.specs.Reads.{Reads}
 use Rattle.dypdl_nodes.specs.Shapes.{is_among}
-use Rattle.dypdl_rules.specs.declared.moves.Move.{Move}
+use Rattle.dypdl_rules.specs.declared.transitions.Move.{Move}
 use Rattle.dypdl_load.specs.Together.{text_of_ground, new_text, text_step, texts_of}
 
 -- a word that is none of these and not one more

@@ -17,13 +17,13 @@ use Rattle.std.specs.Prelude.{codes}
 use Rattle.dypdl_nodes.specs.Reads.{Reads}
 use Rattle.dypdl_data.specs.Objects.{objects_of}
 use Rattle.dypdl_data.specs.Variables.{variables_of}
-use Rattle.dypdl_tables.specs.Cells.{tables_of}
+use Rattle.dypdl_data.specs.Cells.{tables_of}
 use Rattle.dypdl_data.specs.Target.{target_of}
 use Rattle.dypdl_rules.specs.Declarations.{Declared}
 use Rattle.dypdl_rules.specs.Expressions.{Reading}
 use Rattle.dypdl_rules.specs.Moves.{moves_of}
 use Rattle.dypdl_rules.specs.BaseCases.{constraints_of, base_cases_of, bounds_of}
-use Rattle.dypdl_rules.specs.declared.moves.Move.{Move}
+use Rattle.dypdl_rules.specs.declared.transitions.Move.{Move}
 use Rattle.dypdl_load.specs.Settings.{Settings, settings_of}
 use Rattle.dypdl_load.specs.Together.{join_of, grounds_of, texts_of}
 use Rattle.dypdl_load.specs.Meaning.{in_domain, in_problem, declared_of, some_base, Rules, rules_of, grounded_of, Parts, parts_with, meaning}

@@ -13,8 +13,8 @@ use Rattle.dp_model.specs.declared.parts.Variable.{Variable}
 use Rattle.dypdl_ground.specs.Grounds.{most_ground, grounded}
 use Rattle.dypdl_nodes.specs.Reads.{Reads, refuse}
 use Rattle.dypdl_nodes.specs.Shapes.{is_among}
-use Rattle.dypdl_rules.specs.declared.moves.Joining.{Joining}
-use Rattle.dypdl_rules.specs.declared.moves.Move.{Move}
+use Rattle.dypdl_rules.specs.declared.transitions.Joining.{Joining}
+use Rattle.dypdl_rules.specs.declared.transitions.Move.{Move}
 
 -- ---- operators
 

@@ -17,11 +17,12 @@ use dp_model::{
     BaseCase, Cond, Ground, JoinOp, Model, Num, ObjectType, PlainState, TableData, Transition,
     Variable,
 };
-use dypdl_data::{ObjectTypes, StateVariables, objects, target, variables};
+use dypdl_data::{
+    ConstantTables, ObjectTypes, StateVariables, objects, tables, target, variables,
+};
 use dypdl_nodes::rules::NO_BASE;
 use dypdl_nodes::{LoadEnd, refused, value_in};
-use dypdl_rules::{Declared, Move, base_cases, bounds, constraints, read_moves};
-use dypdl_tables::{Tables, read_tables};
+use dypdl_rules::{Declared, Move, base_cases, bounds, constraints, moves};
 use std::alloc::{AllocError, Global};
 use yaml_tree::Tree;
 
@@ -30,7 +31,7 @@ use yaml_tree::Tree;
 pub struct Lists<'a> {
     pub objects: ObjectTypes<'a>,
     pub variables: StateVariables<'a>,
-    pub tables: Tables<'a>,
+    pub tables: ConstantTables<'a>,
 }
 
 /// What both files say of states and steps.
@@ -79,7 +80,7 @@ fn lists_of<'a>(
         value_in(given, "object_numbers"),
     )?;
     let variables = variables(alloc, &objects, settings.domain.needed)?;
-    let tables = read_tables(
+    let tables = tables(
         alloc,
         &objects,
         &variables,
@@ -111,8 +112,9 @@ fn read_rules(
     settings: &Settings<'_>,
     lists: &Lists<'_>,
 ) -> Result<Rules, LoadEnd>
-    ensures { (read : Reading) → IsReading read → AnswersBy told rules_seen result
+    ensures rules { (read : Reading) → IsReading read → AnswersBy told rules_seen result
         (rules_of read domain (settings_seen settings.now) (lists_seen lists.now)) }
+    ensures few { IfOk result (λ r. length r.moves ≤ 65536) }
 {
     let first = settings.domain.entries;
     let second = settings.problem.entries;
@@ -122,7 +124,7 @@ fn read_rules(
         &lists.variables.list,
         &lists.tables.list,
     )?;
-    let moves = read_moves(
+    let moves = moves(
         alloc,
         &mut declared,
         value_in(first, "transitions"),
@@ -184,6 +186,7 @@ fn owned(alloc: Global, text: &str) -> Result<Text, AllocError>
 }
 
 /// The parts of the model that two trees mean.
+#[tactic(auto, unfolding(crate::specs::Meaning::meaning))]
 fn read_parts<'a>(alloc: Global, domain: &'a Tree, problem: &'a Tree) -> Result<Parts, LoadEnd>
     ensures { (read : Reading) → IsReading read → AnswersBy told parts_seen result
         (meaning read domain.now problem.now) }
@@ -192,7 +195,7 @@ fn read_parts<'a>(alloc: Global, domain: &'a Tree, problem: &'a Tree) -> Result<
     let lists = lists_of(alloc, problem.place(), &settings)?;
     let target = target(
         alloc,
-        &lists.objects,
+        &lists.objects.list,
         &lists.variables,
         settings.problem.needed,
     )?;
@@ -242,7 +245,6 @@ fn model_of(parts: Parts) -> Model
 /// # Errors
 /// The first refusal, in the order of the settings of both files, what they declare, the target, the rules, and what is
 /// asked of all steps together; or want of memory.
-#[tactic(auto, using(crate::proofs::Fitting::fits))]
 pub fn load(alloc: Global, domain: &Tree, problem: &Tree) -> Result<Model, LoadEnd>
     ensures { (read : Reading) → IsReading read → AnswersBy told parts_of result
         (meaning read domain.now problem.now) }
