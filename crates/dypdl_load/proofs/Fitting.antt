@@ -21,11 +21,12 @@ use Rattle.dypdl_data.proofs.Facts.{objects_few, variables_fit, variables_few, t
 use Rattle.dypdl_rules.specs.Declarations.{Declared}
 use Rattle.dypdl_rules.specs.Expressions.{Reading}
 use Rattle.dypdl_rules.specs.declared.transitions.Move.{Move}
-use Rattle.dypdl_rules.proofs.Facts.{moves_typed, moves_few, constraints_typed, constraints_few, base_cases_typed, base_cases_few, bounds_typed, bounds_few}
+use Rattle.dypdl_rules.proofs.Facts.{moves_typed, constraints_typed, base_cases_typed, bounds_typed}
 use Rattle.dypdl_load.specs.Settings.{Settings}
 use Rattle.dypdl_load.specs.Together.{transitions_of}
 use Rattle.dypdl_load.specs.Meaning.{in_domain, in_problem, declared_of, Rules, rules_of, Parts, parts_with, meaning}
 use Rattle.dypdl_load.specs.Facts.{Facts}
+use Rattle.dypdl_load.proofs.RuleSizes.{moves_few, constraints_few, base_cases_few, bounds_few}
 use Rattle.dypdl_load.proofs.Grounding.{grounded_fit, grounds_are}
 use Rattle.dypdl_load.proofs.Steps.{DeclaredSteps, declared_steps, RulesSteps, rules_steps, GroundSteps, ground_steps, MeaningSteps, meaning_steps}
 

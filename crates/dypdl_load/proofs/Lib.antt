@@ -1,8 +1,10 @@
 pub mod Strings
+pub mod Lists
 pub mod Readings
 pub mod Same
 pub mod Grounding
 pub mod StepTexts
 pub mod Steps
+pub mod RuleSizes
 pub mod Fitting
 pub mod Loaded

@@ -24,17 +24,10 @@ use Rattle.dypdl_rules.specs.Expressions.{Reading}
 use Rattle.dypdl_rules.specs.Moves.{moves_of}
 use Rattle.dypdl_rules.specs.BaseCases.{constraints_of, base_cases_of, bounds_of}
 use Rattle.dypdl_rules.specs.declared.transitions.Move.{Move}
+use Rattle.dypdl_load.proofs.Lists.{bound}
 use Rattle.dypdl_load.specs.Settings.{Settings, settings_of}
 use Rattle.dypdl_load.specs.Together.{join_of, grounds_of, texts_of}
 use Rattle.dypdl_load.specs.Meaning.{in_domain, in_problem, declared_of, some_base, Rules, rules_of, grounded_of, Parts, parts_with, meaning}
-
--- a step that gives a value, after one that does
-bound : {A B E : Type 0} (r : Result A E) (f : A → Result B E) (y : B) → (r >>= f) ≡ Ok y → (x : A) × (r ≡ Ok x) × (f x ≡ Ok y)
-bound (Ok x) f y h = (x, refl, h)
-bound (Err e) f y h = absurd (cc)
-
-abbrev ok : {A : Type 0} → A → Reads A
-ok x = Ok x
 
 -- ---- what is declared
 
@@ -101,7 +94,7 @@ module _ (read : Reading) (at : Place) (s : Settings) (d : Declared) where
       let g = bound (some_base at e.0) (all_rules a.0 b.0 c.0 e.0 f.0) r f.2 in
       let it : Rules = record { moves = a.0; join = b.0; constraints = c.0; base_cases = e.0; bounds = f.0 } in
       let same : it ≡ r = cc in
-      subst (RulesSteps read at s d) same (record { moves = a.1; constraints = c.1; base_cases = e.1; bounds = f.1 })
+      subst (RulesSteps read at s d) {x = it} same (record { moves = a.1; constraints = c.1; base_cases = e.1; bounds = f.1 })
 
 -- ---- ground transitions
 

@@ -1,4 +1,4 @@
-use Rattle.dypdl_rules.proofs.Facts.{moves_few}
+use Rattle.dypdl_load.proofs.RuleSizes.{moves_few}
 use Rattle.dypdl_load.proofs.Readings.{the_reading, reads}
 use Rattle.dypdl_load.proofs.whole.read_rules.Goals as goal
 
