@@ -3,6 +3,7 @@
 
 mod blanks;
 mod cells;
+mod constant_tables;
 mod heads;
 mod kinds;
 mod members;
@@ -12,6 +13,7 @@ mod sizes;
 mod state_variables;
 mod words;
 
+pub use constant_tables::{ConstantTables, tables};
 pub use kinds::{Cell, CellKind, TableHead, TypeWord};
 pub use names::{Names, transition_name, word_name};
 pub use object_types::{ObjectTypes, objects};
