@@ -11,6 +11,7 @@ mod names;
 mod object_types;
 mod sizes;
 mod state_variables;
+mod target_state;
 mod words;
 
 pub use constant_tables::{ConstantTables, tables};
@@ -18,4 +19,5 @@ pub use kinds::{Cell, CellKind, TableHead, TypeWord};
 pub use names::{Names, transition_name, word_name};
 pub use object_types::{ObjectTypes, objects};
 pub use state_variables::{StateVariables, variables};
+pub use target_state::target;
 pub use words::{is_transition_name, is_word_name};
