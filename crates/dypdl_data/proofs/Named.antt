@@ -1,5 +1,5 @@
 -- The names of tables whose cells change.
-use Rattle.std.proofs.Common.{◌≡◌, ℕ, zero, suc, ◌<◌, List, [], ◌∷◌, length, get_or, slice_set, Result, Ok, Err, IfOk, map, refl, sym, ap, ◌∙◌, arith}
+use Rattle.std.proofs.Common.{◌≡◌, ℕ, zero, suc, ◌<◌, List, [], ◌∷◌, length, get_or, slice_set, Result, Ok, Err, IfOk, map, refl, ap, ◌∙◌, arith}
 use Rattle.dp_model.specs.declared.parts.TableData.{TableData}
 use Rattle.dp_model.specs.declared.parts.ObjectType.{ObjectType}
 use Rattle.dypdl_data.specs.Cells.{table_names}

@@ -1,8 +1,8 @@
 -- The cells that a problem gives.
-use Rattle.std.specs.Prelude.{ℕ, ◌+◌, ◌*◌, Bool, true, false, not, ◌==◌, if◌then◌else◌, List, [], ◌∷◌, length, map, replicate, get_or, slice_get, slice_set, Option, None, Some, Result, Ok, Err}
+use Rattle.std.specs.Prelude.{ℕ, ◌+◌, ◌*◌, Bool, true, false, not, ◌==◌, if◌then◌else◌, List, [], ◌∷◌, length, map, replicate, get_or, slice_get, slice_set, Option, None, Some, Ok}
 use Rattle.dp_base.specs.declared.place.Place.{Place}
 use Rattle.dp_base.specs.Results.{◌>>=◌, each}
-use Rattle.dp_model.specs.Typing.{type_count, cell_count}
+use Rattle.dp_model.specs.Typing.{type_count}
 use Rattle.dp_model.specs.declared.parts.ObjectType.{ObjectType}
 use Rattle.dp_model.specs.declared.parts.Variable.{Variable}
 use Rattle.dp_model.specs.declared.parts.Cells.{Cells}

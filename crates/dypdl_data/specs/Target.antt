@@ -1,5 +1,5 @@
 -- The target state.
-use Rattle.std.specs.Prelude.{ℕ, ◌^◌, List, [], ◌∷◌, ◌++◌, length, map, replicate, slice_get, slice_set, Option, None, Some, Result, Ok, Err, ℤ, pos}
+use Rattle.std.specs.Prelude.{ℕ, List, [], ◌∷◌, ◌++◌, length, replicate, slice_get, slice_set, Option, None, Some, Ok, pos}
 use Rattle.dp_base.specs.declared.place.Place.{Place}
 use Rattle.dp_base.specs.Results.{◌>>=◌, each}
 use Rattle.dp_model.specs.Typing.{type_count}
