@@ -1,7 +1,6 @@
 -- Names and the counts in their places.
-use Rattle.std.proofs.Common.{◌≡◌, ℕ, zero, suc, ◌+◌, ◌<◌, List, [], ◌∷◌, ◌++◌, ◌≤◌, length, drop, take, zip, slice_get, Option, Some, None, Result, Ok, Err, refl, sym, ap, ◌∙◌, arith, add-one}
+use Rattle.std.proofs.Common.{◌≡◌, ℕ, zero, suc, ◌+◌, List, [], ◌∷◌, ◌++◌, ◌≤◌, length, drop, take, zip, slice_get, Option, Some, None, Ok, Err, refl, sym, ap, ◌∙◌, arith, add-one}
 use Rattle.std.proofs.Math.Seq.{drop-nil}
-use Rattle.std.proofs.lemmas.Grind.{common_steps}
 use Rattle.dp_base.specs.declared.place.Place.{Place}
 use Rattle.dp_base.specs.Results.{each, Refuses}
 use Rattle.dp_model.specs.declared.parts.ObjectType.{ObjectType}

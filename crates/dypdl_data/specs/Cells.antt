@@ -1,8 +1,8 @@
 -- The cells that a problem gives.
-use Rattle.std.specs.Prelude.{ℕ, ◌+◌, ◌*◌, Bool, true, false, not, ◌==◌, if◌then◌else◌, List, [], ◌∷◌, length, map, replicate, get_or, slice_get, slice_set, Option, None, Some, Result, Ok, Err}
+use Rattle.std.specs.Prelude.{ℕ, ◌+◌, ◌*◌, Bool, true, false, not, ◌==◌, if◌then◌else◌, List, [], ◌∷◌, length, map, replicate, get_or, slice_get, slice_set, Option, None, Some, Ok}
 use Rattle.dp_base.specs.declared.place.Place.{Place}
 use Rattle.dp_base.specs.Results.{◌>>=◌, each}
-use Rattle.dp_model.specs.Typing.{type_count, cell_count}
+use Rattle.dp_model.specs.Typing.{type_count}
 use Rattle.dp_model.specs.declared.parts.ObjectType.{ObjectType}
 use Rattle.dp_model.specs.declared.parts.Variable.{Variable}
 use Rattle.dp_model.specs.declared.parts.Cells.{Cells}
@@ -73,16 +73,17 @@ filling_step objects counts kind filling pair =
     cell_of objects kind pair.value >>= λ cell.
     Ok (record { cells = with_cell filling.cells i cell; given = slice_set filling.given i true })
 
+-- how many cells there are
+abbrev pub held_count : Cells → ℕ
+held_count (cells.Numbers xs) = length xs
+held_count (cells.Truths xs) = length xs
+held_count (cells.Sets object xs) = length xs
+
 abbrev pub filled_by : List ObjectType → (counts : List ℕ) → CellKind → Cells → Tree → Reads Cells
 filled_by objects counts kind held tree =
     entries_of tree >>= λ entries.
-    each (filling_step objects counts kind) (record { cells = held; given = replicate (length_of held) false }) entries >>= λ filling.
+    each (filling_step objects counts kind) (record { cells = held; given = replicate (held_count held) false }) entries >>= λ filling.
     Ok filling.cells
-  where
-    length_of : Cells → ℕ
-    length_of (cells.Numbers xs) = length xs
-    length_of (cells.Truths xs) = length xs
-    length_of (cells.Sets object xs) = length xs
 
 -- A table without arguments has one cell, which is given alone.
 abbrev pub cells_given : List ObjectType → (args : List ℕ) → CellKind → Cells → Tree → Reads Cells

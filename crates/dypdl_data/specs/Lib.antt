@@ -5,3 +5,5 @@ pub mod Tables
 pub mod Marks
 pub mod Sizes
 pub mod Cells
+pub mod Fillings
+pub mod Target

@@ -1,5 +1,5 @@
 -- Sets of members as a mark for each member: what the reader of members keeps.
-use Rattle.std.specs.Prelude.{ℕ, ◌+◌, Bool, true, false, List, [], ◌∷◌, replicate, slice_set, Result, Ok, Err}
+use Rattle.std.specs.Prelude.{ℕ, ◌+◌, Bool, true, false, List, [], ◌∷◌, replicate, slice_set, Ok}
 use Rattle.dp_base.specs.Results.{◌>>=◌, each}
 use Rattle.yaml_tree.specs.declared.tree.Tree.{Tree}
 use Rattle.dypdl_nodes.specs.Reads.{Reads}

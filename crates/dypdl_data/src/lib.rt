@@ -3,6 +3,7 @@
 
 mod blanks;
 mod cells;
+mod constant_tables;
 mod heads;
 mod kinds;
 mod members;
@@ -10,10 +11,14 @@ mod names;
 mod object_types;
 mod sizes;
 mod state_variables;
+mod target_state;
 mod words;
 
+pub use constant_tables::{ConstantTables, tables};
+pub use heads::type_count;
 pub use kinds::{Cell, CellKind, TableHead, TypeWord};
 pub use names::{Names, transition_name, word_name};
-pub use object_types::{ObjectTypes, objects};
+pub use object_types::{ObjectTypes, objects, owned};
 pub use state_variables::{StateVariables, variables};
+pub use target_state::target;
 pub use words::{is_transition_name, is_word_name};

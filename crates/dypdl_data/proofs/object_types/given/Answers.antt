@@ -1,4 +1,4 @@
-use Rattle.std.proofs.Common.{refl, sym, ap, ◌∙◌, ◌++◌, ◌∷◌, [], List, ℕ, rules, arith}
+use Rattle.std.proofs.Common.{sym, ap, ◌∙◌, ◌++◌, ◌∷◌, [], List, ℕ, rules, arith}
 use Rattle.dypdl_nodes.specs.Reads.{told}
 use Rattle.dypdl_data.proofs.Zips.{given_on, given_refuses, given_done, take_more}
 use Rattle.dypdl_data.proofs.object_types.given.Goals as goal
