@@ -1,11 +1,11 @@
-//! The typing of an expression in each place. `levels` says how many levels the tree may
+//! The typing of an expression in each place, one function for each form. `levels` says how many levels the tree may
 //! have; where they run out the answer is want of memory.
 
 ghost use Rattle.std.specs.Prelude.{◌≡◌, Some, length};
 ghost use Rattle.dp_base.specs.Results.{Answers, AnswersBy, in_turn};
 ghost use Rattle.dypdl_words.specs.Ends.{told};
-ghost use Rattle.dypdl_type.specs.Forms.{typings};
-ghost use Rattle.dypdl_type.specs.Typing.{Typing, typing, terms, term, operation_of, number_pair, chosen_number, set_operation_of, set_pair, connection_of, condition_pair, choice_of_conditions};
+ghost use Rattle.dypdl_type.specs.Forms.{typings, number_size, number_cell, sum_over, members_cell, complemented, set_relation, compared, membership, emptiness, negated, condition_cell};
+ghost use Rattle.dypdl_type.specs.Typing.{Typing, typing, operation_of, chosen_number, terms, term, set_operation_of, changed, chosen_members, connection_of, choice_of_conditions, number_pair, set_pair, condition_pair};
 
 use crate::forms::{
     ConditionForm, MembersForm, NumberForm, condition_form, members_form, number_form,
@@ -13,11 +13,12 @@ use crate::forms::{
 use crate::levels::levels_below;
 use crate::set_kind::holds_set;
 use dp_base::{Boxed, Seq};
-use dp_model::{Arg, Cond, Num, NumOp, SetEx, SetOp};
+use dp_model::{Arg, Compare, Cond, Num, NumOp, SetEx, SetOp};
 use dypdl_expr::Expr;
 use dypdl_words::{
-    Connective, Scope, TypeEnd, changed_set, chosen_condition, chosen_number, chosen_set,
-    condition_word, connected, folded_numbers, folded_sets, members_word, number_word, related,
+    Change, Connective, Scope, SetRelation, TypeEnd, changed_set, chosen_condition, chosen_number,
+    chosen_set, condition_word, connected, folded_numbers, folded_sets, members_word, number_word,
+    related,
 };
 use std::alloc::Global;
 
@@ -34,23 +35,23 @@ pub(crate) fn number(
     let Some(below) = levels_below(levels, e) else {
         return Err(TypeEnd::Memory);
     };
-    match number_form(scope, e)? {
+    match number_form(&*scope, e)? {
         NumberForm::Word(at, word) => number_word(alloc, at, word),
-        NumberForm::Size(set) => {
-            let (_, set) = members(alloc, scope, below, None, set)?;
-            Ok(Num::Size(Boxed::new(alloc, set)?))
-        }
-        NumberForm::Operation(op, first, more) => operation(alloc, scope, below, op, first, more),
-        NumberForm::Choice(c, a, b) => number_choice(alloc, scope, below, c, a, b),
-        NumberForm::Cell(t, operands) => {
-            let numbers = numbers(alloc, scope, below, operands)?;
-            Ok(Num::Cell(t, Seq::of(numbers)))
-        }
-        NumberForm::Sum(t, objects, operands) => {
-            let terms = terms(alloc, scope, below, objects, operands)?;
-            Ok(Num::Sum(t, Seq::of(terms)))
-        }
+        NumberForm::Size(set) => number_size(alloc, &*scope, below, set),
+        NumberForm::Operation(op, first, more) => operation(alloc, &*scope, below, op, first, more),
+        NumberForm::Choice(c, a, b) => number_choice(alloc, &*scope, below, c, a, b),
+        NumberForm::Cell(t, operands) => number_cell(alloc, &*scope, below, t, operands),
+        NumberForm::Sum(t, objects, operands) => sum(alloc, &*scope, below, t, objects, operands),
     }
+}
+
+/// The number of a set's members.
+#[cycle(typing)]
+fn number_size(alloc: Global, scope: &Scope<'_>, levels: u32, e: &Expr) -> Result<Num, TypeEnd>
+    ensures { Answers told result (number_size (typing scope.now e.now)) }
+{
+    let (_, set) = members(alloc, scope, levels, None, e)?;
+    Ok(Num::Size(Boxed::new(alloc, set)?))
 }
 
 /// An operation on numbers, folded from the left.
@@ -103,6 +104,21 @@ fn number_pair(
     Ok((a, b))
 }
 
+/// A cell of a table of numbers.
+#[cycle(typing)]
+fn number_cell(
+    alloc: Global,
+    scope: &Scope<'_>,
+    levels: u32,
+    t: u32,
+    operands: &[Expr],
+) -> Result<Num, TypeEnd>
+    ensures { Answers told result (number_cell t (typings scope.now operands.now)) }
+{
+    let numbers = numbers(alloc, scope, levels, operands)?;
+    Ok(Num::Cell(t, Seq::of(numbers)))
+}
+
 /// The trees of expressions where numbers are wanted, in order.
 #[cycle(typing)]
 fn numbers(alloc: Global, scope: &Scope<'_>, levels: u32, es: &[Expr]) -> Result<Vec<Num>, TypeEnd>
@@ -113,6 +129,23 @@ fn numbers(alloc: Global, scope: &Scope<'_>, levels: u32, es: &[Expr]) -> Result
         trees.push(number(alloc, scope, levels, e)?)?;
     }
     Ok(trees)
+}
+
+/// The sum of a table over its arguments.
+#[cycle(typing)]
+fn sum(
+    alloc: Global,
+    scope: &Scope<'_>,
+    levels: u32,
+    t: u32,
+    objects: &[u32],
+    es: &[Expr],
+) -> Result<Num, TypeEnd>
+    requires { length es.now ≡ length objects.now }
+    ensures { Answers told result (sum_over t objects.now (typings scope.now es.now)) }
+{
+    let trees = terms(alloc, scope, levels, objects, es)?;
+    Ok(Num::Sum(t, Seq::of(trees)))
 }
 
 /// The trees of the arguments of a `sum`, of these object types.
@@ -167,28 +200,18 @@ pub(crate) fn members(
     let Some(below) = levels_below(levels, e) else {
         return Err(TypeEnd::Memory);
     };
-    match members_form(scope, wanted, e)? {
+    match members_form(&*scope, wanted, e)? {
         MembersForm::Word(at, word) => members_word(alloc, at, wanted, word),
         MembersForm::Operation(op, first, more) => {
-            set_operation(alloc, scope, below, wanted, op, first, more)
+            set_operation(alloc, &*scope, below, wanted, op, first, more)
         }
-        MembersForm::Complement(e) => {
-            let (object, set) = members(alloc, scope, below, wanted, e)?;
-            Ok((object, SetEx::Not(Boxed::new(alloc, set)?)))
-        }
+        MembersForm::Complement(e) => complement(alloc, &*scope, below, wanted, e),
         MembersForm::Change(change, n, e) => {
-            let n = number(alloc, scope, below, n)?;
-            let (object, set) = members(alloc, scope, below, wanted, e)?;
-            changed_set(alloc, object, change, n, set)
+            members_change(alloc, &*scope, below, wanted, change, n, e)
         }
-        MembersForm::Choice(c, a, b) => {
-            let c = condition(alloc, scope, below, c)?;
-            let (object, (a, b)) = set_pair(alloc, scope, below, wanted, a, b)?;
-            chosen_set(alloc, object, c, a, b)
-        }
+        MembersForm::Choice(c, a, b) => members_choice(alloc, &*scope, below, wanted, c, a, b),
         MembersForm::Cell(object, t, operands) => {
-            let numbers = numbers(alloc, scope, below, operands)?;
-            Ok((object, SetEx::Cell(t, Seq::of(numbers))))
+            members_cell(alloc, &*scope, below, object, t, operands)
         }
     }
 }
@@ -211,6 +234,57 @@ fn set_operation(
     folded_sets(alloc, object, op, first, more)
 }
 
+/// The members that a set lacks.
+#[cycle(typing)]
+fn complement(
+    alloc: Global,
+    scope: &Scope<'_>,
+    levels: u32,
+    wanted: Option<u32>,
+    e: &Expr,
+) -> Result<(u32, SetEx), TypeEnd>
+    ensures { Answers told result (complemented wanted (typing scope.now e.now)) }
+{
+    let (object, set) = members(alloc, scope, levels, wanted, e)?;
+    Ok((object, SetEx::Not(Boxed::new(alloc, set)?)))
+}
+
+/// A set with a member, or without it.
+#[cycle(typing)]
+fn members_change(
+    alloc: Global,
+    scope: &Scope<'_>,
+    levels: u32,
+    wanted: Option<u32>,
+    change: Change,
+    n: &Expr,
+    e: &Expr,
+) -> Result<(u32, SetEx), TypeEnd>
+    ensures { Answers told result (changed wanted change (typing scope.now n.now) (typing scope.now e.now)) }
+{
+    let n = number(alloc, scope, levels, n)?;
+    let (object, set) = members(alloc, scope, levels, wanted, e)?;
+    changed_set(alloc, object, change, n, set)
+}
+
+/// A choice between two sets of one object type.
+#[cycle(typing)]
+fn members_choice(
+    alloc: Global,
+    scope: &Scope<'_>,
+    levels: u32,
+    wanted: Option<u32>,
+    c: &Expr,
+    a: &Expr,
+    b: &Expr,
+) -> Result<(u32, SetEx), TypeEnd>
+    ensures { Answers told result (chosen_members wanted (typing scope.now c.now) (typing scope.now a.now) (typing scope.now b.now)) }
+{
+    let c = condition(alloc, scope, levels, c)?;
+    let (object, (a, b)) = set_pair(alloc, scope, levels, wanted, a, b)?;
+    chosen_set(alloc, object, c, a, b)
+}
+
 /// Two sets of one object type, with their object type.
 #[cycle(typing)]
 fn set_pair(
@@ -226,6 +300,22 @@ fn set_pair(
     let (object, a) = members(alloc, scope, levels, wanted, a)?;
     let (_, b) = members(alloc, scope, levels, Some(object), b)?;
     Ok((object, (a, b)))
+}
+
+/// A cell of a table of sets of this object type.
+#[cycle(typing)]
+fn members_cell(
+    alloc: Global,
+    scope: &Scope<'_>,
+    levels: u32,
+    object: u32,
+    t: u32,
+    operands: &[Expr],
+) -> Result<(u32, SetEx), TypeEnd>
+    ensures { Answers told result (members_cell object t (typings scope.now operands.now)) }
+{
+    let numbers = numbers(alloc, scope, levels, operands)?;
+    Ok((object, SetEx::Cell(t, Seq::of(numbers))))
 }
 
 /// The trees of expressions where sets of this object type are wanted, in order.
@@ -259,38 +349,85 @@ pub(crate) fn condition(
     let Some(below) = levels_below(levels, e) else {
         return Err(TypeEnd::Memory);
     };
-    match condition_form(scope, e)? {
+    match condition_form(&*scope, e)? {
         ConditionForm::Word(at, word) => condition_word(alloc, at, word),
-        ConditionForm::Numbers(op, a, b) => {
-            let (a, b) = number_pair(alloc, scope, below, a, b)?;
-            Ok(Cond::Numbers(op, a, b))
-        }
-        ConditionForm::Sets(relation, a, b) => {
-            let (_, (a, b)) = set_pair(alloc, scope, below, None, a, b)?;
-            Ok(related(relation, a, b))
-        }
-        ConditionForm::IsIn(n, e) => {
-            let n = number(alloc, scope, below, n)?;
-            let (_, set) = members(alloc, scope, below, None, e)?;
-            Ok(Cond::IsIn(n, set))
-        }
-        ConditionForm::IsEmpty(e) => {
-            let (_, set) = members(alloc, scope, below, None, e)?;
-            Ok(Cond::Empty(set))
-        }
-        ConditionForm::Not(c) => {
-            let c = condition(alloc, scope, below, c)?;
-            Ok(Cond::Not(Boxed::new(alloc, c)?))
-        }
+        ConditionForm::Numbers(op, a, b) => comparison(alloc, &*scope, below, op, a, b),
+        ConditionForm::Sets(relation, a, b) => set_relation(alloc, &*scope, below, relation, a, b),
+        ConditionForm::IsIn(n, e) => membership(alloc, &*scope, below, n, e),
+        ConditionForm::IsEmpty(e) => emptiness(alloc, &*scope, below, e),
+        ConditionForm::Not(c) => negation(alloc, &*scope, below, c),
         ConditionForm::Connection(op, first, more) => {
-            connection(alloc, scope, below, op, first, more)
+            connection(alloc, &*scope, below, op, first, more)
         }
-        ConditionForm::Choice(c, a, b) => condition_choice(alloc, scope, below, c, a, b),
-        ConditionForm::Cell(t, operands) => {
-            let numbers = numbers(alloc, scope, below, operands)?;
-            Ok(Cond::Cell(t, Seq::of(numbers)))
-        }
+        ConditionForm::Choice(c, a, b) => condition_choice(alloc, &*scope, below, c, a, b),
+        ConditionForm::Cell(t, operands) => condition_cell(alloc, &*scope, below, t, operands),
     }
+}
+
+/// A comparison of two numbers.
+#[cycle(typing)]
+fn comparison(
+    alloc: Global,
+    scope: &Scope<'_>,
+    levels: u32,
+    op: Compare,
+    a: &Expr,
+    b: &Expr,
+) -> Result<Cond, TypeEnd>
+    ensures { Answers told result (compared op (typing scope.now a.now) (typing scope.now b.now)) }
+{
+    let (a, b) = number_pair(alloc, scope, levels, a, b)?;
+    Ok(Cond::Numbers(op, a, b))
+}
+
+/// A comparison of two sets of one object type.
+#[cycle(typing)]
+fn set_relation(
+    alloc: Global,
+    scope: &Scope<'_>,
+    levels: u32,
+    relation: SetRelation,
+    a: &Expr,
+    b: &Expr,
+) -> Result<Cond, TypeEnd>
+    ensures { Answers told result (set_relation relation (typing scope.now a.now) (typing scope.now b.now)) }
+{
+    let (_, (a, b)) = set_pair(alloc, scope, levels, None, a, b)?;
+    Ok(related(relation, a, b))
+}
+
+/// Whether a number is in a set.
+#[cycle(typing)]
+fn membership(
+    alloc: Global,
+    scope: &Scope<'_>,
+    levels: u32,
+    n: &Expr,
+    e: &Expr,
+) -> Result<Cond, TypeEnd>
+    ensures { Answers told result (membership (typing scope.now n.now) (typing scope.now e.now)) }
+{
+    let n = number(alloc, scope, levels, n)?;
+    let (_, set) = members(alloc, scope, levels, None, e)?;
+    Ok(Cond::IsIn(n, set))
+}
+
+/// Whether a set is empty.
+#[cycle(typing)]
+fn emptiness(alloc: Global, scope: &Scope<'_>, levels: u32, e: &Expr) -> Result<Cond, TypeEnd>
+    ensures { Answers told result (emptiness (typing scope.now e.now)) }
+{
+    let (_, set) = members(alloc, scope, levels, None, e)?;
+    Ok(Cond::Empty(set))
+}
+
+/// Whether a condition does not hold.
+#[cycle(typing)]
+fn negation(alloc: Global, scope: &Scope<'_>, levels: u32, c: &Expr) -> Result<Cond, TypeEnd>
+    ensures { Answers told result (negated (typing scope.now c.now)) }
+{
+    let c = condition(alloc, scope, levels, c)?;
+    Ok(Cond::Not(Boxed::new(alloc, c)?))
 }
 
 /// `and` or `or` of conditions, folded from the left.
@@ -341,6 +478,21 @@ fn condition_pair(
     let a = condition(alloc, scope, levels, a)?;
     let b = condition(alloc, scope, levels, b)?;
     Ok((a, b))
+}
+
+/// A cell of a table of truth values.
+#[cycle(typing)]
+fn condition_cell(
+    alloc: Global,
+    scope: &Scope<'_>,
+    levels: u32,
+    t: u32,
+    operands: &[Expr],
+) -> Result<Cond, TypeEnd>
+    ensures { Answers told result (condition_cell t (typings scope.now operands.now)) }
+{
+    let numbers = numbers(alloc, scope, levels, operands)?;
+    Ok(Cond::Cell(t, Seq::of(numbers)))
 }
 
 /// The trees of expressions where conditions are wanted, in order.
