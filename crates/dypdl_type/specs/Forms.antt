@@ -1,13 +1,9 @@
 -- What the code finds of an expression in a place before its operands are typed.
 use Rattle.std.specs.Prelude.{◌≡◌, ℕ, List, map, length, Option, None, Result, Ok, Err, ⊤}
-use Rattle.dp_base.specs.Results.{◌>>=◌, in_turn, Refuses}
-use Rattle.dp_model.specs.declared.trees.Compare.{Compare}
+use Rattle.dp_base.specs.Results.{in_turn, Refuses}
 use Rattle.dp_model.specs.declared.trees.Num.{Num}
-use Rattle.dp_model.specs.declared.trees.Num.TheVariants as num
 use Rattle.dp_model.specs.declared.trees.SetEx.{SetEx}
-use Rattle.dp_model.specs.declared.trees.SetEx.TheVariants as set
 use Rattle.dp_model.specs.declared.trees.Cond.{Cond}
-use Rattle.dp_model.specs.declared.trees.Cond.TheVariants as cond
 use Rattle.dypdl_expr.specs.declared.expr.Expr.{Expr}
 use Rattle.dypdl_words.specs.Scopes.{Names}
 use Rattle.dypdl_words.specs.declared.ends.TypeEnd.{TypeEnd}
@@ -17,7 +13,6 @@ use Rattle.dypdl_type.specs.declared.forms.MembersForm.{MembersForm}
 use Rattle.dypdl_type.specs.declared.forms.MembersForm.TheVariants as members_form
 use Rattle.dypdl_type.specs.declared.forms.ConditionForm.{ConditionForm}
 use Rattle.dypdl_type.specs.declared.forms.ConditionForm.TheVariants as condition_form
-use Rattle.dypdl_words.specs.declared.folding.SetRelation.{SetRelation}
 use Rattle.dypdl_words.specs.Ends.{told}
 use Rattle.dypdl_words.specs.Seen.{meaning_seen}
 use Rattle.dypdl_words.specs.Trees as trees

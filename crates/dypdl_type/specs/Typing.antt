@@ -16,20 +16,17 @@ use Rattle.dp_model.specs.declared.trees.Compare.TheVariants as comparisons
 use Rattle.dp_model.specs.declared.trees.Arg.{Arg}
 use Rattle.dp_model.specs.declared.trees.Arg.TheVariants as arg
 use Rattle.dp_model.specs.declared.trees.Num.{Num}
-use Rattle.dp_model.specs.declared.trees.Num.TheVariants as num
 use Rattle.dp_model.specs.declared.trees.SetEx.{SetEx}
-use Rattle.dp_model.specs.declared.trees.SetEx.TheVariants as set
 use Rattle.dp_model.specs.declared.trees.Cond.{Cond}
 use Rattle.dp_model.specs.declared.trees.Cond.TheVariants as cond
 use Rattle.dypdl_words.specs.Scopes.{Names}
 use Rattle.dypdl_words.specs.declared.ends.TypeEnd.{TypeEnd}
-use Rattle.dypdl_words.specs.declared.ends.TypeEnd.TheVariants.{UnknownName, WrongKind, WrongCount, CostPlace, Continuous, BadNumber, CostForm}
+use Rattle.dypdl_words.specs.declared.ends.TypeEnd.TheVariants.{WrongKind, WrongCount, CostForm}
 use Rattle.dypdl_type.specs.declared.cost.CostForm as forms
 use Rattle.dypdl_type.specs.declared.cost.CostForm.TheVariants.{Bare, Joined}
 use Rattle.dypdl_words.specs.declared.scope.CellKind.{CellKind}
 use Rattle.dypdl_words.specs.declared.scope.CellKind.TheVariants as cells
 use Rattle.dypdl_words.specs.declared.scope.Shape.{Shape}
-use Rattle.dypdl_words.specs.declared.scope.Named.{Named}
 use Rattle.dypdl_words.specs.declared.scope.Named.TheVariants as named
 use Rattle.dypdl_words.specs.declared.words.Operator.{Operator}
 use Rattle.dypdl_words.specs.declared.words.Operator.TheVariants as operators
