@@ -23,10 +23,11 @@ use Rattle.dypdl_words.specs.Words.{Meaning, Head, meaning}
 use Rattle.dypdl_words.specs.Words as words
 use Rattle.dypdl_words.specs.Leaves.{are_whole}
 use Rattle.dypdl_words.specs.Folding.{folded_numbers}
-use Rattle.dypdl_type.specs.Typing.{Typing, are_enough, arguments, number_operation, number_pair, number_choice, term, terms, summed_shape, summed_word, summed_table, sum_of, number_sum, number_operator, number_list}
+use Rattle.dypdl_words.specs.Trees.{both}
+use Rattle.dypdl_type.specs.Typing.{Typing, are_enough, arguments, number_operation, number_choice, term, terms, summed_shape, summed_word, summed_table, sum_of, number_sum, number_operator, number_list}
 use Rattle.dypdl_type.proofs.Trees.{Each, is_arg, AreTerms, num_cell, num_sum, num_op, num_if, one_fits, many_fits}
 use Rattle.dypdl_type.proofs.Meanings.{either_way, IsPlain, MeaningFits, HeadFits}
-use Rattle.dypdl_type.proofs.Sound.{and_then, if_allowed, unless_refused, in_turn_each, whole_cells, NumFits, SetFits, CondFits, Sound, wanted_set, numbers_fit, AreArguments, arguments_fit}
+use Rattle.dypdl_type.proofs.Sound.{and_then, both_fit, if_allowed, unless_refused, in_turn_each, whole_cells, NumFits, SetFits, CondFits, Sound, wanted_set, numbers_fit, AreArguments, arguments_fit}
 
 module _ (os : List ObjectType) (vs : List Variable) (ts : List TableData) (given : ℕ) where
   abbrev FitsNum : Num → Type 0
@@ -46,23 +47,22 @@ module _ (os : List ObjectType) (vs : List Variable) (ts : List TableData) (give
   number_operation_fits at op [] h = tt
   number_operation_fits at op (x ∷ xs) h =
       if_allowed FitsNum (are_enough op (length xs)) _ _
-      (λ enough. and_then FitsNum FitsNum x.number _ h.0.number
-      (λ n p. and_then (λ ns. (length ns ≡ length xs) × Each FitsNum ns) FitsNum (in_turn (λ (e : Typing). e.number) xs) _
-      (in_turn_each FitsNum (λ (e : Typing). e.number) xs (numbers_fit os vs ts given xs h.1))
-      (λ ns q. folded_numbers_fit op n ns p q.1)))
+      (λ enough. and_then (λ (p : Num × List Num). FitsNum p.0 × ((length p.1 ≡ length xs) × Each FitsNum p.1)) FitsNum (both x.number (in_turn (λ (e : Typing). e.number) xs)) _
+      (both_fit FitsNum (λ ns. (length ns ≡ length xs) × Each FitsNum ns) x.number (in_turn (λ (e : Typing). e.number) xs) h.0.number
+      (in_turn_each FitsNum (λ (e : Typing). e.number) xs (numbers_fit os vs ts given xs h.1)))
+      (λ p q. folded_numbers_fit op p.0 p.1 q.0 q.1.1))
 
   abbrev pub FitNumbers : Num × Num → Type 0
   FitNumbers p = FitsNum p.0 × FitsNum p.1
 
-  pub number_pair_fits : (a b : Typing) → Sound os vs ts given a → Sound os vs ts given b → IfOk (number_pair a b) FitNumbers
-  number_pair_fits a b h k =
-      and_then FitsNum FitNumbers a.number _ h.number (λ x p. and_then FitsNum FitNumbers b.number _ k.number (λ y q. (p, q)))
+  pub number_pair_fits : (a b : Typing) → Sound os vs ts given a → Sound os vs ts given b → IfOk (both a.number b.number) FitNumbers
+  number_pair_fits a b h k = both_fit FitsNum FitsNum a.number b.number h.number k.number
 
   number_choice_fits : (at : ℕ) (xs : List Typing) → AreSound xs → IfOk (number_choice at xs) FitsNum
   number_choice_fits at (c ∷ a ∷ b ∷ []) h =
-      and_then FitsCond FitsNum c.condition _ h.0.condition
-      (λ held p. and_then FitNumbers FitsNum (number_pair a b) _ (number_pair_fits a b h.1.0 h.1.1.0)
-      (λ x q. num_if os vs ts given held x.0 x.1 p q.0 q.1))
+      and_then (λ (p : Cond × (Num × Num)). FitsCond p.0 × FitNumbers p.1) FitsNum (both c.condition (both a.number b.number)) _
+      (both_fit FitsCond FitNumbers c.condition (both a.number b.number) h.0.condition (number_pair_fits a b h.1.0 h.1.1.0))
+      (λ p q. num_if os vs ts given p.0 p.1.0 p.1.1 q.0 q.1.0 q.1.1)
   number_choice_fits at others h = tt
 
   -- ---- sums

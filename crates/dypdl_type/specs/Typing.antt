@@ -16,20 +16,17 @@ use Rattle.dp_model.specs.declared.trees.Compare.TheVariants as comparisons
 use Rattle.dp_model.specs.declared.trees.Arg.{Arg}
 use Rattle.dp_model.specs.declared.trees.Arg.TheVariants as arg
 use Rattle.dp_model.specs.declared.trees.Num.{Num}
-use Rattle.dp_model.specs.declared.trees.Num.TheVariants as num
 use Rattle.dp_model.specs.declared.trees.SetEx.{SetEx}
-use Rattle.dp_model.specs.declared.trees.SetEx.TheVariants as set
 use Rattle.dp_model.specs.declared.trees.Cond.{Cond}
 use Rattle.dp_model.specs.declared.trees.Cond.TheVariants as cond
 use Rattle.dypdl_words.specs.Scopes.{Names}
 use Rattle.dypdl_words.specs.declared.ends.TypeEnd.{TypeEnd}
-use Rattle.dypdl_words.specs.declared.ends.TypeEnd.TheVariants.{UnknownName, WrongKind, WrongCount, CostPlace, Continuous, BadNumber, CostForm}
+use Rattle.dypdl_words.specs.declared.ends.TypeEnd.TheVariants.{WrongKind, WrongCount, CostForm}
 use Rattle.dypdl_type.specs.declared.cost.CostForm as forms
 use Rattle.dypdl_type.specs.declared.cost.CostForm.TheVariants.{Bare, Joined}
 use Rattle.dypdl_words.specs.declared.scope.CellKind.{CellKind}
 use Rattle.dypdl_words.specs.declared.scope.CellKind.TheVariants as cells
 use Rattle.dypdl_words.specs.declared.scope.Shape.{Shape}
-use Rattle.dypdl_words.specs.declared.scope.Named.{Named}
 use Rattle.dypdl_words.specs.declared.scope.Named.TheVariants as named
 use Rattle.dypdl_words.specs.declared.words.Operator.{Operator}
 use Rattle.dypdl_words.specs.declared.words.Operator.TheVariants as operators
@@ -40,7 +37,8 @@ use Rattle.dypdl_words.specs.declared.words.SetTest.TheVariants as tests
 use Rattle.dypdl_words.specs.Words.{Meaning, Head, meaning, head_of, is_cost}
 use Rattle.dypdl_words.specs.Words as words
 use Rattle.dypdl_words.specs.Leaves.{are_whole, are_truths, are_sets, number_word, word_refused, of_object, members_word, condition_word, word_holds_set, head_refused}
-use Rattle.dypdl_words.specs.Folding.{folded_numbers, folded_sets, changed_set, connected}
+use Rattle.dypdl_words.specs.declared.folding.SetRelation.TheVariants as relations
+use Rattle.dypdl_words.specs.Trees as trees
 
 -- What an expression is in each place. A set has its object type, and may be wanted of one.
 pub record Typing : Type 0 where
@@ -66,18 +64,14 @@ are_enough num_ops.Over more = more == 1
 are_enough num_ops.Rest more = more == 1
 
 abbrev pub operation_of : NumOp → Typing → List Typing → Result Num TypeEnd
-operation_of op x xs = x.number >>= λ n. in_turn (λ (e : Typing). e.number) xs >>= λ ns. Ok (folded_numbers op n ns)
+operation_of op x xs = trees.operation op x.number (in_turn (λ (e : Typing). e.number) xs)
 
 abbrev pub number_operation : (at : ℕ) → NumOp → List Typing → Result Num TypeEnd
 number_operation at op [] = Err (WrongCount at)
 number_operation at op (x ∷ xs) = if are_enough op (length xs) then operation_of op x xs else Err (WrongCount at)
 
--- two numbers
-abbrev pub number_pair : (a b : Typing) → Result (Num × Num) TypeEnd
-number_pair a b = a.number >>= λ x. b.number >>= λ y. Ok (x, y)
-
 abbrev pub chosen_number : (c a b : Typing) → Result Num TypeEnd
-chosen_number c a b = c.condition >>= λ held. number_pair a b >>= λ p. Ok (num.If held p.0 p.1)
+chosen_number c a b = trees.number_choice c.condition a.number b.number
 
 abbrev pub number_choice : (at : ℕ) → List Typing → Result Num TypeEnd
 number_choice at (c ∷ a ∷ b ∷ []) = chosen_number c a b
@@ -108,7 +102,7 @@ summed_table names at None = Err (WrongKind at)
 
 abbrev pub sum_of : Names → (at : ℕ) → Typing → List Typing → Result Num TypeEnd
 sum_of names at t xs =
-    summed_table names t.at t.word >>= λ table. if length xs == length table.1 then (terms table.1 xs >>= λ ys. Ok (num.Sum table.0 ys)) else Err (WrongCount at)
+    summed_table names t.at t.word >>= λ table. if length xs == length table.1 then trees.sum table.0 (terms table.1 xs) else Err (WrongCount at)
 
 abbrev pub number_sum : Names → (at : ℕ) → List Typing → Result Num TypeEnd
 number_sum names at [] = Err (WrongCount at)
@@ -126,7 +120,7 @@ arguments at shape xs = if length xs == length shape.args then in_turn (λ (e : 
 
 unfoldable pub number_list : Names → (at : ℕ) → Head → List Typing → Result Num TypeEnd
 number_list names at (words.Operation o) xs = number_operator names at o xs
-number_list names at (words.Table t shape) xs = if are_whole shape.cells then (arguments at shape xs >>= λ ns. Ok (num.Cell t ns)) else Err (WrongKind at)
+number_list names at (words.Table t shape) xs = if are_whole shape.cells then trees.number_cell t (arguments at shape xs) else Err (WrongKind at)
 number_list names at other xs = Err (head_refused at other)
 
 -- ---- lists in a set's place: the first set that is met says the object type, where the place does not
@@ -137,18 +131,18 @@ sets_are_enough set_ops.Intersection more = nat_lt 0 more
 sets_are_enough set_ops.Difference more = more == 1
 
 abbrev pub set_operation_of : (wanted : Option ℕ) → SetOp → Typing → List Typing → Result (ℕ × SetEx) TypeEnd
-set_operation_of wanted op x xs = x.members wanted >>= λ s. in_turn (λ (e : Typing). e.members (Some s.0)) xs >>= λ ss. Ok (s.0, folded_sets op s.1 ss)
+set_operation_of wanted op x xs = x.members wanted >>= λ s. trees.set_operation s.0 op s.1 (in_turn (λ (e : Typing). e.members (Some s.0)) xs)
 
 abbrev pub members_operation : (at : ℕ) → (wanted : Option ℕ) → SetOp → List Typing → Result (ℕ × SetEx) TypeEnd
 members_operation at wanted op [] = Err (WrongCount at)
 members_operation at wanted op (x ∷ xs) = if sets_are_enough op (length xs) then set_operation_of wanted op x xs else Err (WrongCount at)
 
 abbrev pub members_complement : (at : ℕ) → (wanted : Option ℕ) → List Typing → Result (ℕ × SetEx) TypeEnd
-members_complement at wanted (x ∷ []) = x.members wanted >>= λ s. Ok (s.0, set.Not s.1)
+members_complement at wanted (x ∷ []) = trees.complement (x.members wanted)
 members_complement at wanted others = Err (WrongCount at)
 
 abbrev pub changed : (wanted : Option ℕ) → Change → (n x : Typing) → Result (ℕ × SetEx) TypeEnd
-changed wanted change n x = n.number >>= λ z. x.members wanted >>= λ s. Ok (s.0, changed_set change z s.1)
+changed wanted change n x = trees.change_of change n.number (x.members wanted)
 
 abbrev pub members_change : (at : ℕ) → (wanted : Option ℕ) → Change → List Typing → Result (ℕ × SetEx) TypeEnd
 members_change at wanted change (n ∷ x ∷ []) = changed wanted change n x
@@ -156,10 +150,10 @@ members_change at wanted change others = Err (WrongCount at)
 
 -- two sets of one object type, with their object type
 abbrev pub set_pair : (wanted : Option ℕ) → (a b : Typing) → Result (ℕ × (SetEx × SetEx)) TypeEnd
-set_pair wanted a b = a.members wanted >>= λ x. b.members (Some x.0) >>= λ y. Ok (x.0, (x.1, y.1))
+set_pair wanted a b = a.members wanted >>= λ x. trees.set_pair x.0 x.1 (b.members (Some x.0))
 
 abbrev pub chosen_members : (wanted : Option ℕ) → (c a b : Typing) → Result (ℕ × SetEx) TypeEnd
-chosen_members wanted c a b = c.condition >>= λ held. set_pair wanted a b >>= λ p. Ok (p.0, set.If held p.1.0 p.1.1)
+chosen_members wanted c a b = trees.set_choice c.condition (set_pair wanted a b)
 
 abbrev pub members_choice : (at : ℕ) → (wanted : Option ℕ) → List Typing → Result (ℕ × SetEx) TypeEnd
 members_choice at wanted (c ∷ a ∷ b ∷ []) = chosen_members wanted c a b
@@ -173,7 +167,7 @@ members_operator at wanted operators.If xs = members_choice at wanted xs
 members_operator at wanted other xs = Err (WrongKind at)
 
 abbrev pub members_table : (at : ℕ) → (wanted : Option ℕ) → (t : ℕ) → Shape → CellKind → List Typing → Result (ℕ × SetEx) TypeEnd
-members_table at wanted t shape (cells.Set object) xs = of_object at wanted object (arguments at shape xs >>= λ ns. Ok (object, set.Cell t ns))
+members_table at wanted t shape (cells.Set object) xs = of_object at wanted object (trees.set_cell object t (arguments at shape xs))
 members_table at wanted t shape cells.Integer xs = Err (WrongKind at)
 members_table at wanted t shape cells.Element xs = Err (WrongKind at)
 members_table at wanted t shape cells.Truth xs = Err (WrongKind at)
@@ -199,14 +193,14 @@ unfoldable pub comparison_of : Compare → (a b : Typing) → Result Cond TypeEn
 comparison_of op a b =
     if tests_equality op && a.holds_set
     then (set_pair None a b >>= λ p. Ok (same_sets op p.1.0 p.1.1))
-    else (number_pair a b >>= λ p. Ok (cond.Numbers op p.0 p.1))
+    else trees.comparison op a.number b.number
 
 abbrev pub comparison : (at : ℕ) → Compare → List Typing → Result Cond TypeEnd
 comparison at op (a ∷ b ∷ []) = comparison_of op a b
 comparison at op others = Err (WrongCount at)
 
 abbrev pub connection_of : Connective → Typing → List Typing → Result Cond TypeEnd
-connection_of op x xs = x.condition >>= λ c. in_turn (λ (e : Typing). e.condition) xs >>= λ cs. Ok (connected op c cs)
+connection_of op x xs = trees.connection op x.condition (in_turn (λ (e : Typing). e.condition) xs)
 
 -- two or more conditions
 abbrev pub connection : (at : ℕ) → Connective → List Typing → Result Cond TypeEnd
@@ -214,23 +208,19 @@ connection at op [] = Err (WrongCount at)
 connection at op (x ∷ xs) = if nat_lt 0 (length xs) then connection_of op x xs else Err (WrongCount at)
 
 abbrev pub negation : (at : ℕ) → List Typing → Result Cond TypeEnd
-negation at (x ∷ []) = x.condition >>= λ c. Ok (cond.Not c)
+negation at (x ∷ []) = trees.negation x.condition
 negation at others = Err (WrongCount at)
 
 -- whether a number is in a set, a set in another one of its object type, or a set empty
 unfoldable pub set_test : (at : ℕ) → SetTest → List Typing → Result Cond TypeEnd
-set_test at tests.IsIn (x ∷ y ∷ []) = x.number >>= λ n. y.members None >>= λ s. Ok (cond.IsIn n s.1)
-set_test at tests.IsSubset (x ∷ y ∷ []) = set_pair None x y >>= λ p. Ok (cond.Subset p.1.0 p.1.1)
-set_test at tests.IsEmpty (x ∷ []) = x.members None >>= λ s. Ok (cond.Empty s.1)
+set_test at tests.IsIn (x ∷ y ∷ []) = trees.membership x.number (y.members None)
+set_test at tests.IsSubset (x ∷ y ∷ []) = trees.set_relation relations.Within (set_pair None x y)
+set_test at tests.IsEmpty (x ∷ []) = trees.emptiness (x.members None)
 set_test at test others = Err (WrongCount at)
-
--- two conditions
-abbrev pub condition_pair : (a b : Typing) → Result (Cond × Cond) TypeEnd
-condition_pair a b = a.condition >>= λ x. b.condition >>= λ y. Ok (x, y)
 
 -- a choice between two conditions, of which only the chosen one is evaluated
 abbrev pub choice_of_conditions : (c a b : Typing) → Result Cond TypeEnd
-choice_of_conditions c a b = c.condition >>= λ held. condition_pair a b >>= λ p. Ok (cond.If held p.0 p.1)
+choice_of_conditions c a b = trees.condition_choice c.condition a.condition b.condition
 
 abbrev pub condition_choice : (at : ℕ) → List Typing → Result Cond TypeEnd
 condition_choice at (c ∷ a ∷ b ∷ []) = choice_of_conditions c a b
@@ -246,7 +236,7 @@ condition_operator at other xs = Err (WrongKind at)
 
 unfoldable pub condition_list : (at : ℕ) → Head → List Typing → Result Cond TypeEnd
 condition_list at (words.Operation o) xs = condition_operator at o xs
-condition_list at (words.Table t shape) xs = if are_truths shape.cells then (arguments at shape xs >>= λ ns. Ok (cond.Cell t ns)) else Err (WrongKind at)
+condition_list at (words.Table t shape) xs = if are_truths shape.cells then trees.condition_cell t (arguments at shape xs) else Err (WrongKind at)
 condition_list at other xs = Err (head_refused at other)
 
 -- ---- the fold
@@ -292,7 +282,7 @@ list_typing names at (x ∷ xs) = head_typing names at x.word xs
 
 -- the number of members of a set
 abbrev pub bars_typing : (at : ℕ) → Typing → Typing
-bars_typing at x = record { at = at; word = None; holds_set = false; number = x.members None >>= λ s. Ok (num.Size s.1); members = λ wanted. Err (WrongKind at); condition = Err (WrongKind at) }
+bars_typing at x = record { at = at; word = None; holds_set = false; number = trees.size (x.members None); members = λ wanted. Err (WrongKind at); condition = Err (WrongKind at) }
 
 abbrev pub typing_step : Names → exprs.Expr-F Typing → Typing
 typing_step names (exprs.Expr-F.Word at word) = word_typing names at word

@@ -1,23 +1,25 @@
-//! The typing of an expression in each place. `levels` says how many levels the tree may
-//! have; where they run out the answer is want of memory.
+//! The typing of an expression in each place. Operands are typed in order, and a form answers the first refusal of its
+//! operands. `levels` says how many levels the tree may have; where they run out the answer is want of memory.
 
 ghost use Rattle.std.specs.Prelude.{◌≡◌, Some, length};
-ghost use Rattle.dp_base.specs.Results.{Answers, AnswersBy, in_turn};
+ghost use Rattle.dp_base.specs.Results.{Answers, in_turn};
 ghost use Rattle.dypdl_words.specs.Ends.{told};
 ghost use Rattle.dypdl_type.specs.Forms.{typings};
-ghost use Rattle.dypdl_type.specs.Typing.{Typing, typing, terms, term, operation_of, number_pair, chosen_number, set_operation_of, set_pair, connection_of, condition_pair, choice_of_conditions};
+ghost use Rattle.dypdl_type.specs.Typing.{Typing, typing, terms, term, set_operation_of, set_pair};
 
 use crate::forms::{
     ConditionForm, MembersForm, NumberForm, condition_form, members_form, number_form,
 };
 use crate::levels::levels_below;
 use crate::set_kind::holds_set;
-use dp_base::{Boxed, Seq};
-use dp_model::{Arg, Cond, Num, NumOp, SetEx, SetOp};
+use dp_base::Seq;
+use dp_model::{Arg, Cond, Num, SetEx, SetOp};
 use dypdl_expr::Expr;
 use dypdl_words::{
-    Connective, Scope, TypeEnd, changed_set, chosen_condition, chosen_number, chosen_set,
-    condition_word, connected, folded_numbers, folded_sets, members_word, number_word, related,
+    Scope, TypeEnd, change_of, comparison, complement, condition_cell, condition_choice,
+    condition_word, connection, emptiness, members_word, membership, negation, number_cell,
+    number_choice, number_word, operation, set_cell, set_choice, set_operation, set_pair,
+    set_relation, size, sum,
 };
 use std::alloc::Global;
 
@@ -34,85 +36,38 @@ pub(crate) fn number(
     let Some(below) = levels_below(levels, e) else {
         return Err(TypeEnd::Memory);
     };
-    match number_form(scope, e)? {
+    match number_form(&*scope, e)? {
         NumberForm::Word(at, word) => number_word(alloc, at, word),
-        NumberForm::Size(set) => {
-            let (_, set) = members(alloc, scope, below, None, set)?;
-            Ok(Num::Size(Boxed::new(alloc, set)?))
-        }
-        NumberForm::Operation(op, first, more) => operation(alloc, scope, below, op, first, more),
-        NumberForm::Choice(c, a, b) => number_choice(alloc, scope, below, c, a, b),
-        NumberForm::Cell(t, operands) => {
-            let numbers = numbers(alloc, scope, below, operands)?;
-            Ok(Num::Cell(t, Seq::of(numbers)))
-        }
+        NumberForm::Size(set) => size(alloc, members(alloc, &*scope, below, None, set)),
+        NumberForm::Operation(op, first, more) => operation(
+            alloc,
+            op,
+            number(alloc, &*scope, below, first),
+            numbers(alloc, &*scope, below, more),
+        ),
+        NumberForm::Choice(c, a, b) => number_choice(
+            alloc,
+            condition(alloc, &*scope, below, c),
+            number(alloc, &*scope, below, a),
+            number(alloc, &*scope, below, b),
+        ),
+        NumberForm::Cell(t, operands) => number_cell(t, numbers(alloc, &*scope, below, operands)),
         NumberForm::Sum(t, objects, operands) => {
-            let terms = terms(alloc, scope, below, objects, operands)?;
-            Ok(Num::Sum(t, Seq::of(terms)))
+            sum(t, terms(alloc, &*scope, below, objects, operands))
         }
     }
 }
 
-/// An operation on numbers, folded from the left.
-#[cycle(typing)]
-fn operation(
-    alloc: Global,
-    scope: &Scope<'_>,
-    levels: u32,
-    op: NumOp,
-    first: &Expr,
-    more: &[Expr],
-) -> Result<Num, TypeEnd>
-    ensures { Answers told result (operation_of op (typing scope.now first.now) (typings scope.now more.now)) }
-{
-    let first = number(alloc, scope, levels, first)?;
-    let more = numbers(alloc, scope, levels, more)?;
-    folded_numbers(alloc, op, first, more)
-}
-
-/// A choice between two numbers.
-#[cycle(typing)]
-fn number_choice(
-    alloc: Global,
-    scope: &Scope<'_>,
-    levels: u32,
-    c: &Expr,
-    a: &Expr,
-    b: &Expr,
-) -> Result<Num, TypeEnd>
-    ensures { Answers told result (chosen_number (typing scope.now c.now) (typing scope.now a.now) (typing scope.now b.now)) }
-{
-    let c = condition(alloc, scope, levels, c)?;
-    let (a, b) = number_pair(alloc, scope, levels, a, b)?;
-    chosen_number(alloc, c, a, b)
-}
-
-/// The trees of two expressions where numbers are wanted.
-#[cycle(typing)]
-fn number_pair(
-    alloc: Global,
-    scope: &Scope<'_>,
-    levels: u32,
-    a: &Expr,
-    b: &Expr,
-) -> Result<(Num, Num), TypeEnd>
-    ensures { Answers told result (number_pair (typing scope.now a.now) (typing scope.now b.now)) }
-{
-    let a = number(alloc, scope, levels, a)?;
-    let b = number(alloc, scope, levels, b)?;
-    Ok((a, b))
-}
-
 /// The trees of expressions where numbers are wanted, in order.
 #[cycle(typing)]
-fn numbers(alloc: Global, scope: &Scope<'_>, levels: u32, es: &[Expr]) -> Result<Vec<Num>, TypeEnd>
-    ensures { AnswersBy told (λ v. v.items) result (in_turn (λ (e : Typing). e.number) (typings scope.now es.now)) }
+fn numbers(alloc: Global, scope: &Scope<'_>, levels: u32, es: &[Expr]) -> Result<Seq<Num>, TypeEnd>
+    ensures { Answers told result (in_turn (λ (e : Typing). e.number) (typings scope.now es.now)) }
 {
     let mut trees = Vec::new(alloc);
     for e in es {
         trees.push(number(alloc, scope, levels, e)?)?;
     }
-    Ok(trees)
+    Ok(Seq::of(trees))
 }
 
 /// The trees of the arguments of a `sum`, of these object types.
@@ -123,15 +78,15 @@ fn terms(
     levels: u32,
     objects: &[u32],
     es: &[Expr],
-) -> Result<Vec<Arg>, TypeEnd>
+) -> Result<Seq<Arg>, TypeEnd>
     requires { length es.now ≡ length objects.now }
-    ensures { AnswersBy told (λ v. v.items) result (terms objects.now (typings scope.now es.now)) }
+    ensures { Answers told result (terms objects.now (typings scope.now es.now)) }
 {
     let mut trees = Vec::new(alloc);
     for (at, e) in es.iter().enumerate() {
         trees.push(term(alloc, scope, levels, objects[at], e)?)?;
     }
-    Ok(trees)
+    Ok(Seq::of(trees))
 }
 
 /// The tree of an argument of a `sum`, of this object type.
@@ -167,35 +122,32 @@ pub(crate) fn members(
     let Some(below) = levels_below(levels, e) else {
         return Err(TypeEnd::Memory);
     };
-    match members_form(scope, wanted, e)? {
+    match members_form(&*scope, wanted, e)? {
         MembersForm::Word(at, word) => members_word(alloc, at, wanted, word),
         MembersForm::Operation(op, first, more) => {
-            set_operation(alloc, scope, below, wanted, op, first, more)
+            sets_joined(alloc, &*scope, below, wanted, op, first, more)
         }
-        MembersForm::Complement(e) => {
-            let (object, set) = members(alloc, scope, below, wanted, e)?;
-            Ok((object, SetEx::Not(Boxed::new(alloc, set)?)))
-        }
-        MembersForm::Change(change, n, e) => {
-            let n = number(alloc, scope, below, n)?;
-            let (object, set) = members(alloc, scope, below, wanted, e)?;
-            changed_set(alloc, object, change, n, set)
-        }
-        MembersForm::Choice(c, a, b) => {
-            let c = condition(alloc, scope, below, c)?;
-            let (object, (a, b)) = set_pair(alloc, scope, below, wanted, a, b)?;
-            chosen_set(alloc, object, c, a, b)
-        }
+        MembersForm::Complement(e) => complement(alloc, members(alloc, &*scope, below, wanted, e)),
+        MembersForm::Change(change, n, e) => change_of(
+            alloc,
+            change,
+            number(alloc, &*scope, below, n),
+            members(alloc, &*scope, below, wanted, e),
+        ),
+        MembersForm::Choice(c, a, b) => set_choice(
+            alloc,
+            condition(alloc, &*scope, below, c),
+            two_sets(alloc, &*scope, below, wanted, a, b),
+        ),
         MembersForm::Cell(object, t, operands) => {
-            let numbers = numbers(alloc, scope, below, operands)?;
-            Ok((object, SetEx::Cell(t, Seq::of(numbers))))
+            set_cell(object, t, numbers(alloc, &*scope, below, operands))
         }
     }
 }
 
 /// A union, an intersection or a difference, folded from the left.
 #[cycle(typing)]
-fn set_operation(
+fn sets_joined(
     alloc: Global,
     scope: &Scope<'_>,
     levels: u32,
@@ -207,13 +159,18 @@ fn set_operation(
     ensures { Answers told result (set_operation_of wanted op (typing scope.now first.now) (typings scope.now more.now)) }
 {
     let (object, first) = members(alloc, scope, levels, wanted, first)?;
-    let more = sets(alloc, scope, levels, object, more)?;
-    folded_sets(alloc, object, op, first, more)
+    set_operation(
+        alloc,
+        object,
+        op,
+        first,
+        sets(alloc, scope, levels, object, more),
+    )
 }
 
 /// Two sets of one object type, with their object type.
 #[cycle(typing)]
-fn set_pair(
+fn two_sets(
     alloc: Global,
     scope: &Scope<'_>,
     levels: u32,
@@ -224,8 +181,7 @@ fn set_pair(
     ensures { Answers told result (set_pair wanted (typing scope.now a.now) (typing scope.now b.now)) }
 {
     let (object, a) = members(alloc, scope, levels, wanted, a)?;
-    let (_, b) = members(alloc, scope, levels, Some(object), b)?;
-    Ok((object, (a, b)))
+    set_pair(object, a, members(alloc, scope, levels, Some(object), b))
 }
 
 /// The trees of expressions where sets of this object type are wanted, in order.
@@ -236,14 +192,14 @@ fn sets(
     levels: u32,
     object: u32,
     es: &[Expr],
-) -> Result<Vec<(u32, SetEx)>, TypeEnd>
-    ensures { AnswersBy told (λ v. v.items) result (in_turn (λ (e : Typing). e.members (Some object)) (typings scope.now es.now)) }
+) -> Result<Seq<(u32, SetEx)>, TypeEnd>
+    ensures { Answers told result (in_turn (λ (e : Typing). e.members (Some object)) (typings scope.now es.now)) }
 {
     let mut trees = Vec::new(alloc);
     for e in es {
         trees.push(members(alloc, scope, levels, Some(object), e)?)?;
     }
-    Ok(trees)
+    Ok(Seq::of(trees))
 }
 
 /// The tree of an expression where a condition is wanted.
@@ -259,88 +215,38 @@ pub(crate) fn condition(
     let Some(below) = levels_below(levels, e) else {
         return Err(TypeEnd::Memory);
     };
-    match condition_form(scope, e)? {
+    match condition_form(&*scope, e)? {
         ConditionForm::Word(at, word) => condition_word(alloc, at, word),
-        ConditionForm::Numbers(op, a, b) => {
-            let (a, b) = number_pair(alloc, scope, below, a, b)?;
-            Ok(Cond::Numbers(op, a, b))
-        }
+        ConditionForm::Numbers(op, a, b) => comparison(
+            op,
+            number(alloc, &*scope, below, a),
+            number(alloc, &*scope, below, b),
+        ),
         ConditionForm::Sets(relation, a, b) => {
-            let (_, (a, b)) = set_pair(alloc, scope, below, None, a, b)?;
-            Ok(related(relation, a, b))
+            set_relation(relation, two_sets(alloc, &*scope, below, None, a, b))
         }
-        ConditionForm::IsIn(n, e) => {
-            let n = number(alloc, scope, below, n)?;
-            let (_, set) = members(alloc, scope, below, None, e)?;
-            Ok(Cond::IsIn(n, set))
-        }
-        ConditionForm::IsEmpty(e) => {
-            let (_, set) = members(alloc, scope, below, None, e)?;
-            Ok(Cond::Empty(set))
-        }
-        ConditionForm::Not(c) => {
-            let c = condition(alloc, scope, below, c)?;
-            Ok(Cond::Not(Boxed::new(alloc, c)?))
-        }
-        ConditionForm::Connection(op, first, more) => {
-            connection(alloc, scope, below, op, first, more)
-        }
-        ConditionForm::Choice(c, a, b) => condition_choice(alloc, scope, below, c, a, b),
+        ConditionForm::IsIn(n, e) => membership(
+            number(alloc, &*scope, below, n),
+            members(alloc, &*scope, below, None, e),
+        ),
+        ConditionForm::IsEmpty(e) => emptiness(members(alloc, &*scope, below, None, e)),
+        ConditionForm::Not(c) => negation(alloc, condition(alloc, &*scope, below, c)),
+        ConditionForm::Connection(op, first, more) => connection(
+            alloc,
+            op,
+            condition(alloc, &*scope, below, first),
+            conditions(alloc, &*scope, below, more),
+        ),
+        ConditionForm::Choice(c, a, b) => condition_choice(
+            alloc,
+            condition(alloc, &*scope, below, c),
+            condition(alloc, &*scope, below, a),
+            condition(alloc, &*scope, below, b),
+        ),
         ConditionForm::Cell(t, operands) => {
-            let numbers = numbers(alloc, scope, below, operands)?;
-            Ok(Cond::Cell(t, Seq::of(numbers)))
+            condition_cell(t, numbers(alloc, &*scope, below, operands))
         }
     }
-}
-
-/// `and` or `or` of conditions, folded from the left.
-#[cycle(typing)]
-fn connection(
-    alloc: Global,
-    scope: &Scope<'_>,
-    levels: u32,
-    op: Connective,
-    first: &Expr,
-    more: &[Expr],
-) -> Result<Cond, TypeEnd>
-    ensures { Answers told result (connection_of op (typing scope.now first.now) (typings scope.now more.now)) }
-{
-    let first = condition(alloc, scope, levels, first)?;
-    let more = conditions(alloc, scope, levels, more)?;
-    connected(alloc, op, first, more)
-}
-
-/// A choice between two conditions.
-#[cycle(typing)]
-fn condition_choice(
-    alloc: Global,
-    scope: &Scope<'_>,
-    levels: u32,
-    c: &Expr,
-    a: &Expr,
-    b: &Expr,
-) -> Result<Cond, TypeEnd>
-    ensures { Answers told result (choice_of_conditions (typing scope.now c.now) (typing scope.now a.now) (typing scope.now b.now)) }
-{
-    let c = condition(alloc, scope, levels, c)?;
-    let (a, b) = condition_pair(alloc, scope, levels, a, b)?;
-    chosen_condition(alloc, c, a, b)
-}
-
-/// The trees of two expressions where conditions are wanted.
-#[cycle(typing)]
-fn condition_pair(
-    alloc: Global,
-    scope: &Scope<'_>,
-    levels: u32,
-    a: &Expr,
-    b: &Expr,
-) -> Result<(Cond, Cond), TypeEnd>
-    ensures { Answers told result (condition_pair (typing scope.now a.now) (typing scope.now b.now)) }
-{
-    let a = condition(alloc, scope, levels, a)?;
-    let b = condition(alloc, scope, levels, b)?;
-    Ok((a, b))
 }
 
 /// The trees of expressions where conditions are wanted, in order.
@@ -350,12 +256,12 @@ fn conditions(
     scope: &Scope<'_>,
     levels: u32,
     es: &[Expr],
-) -> Result<Vec<Cond>, TypeEnd>
-    ensures { AnswersBy told (λ v. v.items) result (in_turn (λ (e : Typing). e.condition) (typings scope.now es.now)) }
+) -> Result<Seq<Cond>, TypeEnd>
+    ensures { Answers told result (in_turn (λ (e : Typing). e.condition) (typings scope.now es.now)) }
 {
     let mut trees = Vec::new(alloc);
     for e in es {
         trees.push(condition(alloc, scope, levels, e)?)?;
     }
-    Ok(trees)
+    Ok(Seq::of(trees))
 }

@@ -4,3 +4,4 @@ pub mod Words
 pub mod Seen
 pub mod Leaves
 pub mod Folding
+pub mod Trees

@@ -10,7 +10,7 @@ ghost use Rattle.dp_model.specs.declared.trees.Cond.TheVariants as cond;
 
 use crate::ends::TypeEnd;
 use crate::words::{Change, Connective};
-use dp_base::Boxed;
+use dp_base::{Boxed, Seq};
 use dp_model::{Cond, Num, NumOp, SetEx, SetOp};
 use std::alloc::{AllocError, Global};
 
@@ -51,11 +51,16 @@ fn boxed_three<C: Drop, T: Drop>(
     Ok((c, a, b))
 }
 
-pub fn folded_numbers(alloc: Global, op: NumOp, first: Num, more: Vec<Num>) -> Result<Num, TypeEnd>
-    ensures { Answers told result (Ok (folded_numbers op first more.items)) }
+pub(crate) fn folded_numbers(
+    alloc: Global,
+    op: NumOp,
+    first: Num,
+    more: Seq<Num>,
+) -> Result<Num, TypeEnd>
+    ensures { Answers told result (Ok (folded_numbers op first more)) }
 {
     let mut folded = first;
-    for n in more {
+    for n in more.into_list() {
         let (a, b) = boxed_two(alloc, folded, n)?;
         folded = Num::Op(op, a, b);
     }
@@ -63,17 +68,17 @@ pub fn folded_numbers(alloc: Global, op: NumOp, first: Num, more: Vec<Num>) -> R
 }
 
 /// Sets of this object type.
-pub fn folded_sets(
+pub(crate) fn folded_sets(
     alloc: Global,
     object: u32,
     op: SetOp,
     first: SetEx,
-    more: Vec<(u32, SetEx)>,
+    more: Seq<(u32, SetEx)>,
 ) -> Result<(u32, SetEx), TypeEnd>
-    ensures { Answers told result (Ok (object, folded_sets op first more.items)) }
+    ensures { Answers told result (Ok (object, folded_sets op first more)) }
 {
     let mut folded = first;
-    for (_, set) in more {
+    for (_, set) in more.into_list() {
         let (a, b) = boxed_two(alloc, folded, set)?;
         folded = SetEx::Op(op, a, b);
     }
@@ -90,23 +95,23 @@ fn connect(alloc: Global, op: Connective, a: Cond, b: Cond) -> Result<Cond, Type
     })
 }
 
-pub fn connected(
+pub(crate) fn connected(
     alloc: Global,
     op: Connective,
     first: Cond,
-    more: Vec<Cond>,
+    more: Seq<Cond>,
 ) -> Result<Cond, TypeEnd>
-    ensures { Answers told result (Ok (connected op first more.items)) }
+    ensures { Answers told result (Ok (connected op first more)) }
 {
     let mut folded = first;
-    for c in more {
+    for c in more.into_list() {
         folded = connect(alloc, op, folded, c)?;
     }
     Ok(folded)
 }
 
 /// A set of this object type with a member, or without it.
-pub fn changed_set(
+pub(crate) fn changed_set(
     alloc: Global,
     object: u32,
     change: Change,
@@ -125,7 +130,7 @@ pub fn changed_set(
     ))
 }
 
-pub fn chosen_number(alloc: Global, c: Cond, a: Num, b: Num) -> Result<Num, TypeEnd>
+pub(crate) fn chosen_number(alloc: Global, c: Cond, a: Num, b: Num) -> Result<Num, TypeEnd>
     ensures { Answers told result (Ok (num.If c a b)) }
 {
     let (c, a, b) = boxed_three(alloc, c, a, b)?;
@@ -133,7 +138,7 @@ pub fn chosen_number(alloc: Global, c: Cond, a: Num, b: Num) -> Result<Num, Type
 }
 
 /// A choice between two sets of this object type.
-pub fn chosen_set(
+pub(crate) fn chosen_set(
     alloc: Global,
     object: u32,
     c: Cond,
@@ -146,14 +151,14 @@ pub fn chosen_set(
     Ok((object, SetEx::If(c, a, b)))
 }
 
-pub fn chosen_condition(alloc: Global, c: Cond, a: Cond, b: Cond) -> Result<Cond, TypeEnd>
+pub(crate) fn chosen_condition(alloc: Global, c: Cond, a: Cond, b: Cond) -> Result<Cond, TypeEnd>
     ensures { Answers told result (Ok (cond.If c a b)) }
 {
     let (c, a, b) = boxed_three(alloc, c, a, b)?;
     Ok(Cond::If(c, a, b))
 }
 
-pub fn related(relation: SetRelation, a: SetEx, b: SetEx) -> Cond
+pub(crate) fn related(relation: SetRelation, a: SetEx, b: SetEx) -> Cond
     ensures { result ≡ related relation a b }
 {
     match relation {

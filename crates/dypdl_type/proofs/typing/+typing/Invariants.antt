@@ -27,32 +27,14 @@ decreases-conditions l = 3 * l.levels + 1
 abbrev pub decreases-term : goal.decreases-term
 decreases-term l = 3 * l.levels + 1
 
-abbrev pub decreases-set_pair : goal.decreases-set_pair
-decreases-set_pair l = 3 * l.levels + 1
-
-abbrev pub decreases-set_operation : goal.decreases-set_operation
-decreases-set_operation l = 3 * l.levels + 2
-
-abbrev pub decreases-operation : goal.decreases-operation
-decreases-operation l = 3 * l.levels + 2
-
-abbrev pub decreases-number_choice : goal.decreases-number_choice
-decreases-number_choice l = 3 * l.levels + 2
-
-abbrev pub decreases-connection : goal.decreases-connection
-decreases-connection l = 3 * l.levels + 2
-
-abbrev pub decreases-condition_choice : goal.decreases-condition_choice
-decreases-condition_choice l = 3 * l.levels + 2
-
-abbrev pub decreases-number_pair : goal.decreases-number_pair
-decreases-number_pair l = 3 * l.levels + 1
-
-abbrev pub decreases-condition_pair : goal.decreases-condition_pair
-decreases-condition_pair l = 3 * l.levels + 1
+abbrev pub decreases-two_sets : goal.decreases-two_sets
+decreases-two_sets l = 3 * l.levels + 1
 
 abbrev pub decreases-terms : goal.decreases-terms
 decreases-terms l = 3 * l.levels + 2
+
+abbrev pub decreases-sets_joined : goal.decreases-sets_joined
+decreases-sets_joined l = 3 * l.levels + 2
 
 -- what was read, and then what is left, is the whole
 
