@@ -9,6 +9,7 @@ use Rattle.dp_model.specs.Limits.{has_most, is_name, is_small_object, is_small_t
 use Rattle.dp_model.specs.declared.parts.ObjectType.{ObjectType}
 use Rattle.dp_model.specs.declared.parts.Variable.{Variable}
 use Rattle.dp_model.specs.declared.parts.TableData.{TableData}
+use Rattle.dp_model.specs.declared.parts.PlainState.{PlainState}
 use Rattle.dp_model.specs.declared.parts.Transition.{Transition}
 use Rattle.dp_model.specs.declared.parts.BaseCase.{BaseCase}
 use Rattle.dp_model.specs.declared.parts.Ground.{Ground}
@@ -17,11 +18,20 @@ use Rattle.dp_model.specs.declared.trees.Num.{Num}
 use Rattle.std.specs.Prelude.{codes}
 use Rattle.yaml_tree.specs.declared.tree.Tree.{Tree}
 use Rattle.yaml_tree.specs.Fields.{tree_place}
-use Rattle.dypdl_data.proofs.Facts.{objects_few, variables_fit, variables_few, tables_fit, tables_few, target_fits}
+use Rattle.dypdl_data.specs.Objects.{objects_of}
+use Rattle.dypdl_data.specs.Variables.{variables_of}
+use Rattle.dypdl_data.specs.Cells.{tables_of}
+use Rattle.dypdl_data.specs.Target.{target_of}
+use Rattle.dypdl_data.specs.Laws.{FitObjects, FitVariables, FitTables}
+use Rattle.dypdl_data.proofs.Steps.{when_ok}
+use Rattle.dypdl_data.proofs.FitObjects.{objects_fit}
+use Rattle.dypdl_data.proofs.FitVariables.{variables_fit}
+use Rattle.dypdl_data.proofs.FitTables.{tables_fit}
+use Rattle.dypdl_data.proofs.FitTarget.{target_fits}
 use Rattle.dypdl_rules.specs.Declarations.{Declared}
 use Rattle.dypdl_rules.specs.Expressions.{Reading}
 use Rattle.dypdl_rules.specs.declared.transitions.Move.{Move}
-use Rattle.dypdl_rules.proofs.Facts.{moves_typed, constraints_typed, base_cases_typed, bounds_typed}
+use Rattle.dypdl_load.proofs.RuleFacts.{moves_typed, constraints_typed, base_cases_typed, bounds_typed}
 use Rattle.dypdl_load.specs.Settings.{Settings}
 use Rattle.dypdl_load.specs.Together.{transitions_of}
 use Rattle.dypdl_load.specs.Meaning.{in_domain, in_problem, declared_of, Rules, rules_of, Parts, parts_with, meaning}
@@ -35,14 +45,24 @@ and3 a b c p q r = and_from a (b && c) p (and_from b c q r)
 
 -- what is declared
 
-names_few : (at : Place) (s : Settings) (d : Declared) → DeclaredSteps at s d → are_few_names d.objects d.variables d.tables ≡ true
-names_few at s d h =
-    let o = objects_few at (in_domain s (codes "objects")) (in_problem s (codes "object_numbers")) d.objects h.objects in
-    let v = variables_few d.objects s.domain.needed d.variables h.variables in
-    let t = tables_few d.objects d.variables (in_domain s (codes "tables")) (in_problem s (codes "table_values")) d.tables h.tables in
-    let tables = and3 (has_most 1024 d.tables) (list_all is_small_table d.tables) (nat_le (table_words d.objects d.tables) 16777216) t.0 t.1 t.2 in
-    let variables = and3 (has_most 1024 d.variables) (list_all (λ (x : Variable). is_name x.name) d.variables) _ v.0 v.1 tables in
-    and3 (has_most 1024 d.objects) (list_all is_small_object d.objects) _ o.0 o.1 variables
+module _ (at : Place) (s : Settings) (d : Declared) (h : DeclaredSteps at s d) where
+  objects_fitting : FitObjects d.objects
+  objects_fitting = when_ok FitObjects (objects_of at (in_domain s (codes "objects")) (in_problem s (codes "object_numbers"))) d.objects h.objects (objects_fit at (in_domain s (codes "objects")) (in_problem s (codes "object_numbers")))
+
+  variables_fitting : FitVariables d.objects d.variables
+  variables_fitting = when_ok (FitVariables d.objects) (variables_of d.objects s.domain.needed) d.variables h.variables (variables_fit d.objects s.domain.needed)
+
+  tables_fitting : FitTables d.objects d.variables d.tables
+  tables_fitting = when_ok (FitTables d.objects d.variables) (tables_of d.objects d.variables (in_domain s (codes "tables")) (in_problem s (codes "table_values"))) d.tables h.tables (tables_fit d.objects d.variables (in_domain s (codes "tables")) (in_problem s (codes "table_values")))
+
+  names_few : are_few_names d.objects d.variables d.tables ≡ true
+  names_few =
+      let o = objects_fitting in
+      let v = variables_fitting in
+      let t = tables_fitting in
+      let tables = and3 (has_most 1024 d.tables) (list_all is_small_table d.tables) (nat_le (table_words d.objects d.tables) 16777216) t.few t.small t.words in
+      let variables = and3 (has_most 1024 d.variables) (list_all (λ (x : Variable). is_name x.name) d.variables) _ v.few v.named tables in
+      and3 (has_most 1024 d.objects) (list_all is_small_object d.objects) _ o.few o.small variables
 
 -- the rules
 
@@ -82,10 +102,10 @@ fits read domain problem x means =
     let all = grounds_are d.objects d.variables s.rules.moves s.grounds g.all in
     let few = few_moves read (tree_place domain) s.settings d s.rules rules in
     let facts : Facts (parts_with s.settings d s.target s.rules s.grounds) = record {
-      kinds = variables_fit d.objects s.settings.domain.needed d.variables steps.variables;
-      cells = tables_fit d.objects d.variables (in_domain s.settings (codes "tables")) (in_problem s.settings (codes "table_values")) d.tables steps.tables;
+      kinds = (variables_fitting (tree_place problem) s.settings d steps).fit;
+      cells = (tables_fitting (tree_place problem) s.settings d steps).fit;
       typed = typed read (tree_place domain) s.settings d s.rules rules;
-      held = target_fits d.objects d.variables s.settings.problem.needed s.target s.is_target;
+      held = when_ok (λ (x : PlainState). is_state d.objects d.variables x ≡ true) (target_of d.objects d.variables s.settings.problem.needed) s.target s.is_target (target_fits d.objects d.variables s.settings.problem.needed);
       grounded = rw all.0 (grounded_fit d.objects d.variables (transitions_of s.rules.moves));
       few_names = names_few (tree_place problem) s.settings d steps;
       few_rules = rules_few read (tree_place domain) s.settings d s.rules rules s.grounds all.1 (few_transitions s.rules few) } in

@@ -6,5 +6,6 @@ pub mod Grounding
 pub mod StepTexts
 pub mod Steps
 pub mod RuleSizes
+pub mod RuleFacts
 pub mod Fitting
 pub mod Loaded

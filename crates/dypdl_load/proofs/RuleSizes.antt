@@ -43,7 +43,7 @@ Any v = Unit {0}
 abbrev tested : (List ℕ → Bool) → Tree → List ℕ → Reads (List ℕ)
 tested test tree text = if test text then Ok text else refuse 51 (tree_place tree)
 
-named_so : (test : List ℕ → Bool) (tree : Tree) (name : List ℕ) → name_by test tree ≡ Ok name → test name ≡ true
+pub named_so : (test : List ℕ → Bool) (tree : Tree) (name : List ℕ) → name_by test tree ≡ Ok name → test name ≡ true
 named_so test tree name h =
     let a = bound (text_of tree) (tested test tree) name h in
     elim (cases_Bool (test a.0)) [
@@ -64,6 +64,7 @@ module _ (read : Reading) (d : Declared) where
   conditions_push params s t x h = pushed Any (condition_of read d params x) (λ v is. tt) s t h
 
   few_conditions : (params : List Param) (most : ℕ) (tree : Option Tree) (cs : List Cond) → conditions_of read d params most tree ≡ Ok cs → length cs ≤ most
+  unfolding conditions_of
   few_conditions params most tree cs h =
       let a = bound (items_or_none most tree) (conditions_in read d params) cs h in
       let few = items_few most tree a.0 a.1 in

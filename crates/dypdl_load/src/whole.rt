@@ -4,6 +4,7 @@ ghost use Rattle.std.specs.Prelude.{◌≡◌, ◌≤◌, [], length, IfOk};
 ghost use Rattle.dp_base.specs.Results.{Answers, AnswersBy};
 ghost use Rattle.yaml_tree.specs.Fields.{tree_place};
 ghost use Rattle.dypdl_nodes.specs.Reads.{told};
+ghost use Rattle.dypdl_data.specs.Target.{target_of};
 ghost use Rattle.dypdl_rules.specs.Expressions.{Reading, IsReading};
 ghost use Rattle.dypdl_load.specs.Together.{transitions_of};
 ghost use Rattle.dypdl_load.specs.Meaning.{declared_of, some_base, rules_of, grounded_of, meaning, parts_of};
@@ -92,6 +93,23 @@ fn lists_of<'a>(
         variables,
         tables,
     })
+}
+
+/// The target, which the problem must have.
+fn read_target(
+    alloc: Global,
+    settings: &Settings<'_>,
+    lists: &Lists<'_>,
+) -> Result<PlainState, LoadEnd>
+    ensures { Answers told result (target_of (lists_seen lists.now).objects (lists_seen lists.now).variables
+        (settings_seen settings.now).problem.needed) }
+{
+    target(
+        alloc,
+        &lists.objects.list,
+        &lists.variables,
+        settings.problem.needed,
+    )
 }
 
 /// A model has a base case. `domain` is the place of the domain.
@@ -193,12 +211,7 @@ fn read_parts<'a>(alloc: Global, domain: &'a Tree, problem: &'a Tree) -> Result<
 {
     let settings = read_settings(domain, problem)?;
     let lists = lists_of(alloc, problem.place(), &settings)?;
-    let target = target(
-        alloc,
-        &lists.objects.list,
-        &lists.variables,
-        settings.problem.needed,
-    )?;
+    let target = read_target(alloc, &settings, &lists)?;
     let rules = read_rules(alloc, domain.place(), &settings, &lists)?;
     let grounds = read_grounds(alloc, &lists, rules.moves.list())?;
     Ok(Parts {
