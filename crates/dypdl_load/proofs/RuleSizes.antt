@@ -152,9 +152,9 @@ module _ (read : Reading) (d : Declared) where
         let named : is_name b.0.transition.name ≡ true = subst (λ (x : List ℕ). is_name x ≡ true) has.named name in
         let params : has_most 4 b.0.transition.params ≡ true = ap (λ (xs : List _). has_most 4 xs) (sym has.over) ∙ le-leb (length (overs p.0)) 4 (few_params (value_in (codes "parameters") a.0) p.0 p.1) in
         let conditions : has_most 256 b.0.transition.preconditions ≡ true = le-leb (length b.0.transition.preconditions) 256 has.few in
-        ap (λ (x : Move). is_small_transition x.transition) (sym same)
-        ∙ and_from (is_name b.0.transition.name) (has_most 4 b.0.transition.params && has_most 256 b.0.transition.preconditions) named
-        (and_from (has_most 4 b.0.transition.params) (has_most 256 b.0.transition.preconditions) params conditions)
+        subst (λ (x : Move). is_small_transition x.transition ≡ true) {x = it} same
+        (and_from (is_name b.0.transition.name) (has_most 4 b.0.transition.params && has_most 256 b.0.transition.preconditions) named
+        (and_from (has_most 4 b.0.transition.params) (has_most 256 b.0.transition.preconditions) params conditions))
 
   abbrev IsSmall : Move → Type 0
   IsSmall m = is_small_transition m.transition ≡ true

@@ -27,7 +27,7 @@ use Rattle.dypdl_rules.specs.declared.transitions.Move.{Move}
 use Rattle.dypdl_load.proofs.Lists.{bound}
 use Rattle.dypdl_load.specs.Settings.{Settings, settings_of}
 use Rattle.dypdl_load.specs.Together.{join_of, grounds_of, texts_of}
-use Rattle.dypdl_load.specs.Meaning.{in_domain, in_problem, declared_of, some_base, Rules, rules_of, grounded_of, Parts, parts_with, meaning}
+use Rattle.dypdl_load.specs.Meaning.{in_domain, in_problem, declared_of, some_base, Data, data_of, Rules, rules_of, grounded_of, Parts, parts_with, meaning}
 
 -- ---- what is declared
 
@@ -131,31 +131,44 @@ pub record MeaningSteps (read : Reading) (domain problem : Tree) (x : Parts) : T
   pub is_grounded : grounded_of declared rules.moves ≡ Ok grounds
   pub whole : parts_with settings declared target rules grounds ≡ x
 
+module _ (at : Place) (s : Settings) where
+  abbrev all_data : Declared → PlainState → Reads Data
+  all_data d target = Ok (record { declared = d; target = target })
+
+  abbrev on_lists : Declared → Reads Data
+  on_lists d = target_of d.objects d.variables s.problem.needed >>= all_data d
+
+  data_steps : (x : Data) → data_of at s ≡ Ok x → (declared_of at s ≡ Ok x.declared) × (target_of x.declared.objects x.declared.variables s.problem.needed ≡ Ok x.target)
+  unfolding data_of
+  data_steps x h =
+      let a = bound (declared_of at s) on_lists x h in
+      let b = bound (target_of a.0.objects a.0.variables s.problem.needed) (all_data a.0) x a.2 in
+      let it : Data = record { declared = a.0; target = b.0 } in
+      let same : it ≡ x = cc in
+      subst (λ (y : Data). (declared_of at s ≡ Ok y.declared) × (target_of y.declared.objects y.declared.variables s.problem.needed ≡ Ok y.target)) {x = it} same (a.1, b.1)
+
 module _ (read : Reading) (domain problem : Tree) where
-  abbrev all_parts : Settings → Declared → PlainState → Rules → List Ground → Reads Parts
-  all_parts s d target r grounds = Ok (parts_with s d target r grounds)
+  abbrev all_parts : Settings → Data → Rules → List Ground → Reads Parts
+  all_parts s x r grounds = Ok (parts_with s x.declared x.target r grounds)
 
-  abbrev on_rules : Settings → Declared → PlainState → Rules → Reads Parts
-  on_rules s d target r = grounded_of d r.moves >>= all_parts s d target r
+  abbrev on_rules : Settings → Data → Rules → Reads Parts
+  on_rules s x r = grounded_of x.declared r.moves >>= all_parts s x r
 
-  abbrev on_target : Settings → Declared → PlainState → Reads Parts
-  on_target s d target = rules_of read (tree_place domain) s d >>= on_rules s d target
-
-  abbrev on_declared : Settings → Declared → Reads Parts
-  on_declared s d = target_of d.objects d.variables s.problem.needed >>= on_target s d
+  abbrev on_data : Settings → Data → Reads Parts
+  on_data s x = rules_of read (tree_place domain) s x.declared >>= on_rules s x
 
   abbrev on_settings : Settings → Reads Parts
-  on_settings s = declared_of (tree_place problem) s >>= on_declared s
+  on_settings s = data_of (tree_place problem) s >>= on_data s
 
   pub meaning_steps : (x : Parts) → meaning read domain problem ≡ Ok x → MeaningSteps read domain problem x
   unfolding meaning
   meaning_steps x h =
       let a = bound (settings_of domain problem) on_settings x h in
-      let b = bound (declared_of (tree_place problem) a.0) (on_declared a.0) x a.2 in
-      let c = bound (target_of b.0.objects b.0.variables a.0.problem.needed) (on_target a.0 b.0) x b.2 in
-      let e = bound (rules_of read (tree_place domain) a.0 b.0) (on_rules a.0 b.0 c.0) x c.2 in
-      let f = bound (grounded_of b.0 e.0.moves) (all_parts a.0 b.0 c.0 e.0) x e.2 in
-      let same : parts_with a.0 b.0 c.0 e.0 f.0 ≡ x = cc in
+      let b = bound (data_of (tree_place problem) a.0) (on_data a.0) x a.2 in
+      let e = bound (rules_of read (tree_place domain) a.0 b.0.declared) (on_rules a.0 b.0) x b.2 in
+      let f = bound (grounded_of b.0.declared e.0.moves) (all_parts a.0 b.0 e.0) x e.2 in
+      let d = data_steps (tree_place problem) a.0 b.0 b.1 in
+      let same : parts_with a.0 b.0.declared b.0.target e.0 f.0 ≡ x = cc in
       record {
-        settings = a.0; declared = b.0; target = c.0; rules = e.0; grounds = f.0;
-        is_declared = b.1; is_target = c.1; is_rules = e.1; is_grounded = f.1; whole = same }
+        settings = a.0; declared = b.0.declared; target = b.0.target; rules = e.0; grounds = f.0;
+        is_declared = d.0; is_target = d.1; is_rules = e.1; is_grounded = f.1; whole = same }

@@ -44,6 +44,16 @@ declared_of at s =
     tables_of objects variables (in_domain s (codes "tables")) (in_problem s (codes "table_values")) >>= λ tables.
     Ok (record { objects = objects; variables = variables; tables = tables })
 
+-- what both files declare, and the target
+pub record Data : Type 0 where
+  pub declared : Declared
+  pub target : PlainState
+
+-- `at` is the problem's place
+unfoldable pub data_of : (at : Place) → Settings → Reads Data
+data_of at s =
+    declared_of at s >>= λ d. target_of d.objects d.variables s.problem.needed >>= λ target. Ok (record { declared = d; target = target })
+
 -- a model has a base case
 abbrev pub some_base : Place → List BaseCase → Reads (List BaseCase)
 some_base at [] = refuse 48 at
@@ -98,13 +108,12 @@ parts_with s d target r grounds = record {
   domain = s.domain_title; problem = s.problem_title; minimize = s.minimize; join = r.join; objects = d.objects; variables = d.variables; tables = d.tables;
   transitions = transitions_of r.moves; grounds = grounds; constraints = r.constraints; base_cases = r.base_cases; bounds = r.bounds; target = target }
 
--- What the two trees mean, by the reading of expressions: the settings of both files, what they declare, the target, the
--- rules, and then what is asked of all steps together.
+-- What the two trees mean, by the reading of expressions: the settings of both files, what they declare and the target,
+-- the rules, and then what is asked of all steps together.
 unfoldable pub meaning : Reading → (domain problem : Tree) → Reads Parts
 meaning read domain problem =
     settings_of domain problem >>= λ s.
-    declared_of (tree_place problem) s >>= λ d.
-    target_of d.objects d.variables s.problem.needed >>= λ target.
-    rules_of read (tree_place domain) s d >>= λ r.
-    grounded_of d r.moves >>= λ grounds.
-    Ok (parts_with s d target r grounds)
+    data_of (tree_place problem) s >>= λ x.
+    rules_of read (tree_place domain) s x.declared >>= λ r.
+    grounded_of x.declared r.moves >>= λ grounds.
+    Ok (parts_with s x.declared x.target r grounds)

@@ -7,8 +7,9 @@ use Rattle.dypdl_load.specs.declared.settings.File.{File as FileRead}
 use Rattle.dypdl_load.specs.declared.settings.Settings.{Settings as SettingsRead}
 use Rattle.dypdl_load.specs.declared.together.Grounding.{Grounding as GroundingRead}
 use Rattle.dypdl_rules.specs.Declarations.{Declared}
-use Rattle.dypdl_load.specs.Meaning.{Rules, Parts}
+use Rattle.dypdl_load.specs.Meaning.{Data, Rules, Parts}
 use Rattle.dypdl_load.specs.declared.whole.Lists.{Lists as ListsRead}
+use Rattle.dypdl_load.specs.declared.whole.Data.{Data as DataRead}
 use Rattle.dypdl_load.specs.declared.whole.Rules.{Rules as RulesRead}
 use Rattle.dypdl_load.specs.declared.whole.Parts.{Parts as PartsRead}
 
@@ -29,6 +30,9 @@ texts_seen texts = map string_bytes texts.keys
 
 abbrev pub lists_seen : ListsRead → Declared
 lists_seen l = record { objects = l.objects.list; variables = l.variables.list; tables = l.tables.list }
+
+abbrev pub data_seen : DataRead → Data
+data_seen d = record { declared = record { objects = d.objects; variables = d.variables; tables = d.tables }; target = d.target }
 
 abbrev pub rules_seen : RulesRead → Rules
 rules_seen r = record { moves = r.moves; join = r.join; constraints = r.constraints; base_cases = r.base_cases; bounds = r.bounds }

@@ -7,9 +7,9 @@ ghost use Rattle.dypdl_nodes.specs.Reads.{told};
 ghost use Rattle.dypdl_data.specs.Target.{target_of};
 ghost use Rattle.dypdl_rules.specs.Expressions.{Reading, IsReading};
 ghost use Rattle.dypdl_load.specs.Together.{transitions_of};
-ghost use Rattle.dypdl_load.specs.Meaning.{declared_of, some_base, rules_of, grounded_of, meaning, parts_of};
+ghost use Rattle.dypdl_load.specs.Meaning.{declared_of, data_of, some_base, rules_of, grounded_of, parts_with, meaning, parts_of};
 ghost use Rattle.dypdl_load.specs.Facts.{Facts};
-ghost use Rattle.dypdl_load.specs.Seen.{settings_seen, lists_seen, rules_seen, parts_seen};
+ghost use Rattle.dypdl_load.specs.Seen.{settings_seen, lists_seen, data_seen, rules_seen, parts_seen};
 
 use crate::settings::{Settings, read_settings};
 use crate::together::{grounds_of, join_of, texts_of};
@@ -33,6 +33,15 @@ pub struct Lists<'a> {
     pub objects: ObjectTypes<'a>,
     pub variables: StateVariables<'a>,
     pub tables: ConstantTables<'a>,
+}
+
+/// What both files declare, without their names' numbers, and the target.
+#[derive(Drop)]
+pub struct Data {
+    pub objects: Seq<ObjectType>,
+    pub variables: Seq<Variable>,
+    pub tables: Seq<TableData>,
+    pub target: PlainState,
 }
 
 /// What both files say of states and steps.
@@ -112,6 +121,26 @@ fn read_target(
     )
 }
 
+/// What both files declare, and the target. `problem` is the place of the problem.
+#[tactic(auto, unfolding(crate::specs::Meaning::data_of))]
+fn read_data(alloc: Global, problem: Place, settings: &Settings<'_>) -> Result<Data, LoadEnd>
+    ensures { AnswersBy told data_seen result (data_of problem (settings_seen settings.now)) }
+{
+    let lists = lists_of(alloc, problem, settings)?;
+    let target = read_target(alloc, settings, &lists)?;
+    let Lists {
+        objects,
+        variables,
+        tables,
+    } = lists;
+    Ok(Data {
+        objects: objects.list,
+        variables: variables.list,
+        tables: tables.list,
+        target,
+    })
+}
+
 /// A model has a base case. `domain` is the place of the domain.
 fn check_base(domain: Place, base_cases: &Seq<BaseCase>) -> Result<(), LoadEnd>
     ensures { AnswersBy told (λ _. base_cases.now) result (some_base domain base_cases.now) }
@@ -128,20 +157,15 @@ fn read_rules(
     alloc: Global,
     domain: Place,
     settings: &Settings<'_>,
-    lists: &Lists<'_>,
+    given: &Data,
 ) -> Result<Rules, LoadEnd>
     ensures rules { (read : Reading) → IsReading read → AnswersBy told rules_seen result
-        (rules_of read domain (settings_seen settings.now) (lists_seen lists.now)) }
+        (rules_of read domain (settings_seen settings.now) (data_seen given.now).declared) }
     ensures few { IfOk result (λ r. length r.moves ≤ 65536) }
 {
     let first = settings.domain.entries;
     let second = settings.problem.entries;
-    let mut declared = Declared::new(
-        alloc,
-        &lists.objects.list,
-        &lists.variables.list,
-        &lists.tables.list,
-    )?;
+    let mut declared = Declared::new(alloc, &given.objects, &given.variables, &given.tables)?;
     let moves = moves(
         alloc,
         &mut declared,
@@ -178,11 +202,11 @@ fn read_rules(
 }
 
 /// The ground transitions, where no two steps have one text.
-fn read_grounds(alloc: Global, lists: &Lists<'_>, moves: &[Move]) -> Result<Seq<Ground>, LoadEnd>
+fn read_grounds(alloc: Global, given: &Data, moves: &[Move]) -> Result<Seq<Ground>, LoadEnd>
     requires { length moves.now ≤ 65536 }
-    ensures { Answers told result (grounded_of (lists_seen lists.now) moves.now) }
+    ensures { Answers told result (grounded_of (data_seen given.now).declared moves.now) }
 {
-    let grounds = grounds_of(alloc, &lists.objects.list, &lists.variables.list, moves)?;
+    let grounds = grounds_of(alloc, &given.objects, &given.variables, moves)?;
     texts_of(alloc, moves, grounds.list())?;
     Ok(grounds)
 }
@@ -203,6 +227,37 @@ fn owned(alloc: Global, text: &str) -> Result<Text, AllocError>
     Ok(Text::of(String::from_str(alloc, text)?))
 }
 
+/// The parts of a model that were read.
+fn assembled(
+    alloc: Global,
+    settings: &Settings<'_>,
+    given: Data,
+    rules: Rules,
+    grounds: Seq<Ground>,
+) -> Result<Parts, AllocError>
+    ensures { IfOk result (λ p. parts_seen p ≡ parts_with (settings_seen settings.now)
+        (data_seen given).declared (data_seen given).target (rules_seen rules) grounds) }
+{
+    let domain = owned(alloc, settings.domain_title)?;
+    let problem = owned(alloc, settings.problem_title)?;
+    let transitions = transitions_of(alloc, rules.moves)?;
+    Ok(Parts {
+        domain,
+        problem,
+        minimize: settings.minimize,
+        join: rules.join,
+        objects: given.objects,
+        variables: given.variables,
+        tables: given.tables,
+        transitions,
+        grounds,
+        constraints: rules.constraints,
+        base_cases: rules.base_cases,
+        bounds: rules.bounds,
+        target: given.target,
+    })
+}
+
 /// The parts of the model that two trees mean.
 #[tactic(auto, unfolding(crate::specs::Meaning::meaning))]
 fn read_parts<'a>(alloc: Global, domain: &'a Tree, problem: &'a Tree) -> Result<Parts, LoadEnd>
@@ -210,25 +265,10 @@ fn read_parts<'a>(alloc: Global, domain: &'a Tree, problem: &'a Tree) -> Result<
         (meaning read domain.now problem.now) }
 {
     let settings = read_settings(domain, problem)?;
-    let lists = lists_of(alloc, problem.place(), &settings)?;
-    let target = read_target(alloc, &settings, &lists)?;
-    let rules = read_rules(alloc, domain.place(), &settings, &lists)?;
-    let grounds = read_grounds(alloc, &lists, rules.moves.list())?;
-    Ok(Parts {
-        domain: owned(alloc, settings.domain_title)?,
-        problem: owned(alloc, settings.problem_title)?,
-        minimize: settings.minimize,
-        join: rules.join,
-        objects: lists.objects.list,
-        variables: lists.variables.list,
-        tables: lists.tables.list,
-        transitions: transitions_of(alloc, rules.moves)?,
-        grounds,
-        constraints: rules.constraints,
-        base_cases: rules.base_cases,
-        bounds: rules.bounds,
-        target,
-    })
+    let given = read_data(alloc, problem.place(), &settings)?;
+    let rules = read_rules(alloc, domain.place(), &settings, &given)?;
+    let grounds = read_grounds(alloc, &given, rules.moves.list())?;
+    Ok(assembled(alloc, &settings, given, rules, grounds)?)
 }
 
 /// The model of these parts, which fit together.

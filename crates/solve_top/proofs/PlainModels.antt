@@ -100,7 +100,7 @@ plain_num_at n e (nums.Num-F.Num::Op operations.Plus a b) is h =
     let v = variable_of n a both.0 in
     let k = fixed_of is_small b both.1 in
     let whole : e ≡ num_variants.Op operations.Plus (num_variants.Var v.0) (num_variants.Fixed k.0) =
-        is ∙ num_variants.rolls-Op operations.Plus a b ∙ ap (λ (x : Num). num_variants.Op operations.Plus x b) v.2 ∙ ap (λ (y : Num). num_variants.Op operations.Plus (num_variants.Var v.0) y) k.2 in
+    is ∙ num_variants.rolls-Op operations.Plus a b ∙ ap (λ (x : Num). num_variants.Op operations.Plus x b) v.2 ∙ ap (λ (y : Num). num_variants.Op operations.Plus (num_variants.Var v.0) y) k.2 in
     record { number = k.0; small = small_of k.0 k.1; shape = inr (v.0, v.1, whole) }
 plain_num_at n e f is h = absurd (cc)
 

@@ -91,10 +91,7 @@ fn put_cause<S: Sink>(out: &mut S, cause: &NoModel) -> Status
             number,
             place,
             offset,
-        } => status_after(
-            put_refusal(out, *place, *offset, *number),
-            Status::Refused,
-        ),
+        } => status_after(put_refusal(out, *place, *offset, *number), Status::Refused),
         NoModel::Memory => run_out(out),
     }
 }

@@ -87,11 +87,13 @@ fn model_of_trees(alloc: Global, domain: &Tree, problem: &Tree) -> Result<Model,
 {
     match load(alloc, domain, problem) {
         Ok(model) => Ok(model),
-        Err(LoadEnd::Refused {
-            number,
-            place,
-            offset,
-        }) => Err(NoModel::Refused {
+        Err(
+            LoadEnd::Refused {
+                number,
+                place,
+                offset,
+            },
+        ) => Err(NoModel::Refused {
             number,
             place,
             offset,
