@@ -31,7 +31,7 @@ use Rattle.dypdl_data.proofs.FitTarget.{target_fits}
 use Rattle.dypdl_rules.specs.Declarations.{Declared}
 use Rattle.dypdl_rules.specs.Expressions.{Reading}
 use Rattle.dypdl_rules.specs.declared.transitions.Move.{Move}
-use Rattle.dypdl_load.proofs.RuleFacts.{moves_typed, constraints_typed, base_cases_typed, bounds_typed}
+use Rattle.dypdl_rules.proofs.Facts.{moves_typed, constraints_typed, base_cases_typed, bounds_typed}
 use Rattle.dypdl_load.specs.Settings.{Settings}
 use Rattle.dypdl_load.specs.Together.{transitions_of}
 use Rattle.dypdl_load.specs.Meaning.{in_domain, in_problem, declared_of, Rules, rules_of, Parts, parts_with, meaning}
@@ -108,5 +108,6 @@ fits read domain problem x means =
       held = when_ok (λ (x : PlainState). is_state d.objects d.variables x ≡ true) (target_of d.objects d.variables s.settings.problem.needed) s.target s.is_target (target_fits d.objects d.variables s.settings.problem.needed);
       grounded = rw all.0 (grounded_fit d.objects d.variables (transitions_of s.rules.moves));
       few_names = names_few (tree_place problem) s.settings d steps;
-      few_rules = rules_few read (tree_place domain) s.settings d s.rules rules s.grounds all.1 (few_transitions s.rules few) } in
+      few_rules = rules_few read (tree_place domain) s.settings d s.rules rules s.grounds all.1 (few_transitions s.rules few);
+    } in
     subst Facts s.whole facts

@@ -6,6 +6,5 @@ pub mod Grounding
 pub mod StepTexts
 pub mod Steps
 pub mod RuleSizes
-pub mod RuleFacts
 pub mod Fitting
 pub mod Loaded

@@ -45,7 +45,7 @@ text_is : (m : Model) (moves : List Move) → m.transitions ≡ transitions_of m
     → (move : Move) → slice_get moves g.transition ≡ Some move → step_text m i ≡ text_at moves g
 text_is m moves same i g is move at =
     let here : slice_get m.transitions g.transition ≡ Some move.transition =
-        ap (λ (ts : List Transition). slice_get ts g.transition) same ∙ transition_at moves g.transition ∙ ap (option_map (λ (m : Move). m.transition)) at in
+    ap (λ (ts : List Transition). slice_get ts g.transition) same ∙ transition_at moves g.transition ∙ ap (option_map (λ (m : Move). m.transition)) at in
     rw (is, here, at) refl
 
 module _ (read : Reading) (domain problem : Tree) (m : Model) (means : meaning read domain problem ≡ Ok (parts_of m)) where

@@ -93,7 +93,8 @@ module _ (read : Reading) (d : Declared) where
     abbrev whole_body : List Cond → List Effect → Weighing → Bool → Unit {0} → Reads Body
     whole_body preconditions effects w forced forward = Ok (record {
       transition = record { name = name; params = overs params; forced = forced; preconditions = preconditions; effects = effects; weight = w.weight };
-      joining = w.joining })
+      joining = w.joining;
+    })
 
     abbrev on_forced : List Cond → List Effect → Weighing → Bool → Reads Body
     on_forced preconditions effects w forced = direction_of (value_in (codes "direction") entries) >>= whole_body preconditions effects w forced
@@ -117,7 +118,8 @@ module _ (read : Reading) (d : Declared) where
         let g = bound (direction_of (value_in (codes "direction") entries)) (whole_body p.0 e.0 w.0 f.0) b f.2 in
         let it : Body = record {
           transition = record { name = name; params = overs params; forced = f.0; preconditions = p.0; effects = e.0; weight = w.0.weight };
-          joining = w.0.joining } in
+          joining = w.0.joining;
+        } in
         let same : it ≡ b = cc in
         subst (HasBody name params) {x = it} same (record { named = refl; over = refl; few = few_conditions params 256 (value_in (codes "preconditions") entries) p.0 p.1 })
 

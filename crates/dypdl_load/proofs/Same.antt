@@ -15,9 +15,27 @@ facts_once x = hlevel Bool-set
 
 abbrev with_facts : (x : Parts) → Facts x → Model
 with_facts x f = record {
-  domain = x.domain; problem = x.problem; minimize = x.minimize; join = x.join; objects = x.objects; variables = x.variables; tables = x.tables;
-  transitions = x.transitions; dp_ground = x.grounds; constraints = x.constraints; base_cases = x.base_cases; bounds = x.bounds; target = x.target;
-  kinds = f.kinds; cells = f.cells; typed = f.typed; held = f.held; grounded = f.grounded; few_names = f.few_names; few_rules = f.few_rules }
+  domain = x.domain;
+  problem = x.problem;
+  minimize = x.minimize;
+  join = x.join;
+  objects = x.objects;
+  variables = x.variables;
+  tables = x.tables;
+  transitions = x.transitions;
+  dp_ground = x.grounds;
+  constraints = x.constraints;
+  base_cases = x.base_cases;
+  bounds = x.bounds;
+  target = x.target;
+  kinds = f.kinds;
+  cells = f.cells;
+  typed = f.typed;
+  held = f.held;
+  grounded = f.grounded;
+  few_names = f.few_names;
+  few_rules = f.few_rules;
+}
 
 same_with_facts : (x y : Parts) → x ≡ y → (f : Facts x) (g : Facts y) → with_facts x f ≡ with_facts y g
 same_with_facts x y e f = subst (λ (z : Parts). (g : Facts z) → with_facts x f ≡ with_facts z g) e (λ g. ap (with_facts x) (facts_once x f g))

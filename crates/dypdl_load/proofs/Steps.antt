@@ -170,5 +170,14 @@ module _ (read : Reading) (domain problem : Tree) where
       let d = data_steps (tree_place problem) a.0 b.0 b.1 in
       let same : parts_with a.0 b.0.declared b.0.target e.0 f.0 ≡ x = cc in
       record {
-        settings = a.0; declared = b.0.declared; target = b.0.target; rules = e.0; grounds = f.0;
-        is_declared = d.0; is_target = d.1; is_rules = e.1; is_grounded = f.1; whole = same }
+        settings = a.0;
+        declared = b.0.declared;
+        target = b.0.target;
+        rules = e.0;
+        grounds = f.0;
+        is_declared = d.0;
+        is_target = d.1;
+        is_rules = e.1;
+        is_grounded = f.1;
+        whole = same;
+      }

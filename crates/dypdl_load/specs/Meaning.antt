@@ -100,13 +100,37 @@ pub record Parts : Type 0 where
 
 abbrev pub parts_of : Model → Parts
 parts_of m = record {
-  domain = m.domain; problem = m.problem; minimize = m.minimize; join = m.join; objects = m.objects; variables = m.variables; tables = m.tables;
-  transitions = m.transitions; grounds = m.dp_ground; constraints = m.constraints; base_cases = m.base_cases; bounds = m.bounds; target = m.target }
+  domain = m.domain;
+  problem = m.problem;
+  minimize = m.minimize;
+  join = m.join;
+  objects = m.objects;
+  variables = m.variables;
+  tables = m.tables;
+  transitions = m.transitions;
+  grounds = m.dp_ground;
+  constraints = m.constraints;
+  base_cases = m.base_cases;
+  bounds = m.bounds;
+  target = m.target;
+}
 
 abbrev pub parts_with : Settings → Declared → PlainState → Rules → List Ground → Parts
 parts_with s d target r grounds = record {
-  domain = s.domain_title; problem = s.problem_title; minimize = s.minimize; join = r.join; objects = d.objects; variables = d.variables; tables = d.tables;
-  transitions = transitions_of r.moves; grounds = grounds; constraints = r.constraints; base_cases = r.base_cases; bounds = r.bounds; target = target }
+  domain = s.domain_title;
+  problem = s.problem_title;
+  minimize = s.minimize;
+  join = r.join;
+  objects = d.objects;
+  variables = d.variables;
+  tables = d.tables;
+  transitions = transitions_of r.moves;
+  grounds = grounds;
+  constraints = r.constraints;
+  base_cases = r.base_cases;
+  bounds = r.bounds;
+  target = target;
+}
 
 -- What the two trees mean, by the reading of expressions: the settings of both files, what they declare and the target,
 -- the rules, and then what is asked of all steps together.

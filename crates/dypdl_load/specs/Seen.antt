@@ -18,7 +18,12 @@ file_seen f = record { entries = f.entries.now; needed = f.needed.now }
 
 abbrev pub settings_seen : SettingsRead → Settings
 settings_seen s = record {
-  domain = file_seen s.domain; problem = file_seen s.problem; domain_title = s.domain_title.now; problem_title = s.problem_title.now; minimize = s.minimize }
+  domain = file_seen s.domain;
+  problem = file_seen s.problem;
+  domain_title = s.domain_title.now;
+  problem_title = s.problem_title.now;
+  minimize = s.minimize;
+}
 
 -- how far grounding has come
 abbrev pub grounding_seen : GroundingRead → Grounding
@@ -39,5 +44,17 @@ rules_seen r = record { moves = r.moves; join = r.join; constraints = r.constrai
 
 abbrev pub parts_seen : PartsRead → Parts
 parts_seen p = record {
-  domain = p.domain; problem = p.problem; minimize = p.minimize; join = p.join; objects = p.objects; variables = p.variables; tables = p.tables;
-  transitions = p.transitions; grounds = p.grounds; constraints = p.constraints; base_cases = p.base_cases; bounds = p.bounds; target = p.target }
+  domain = p.domain;
+  problem = p.problem;
+  minimize = p.minimize;
+  join = p.join;
+  objects = p.objects;
+  variables = p.variables;
+  tables = p.tables;
+  transitions = p.transitions;
+  grounds = p.grounds;
+  constraints = p.constraints;
+  base_cases = p.base_cases;
+  bounds = p.bounds;
+  target = p.target;
+}

@@ -25,10 +25,7 @@ const MOST_GROUND: usize = 65_536;
 // ---- operators
 
 /// The operator of the weights so far, after one more transition.
-fn joined_with(
-    held: Option<JoinOp>,
-    joining: &Option<Joining>,
-) -> Result<Option<JoinOp>, LoadEnd>
+fn joined_with(held: Option<JoinOp>, joining: &Option<Joining>) -> Result<Option<JoinOp>, LoadEnd>
     ensures { Answers told result (joined_with held joining.now) }
 {
     let Some(joining) = joining else {
@@ -77,13 +74,7 @@ fn take_grounds(
     ensures few { OnOk result (length so_far.new.grounds.items ≤ 65536) }
     ensures numbered { OnOk result (so_far.new.number ≡ so_far.old.number + 1) }
 {
-    let mut more = match ground(
-        alloc,
-        objects,
-        variables,
-        so_far.number,
-        &item.transition,
-    ) {
+    let mut more = match ground(alloc, objects, variables, so_far.number, &item.transition) {
         Ok(more) => more.into_list(),
         Err(GroundEnd::TooMany(_)) => return Err(refused(TOO_MANY_GROUND, item.place)),
         Err(GroundEnd::Memory) => return Err(LoadEnd::Memory),

@@ -18,9 +18,7 @@ use dp_model::{
     BaseCase, Cond, Ground, JoinOp, Model, Num, ObjectType, PlainState, TableData, Transition,
     Variable,
 };
-use dypdl_data::{
-    ConstantTables, ObjectTypes, StateVariables, objects, tables, target, variables,
-};
+use dypdl_data::{ConstantTables, ObjectTypes, StateVariables, objects, tables, target, variables};
 use dypdl_nodes::rules::NO_BASE;
 use dypdl_nodes::{LoadEnd, refused, value_in};
 use dypdl_rules::{Declared, Move, base_cases, bounds, constraints, moves};

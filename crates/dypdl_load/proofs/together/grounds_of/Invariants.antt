@@ -9,4 +9,5 @@ abbrev pub invariant-loop-item : goal.invariant-loop-item
 invariant-loop-item l = record {
   decides : each (grounding_step l.objects l.variables) (grounding_seen l.so_far) (drop l.item-index l.moves) ≡ each (grounding_step l.objects l.variables) (record { number = 0; grounds = [] }) l.moves;
   few : length l.so_far.grounds.items ≤ 65536;
-  numbered : l.so_far.number ≡ l.item-index }
+  numbered : l.so_far.number ≡ l.item-index;
+}
