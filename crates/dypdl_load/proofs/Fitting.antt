@@ -1,17 +1,13 @@
 -- The parts of a model that two trees mean fit together.
-use Rattle.std.proofs.Common.{◌≡◌, ℕ, ◌≤◌, Bool, true, false, ◌&&◌, nat_le, List, length, map, refl, sym, subst, Ok, arith}
+use Rattle.std.proofs.Common.{◌≡◌, ◌≤◌, Bool, true, ◌&&◌, nat_le, List, length, subst, Ok, arith}
 use Rattle.std.specs.List.{list_all}
 use Rattle.std.proofs.lemmas.Bool.{and_from, le-leb}
 use Rattle.std.proofs.lemmas.List.{length-map}
 use Rattle.dp_base.specs.declared.place.Place.{Place}
-use Rattle.dp_model.specs.Typing.{are_trees, are_variables, are_tables, is_state, are_grounded, is_ground, is_transition, is_base_case, is_cond, is_num}
+use Rattle.dp_model.specs.Typing.{are_trees, is_state, is_transition, is_base_case, is_cond, is_num}
 use Rattle.dp_model.specs.Limits.{has_most, is_name, is_small_object, is_small_table, table_words, is_small_transition, is_small_base_case, are_few_names, are_few_rules}
-use Rattle.dp_model.specs.declared.parts.ObjectType.{ObjectType}
 use Rattle.dp_model.specs.declared.parts.Variable.{Variable}
-use Rattle.dp_model.specs.declared.parts.TableData.{TableData}
 use Rattle.dp_model.specs.declared.parts.PlainState.{PlainState}
-use Rattle.dp_model.specs.declared.parts.Transition.{Transition}
-use Rattle.dp_model.specs.declared.parts.BaseCase.{BaseCase}
 use Rattle.dp_model.specs.declared.parts.Ground.{Ground}
 use Rattle.dp_model.specs.declared.trees.Cond.{Cond}
 use Rattle.dp_model.specs.declared.trees.Num.{Num}
@@ -34,11 +30,11 @@ use Rattle.dypdl_rules.specs.declared.transitions.Move.{Move}
 use Rattle.dypdl_rules.proofs.Facts.{moves_typed, constraints_typed, base_cases_typed, bounds_typed}
 use Rattle.dypdl_load.specs.Settings.{Settings}
 use Rattle.dypdl_load.specs.Together.{transitions_of}
-use Rattle.dypdl_load.specs.Meaning.{in_domain, in_problem, declared_of, Rules, rules_of, Parts, parts_with, meaning}
+use Rattle.dypdl_load.specs.Meaning.{in_domain, in_problem, Rules, Parts, parts_with, meaning}
 use Rattle.dypdl_load.specs.Facts.{Facts}
 use Rattle.dypdl_load.proofs.RuleSizes.{moves_few, constraints_few, base_cases_few, bounds_few}
 use Rattle.dypdl_load.proofs.Grounding.{grounded_fit, grounds_are}
-use Rattle.dypdl_load.proofs.Steps.{DeclaredSteps, declared_steps, RulesSteps, rules_steps, GroundSteps, ground_steps, MeaningSteps, meaning_steps}
+use Rattle.dypdl_load.proofs.Steps.{DeclaredSteps, declared_steps, RulesSteps, rules_steps, ground_steps, meaning_steps}
 
 and3 : (a b c : Bool) → a ≡ true → b ≡ true → c ≡ true → (a && (b && c)) ≡ true
 and3 a b c p q r = and_from a (b && c) p (and_from b c q r)

@@ -1,15 +1,14 @@
 -- The ground transitions are all choices of arguments, and each fits its transition.
-use Rattle.std.proofs.Common.{◌≡◌, ℕ, zero, suc, ◌+◌, ◌<◌, ◌≤◌, Bool, true, false, ◌&&◌, nat_lt, nat_le, if◌then◌else◌, List, [], ◌∷◌, ◌++◌, length, map, refl, sym, ap, ◌∙◌, subst, Option, Some, None, Result, Ok, Err, inl, inr, arith}
+use Rattle.std.proofs.Common.{◌≡◌, ℕ, suc, ◌+◌, ◌<◌, ◌≤◌, true, false, nat_lt, nat_le, List, [], ◌∷◌, ◌++◌, length, map, refl, sym, ◌∙◌, subst, Some, Ok, Err, inl, inr, arith}
 use Rattle.std.specs.Prelude.{slice_get}
 use Rattle.std.specs.List.{list_all, range_with_len, flat_map}
 use Rattle.std.proofs.lemmas.Bool.{cases_Bool, leb-true, lt-ltb}
 use Rattle.std.proofs.lemmas.List.{length-append, append-nil, append_assoc}
-use Rattle.std.proofs.lemmas.List.Folds.{list_all-append, list_all-map}
+use Rattle.std.proofs.lemmas.List.Folds.{list_all-append}
 use Rattle.std.proofs.lemmas.List.FromFn.{length-range_with_len, get_or-range_with_len}
 use Rattle.std.proofs.lemmas.List.Sums.{list_all-from_AllPass}
 use Rattle.dp_base.specs.Results.{◌>>=◌, each}
-use Rattle.dp_model.specs.Evaluation.{ways}
-use Rattle.dp_model.specs.Typing.{type_count, over_object, are_arguments, is_ground}
+use Rattle.dp_model.specs.Typing.{are_arguments, is_ground}
 use Rattle.dp_model.specs.declared.trees.Over.{Over}
 use Rattle.dp_model.specs.declared.parts.ObjectType.{ObjectType}
 use Rattle.dp_model.specs.declared.parts.Variable.{Variable}

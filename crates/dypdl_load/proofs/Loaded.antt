@@ -1,10 +1,10 @@
 -- The steps of a model that is loaded: all choices of arguments, each written in its own way.
-use Rattle.std.proofs.Common.{◌≡◌, ℕ, zero, suc, ◌<◌, ◌≤◌, Bool, true, false, List, [], ◌∷◌, length, map, refl, sym, ap, ◌∙◌, subst, Option, Some, None, Ok, arith}
+use Rattle.std.proofs.Common.{◌≡◌, ℕ, zero, suc, ◌<◌, Bool, true, false, List, [], ◌∷◌, length, refl, sym, ap, ◌∙◌, subst, Option, Some, None, Ok, arith}
 use Rattle.std.specs.Prelude.{slice_get, option_map}
 use Rattle.std.specs.List.{list_all}
 use Rattle.std.proofs.lemmas.Bool.{and_parts}
 use Rattle.std.proofs.lemmas.Option.{slice_get-map}
-use Rattle.dp_model.specs.StepTexts.{ground_of, step_text}
+use Rattle.dp_model.specs.StepTexts.{step_text}
 use Rattle.dp_model.specs.Typing.{is_ground}
 use Rattle.dp_model.specs.declared.parts.ObjectType.{ObjectType}
 use Rattle.dp_model.specs.declared.parts.Variable.{Variable}
@@ -15,11 +15,11 @@ use Rattle.yaml_tree.specs.declared.tree.Tree.{Tree}
 use Rattle.dypdl_ground.specs.Grounds.{all_grounded}
 use Rattle.dypdl_rules.specs.Expressions.{Reading}
 use Rattle.dypdl_rules.specs.declared.transitions.Move.{Move}
-use Rattle.dypdl_load.specs.Together.{transitions_of, text_of_ground}
+use Rattle.dypdl_load.specs.Together.{transitions_of}
 use Rattle.dypdl_load.specs.Meaning.{Parts, parts_of, meaning}
 use Rattle.dypdl_load.proofs.Grounding.{grounded_fit, grounds_are}
-use Rattle.dypdl_load.proofs.StepTexts.{AreThere, text_at, text_by, texts_apart}
-use Rattle.dypdl_load.proofs.Steps.{MeaningSteps, meaning_steps, ground_steps}
+use Rattle.dypdl_load.proofs.StepTexts.{AreThere, text_at, texts_apart}
+use Rattle.dypdl_load.proofs.Steps.{meaning_steps, ground_steps}
 
 all_at : {A : Type 0} (p : A → Bool) (xs : List A) (i : ℕ) (x : A) → list_all p xs ≡ true → slice_get xs i ≡ Some x → p x ≡ true
 all_at p [] i x h e = absurd (cc)

@@ -1,5 +1,5 @@
 -- How many rules there are, and how large each is.
-use Rattle.std.proofs.Common.{◌≡◌, ℕ, ◌≤◌, Bool, true, false, ◌&&◌, if◌then◌else◌, List, [], ◌∷◌, ◌++◌, length, map, Option, Some, None, refl, sym, ap, ◌∙◌, subst, Ok, arith, inl, inr, pos}
+use Rattle.std.proofs.Common.{◌≡◌, ℕ, ◌≤◌, Bool, true, false, ◌&&◌, if◌then◌else◌, List, [], length, Option, refl, sym, ap, ◌∙◌, subst, Ok, arith, inl, inr, pos}
 use Rattle.std.specs.Prelude.{codes}
 use Rattle.std.specs.List.{list_all}
 use Rattle.std.proofs.lemmas.Bool.{cases_Bool, and_parts, and_from, le-leb}
@@ -10,7 +10,6 @@ use Rattle.dp_base.specs.Results.{◌>>=◌, each}
 use Rattle.dp_model.specs.Limits.{has_most, is_name, is_small_transition, is_small_base_case}
 use Rattle.dp_model.specs.declared.parts.BaseCase.{BaseCase}
 use Rattle.dp_model.specs.declared.parts.Effect.{Effect}
-use Rattle.dp_model.specs.declared.parts.Transition.{Transition}
 use Rattle.dp_model.specs.declared.trees.Cond.{Cond}
 use Rattle.dp_model.specs.declared.trees.Num.{Num}
 use Rattle.dp_model.specs.declared.trees.Num.TheVariants as nums
@@ -33,7 +32,7 @@ use Rattle.dypdl_rules.specs.BaseCases.{base_case_keys, number_in, base_cost_of,
 use Rattle.dypdl_rules.specs.declared.transitions.Weighing.{Weighing}
 use Rattle.dypdl_rules.specs.declared.transitions.Move.{Move}
 use Rattle.dypdl_load.specs.Together.{transitions_of}
-use Rattle.dypdl_load.proofs.Lists.{bound, behind, Pushes, pushed, each_length, few_items_few, items_few, both_length, both_all}
+use Rattle.dypdl_load.proofs.Lists.{bound, Pushes, pushed, each_length, few_items_few, items_few, both_length, both_all}
 
 abbrev Any : {A : Type 0} → A → Type 0
 Any v = Unit {0}

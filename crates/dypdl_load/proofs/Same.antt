@@ -1,9 +1,6 @@
 -- Equal parts make equal models.
 use Rattle.std.proofs.Common.{◌≡◌, ap, subst}
-use Rattle.std.specs.Prelude.{IsTrue}
 use Rattle.std.proofs.Math.Bool.{Bool-set}
-use Rattle.dp_model.specs.Limits.{are_few_names, are_few_rules}
-use Rattle.dp_model.specs.Typing.{are_trees, are_variables, are_tables, is_state, are_grounded}
 use Rattle.dp_model.specs.declared.whole.Model.{Model}
 use Rattle.dypdl_load.specs.Meaning.{Parts, parts_of}
 use Rattle.dypdl_load.specs.Facts.{Facts}

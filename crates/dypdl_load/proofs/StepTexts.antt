@@ -1,17 +1,14 @@
 -- The steps that are loaded have different texts.
-use Rattle.std.proofs.Common.{◌≡◌, ℕ, zero, suc, ◌<◌, Bool, true, false, ◌||◌, List, [], ◌∷◌, ◌++◌, map, refl, sym, ap, ◌∙◌, subst, Option, Some, None, Result, Ok, Err, inl, inr, arith}
+use Rattle.std.proofs.Common.{◌≡◌, ℕ, zero, suc, ◌<◌, Bool, true, false, ◌||◌, List, [], ◌∷◌, ◌++◌, refl, sym, ap, ◌∙◌, subst, Option, Some, None, Ok, inl, inr, arith}
 use Rattle.std.specs.Prelude.{slice_get}
-use Rattle.std.specs.List.{list_any}
 use Rattle.std.specs.Str.{bytes_eq}
 use Rattle.std.proofs.lemmas.Bool.{cases_Bool}
 use Rattle.std.proofs.lemmas.Slice.Eq.{bytes_eq-Decides}
-use Rattle.dp_base.specs.Results.{◌>>=◌, each}
+use Rattle.dp_base.specs.Results.{each}
 use Rattle.dp_model.specs.declared.parts.Ground.{Ground}
-use Rattle.dp_model.specs.declared.parts.Transition.{Transition}
-use Rattle.dypdl_nodes.specs.Reads.{Reads}
 use Rattle.dypdl_nodes.specs.Shapes.{is_among}
 use Rattle.dypdl_rules.specs.declared.transitions.Move.{Move}
-use Rattle.dypdl_load.specs.Together.{text_of_ground, new_text, text_step, texts_of}
+use Rattle.dypdl_load.specs.Together.{text_of_ground, text_step, texts_of}
 
 -- a word that is none of these and not one more
 among_more : (texts : List (List ℕ)) (text word : List ℕ) → is_among (texts ++ text ∷ []) word ≡ false → (is_among texts word ≡ false) × (bytes_eq word text ≡ false)

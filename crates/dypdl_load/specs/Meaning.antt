@@ -1,5 +1,5 @@
 -- The model that the trees of a domain and a problem mean, or what is refused first.
-use Rattle.std.specs.Prelude.{ℕ, Bool, List, [], ◌∷◌, codes, map, Option, None, Some, Result, Ok, Err}
+use Rattle.std.specs.Prelude.{ℕ, Bool, List, [], ◌∷◌, codes, Option, Ok}
 use Rattle.dp_base.specs.declared.place.Place.{Place}
 use Rattle.dp_base.specs.Results.{◌>>=◌}
 use Rattle.dp_model.specs.declared.parts.JoinOp.{JoinOp}

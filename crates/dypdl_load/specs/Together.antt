@@ -1,7 +1,6 @@
 -- What is asked of all transitions together: one operator of costs, not too many ground transitions, and no two steps
 -- with one text.
-use Rattle.std.specs.Prelude.{ℕ, ◌+◌, Bool, true, false, nat_le, if◌then◌else◌, List, [], ◌∷◌, ◌++◌, length, map, slice_get, Option, None, Some, option_map, unwrap_or, Result, Ok, Err}
-use Rattle.dp_base.specs.declared.place.Place.{Place}
+use Rattle.std.specs.Prelude.{ℕ, ◌+◌, Bool, true, false, nat_le, if◌then◌else◌, List, [], ◌∷◌, ◌++◌, length, map, slice_get, Option, None, Some, unwrap_or, Ok}
 use Rattle.dp_base.specs.Results.{◌>>=◌, each}
 use Rattle.dp_model.specs.StepTexts.{named}
 use Rattle.dp_model.specs.declared.parts.JoinOp.{JoinOp}

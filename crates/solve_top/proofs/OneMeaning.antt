@@ -1,13 +1,12 @@
 -- Two texts mean at most one model, or are refused in one way.
-use Rattle.std.proofs.Common.{◌≡◌, ℕ, List, Some, ◌⊎◌, inl, inr, Ok, Err, sym, ap, ◌∙◌}
+use Rattle.std.proofs.Common.{◌≡◌, ℕ, List, Some, inl, inr, Ok, Err, sym, ap, ◌∙◌}
 use Rattle.dp_model.specs.declared.whole.Model.{Model}
 use Rattle.yaml_tree.specs.declared.tree.Tree.{Tree}
-use Rattle.yaml_tree.specs.declared.tree.YamlEnd.{YamlEnd}
-use Rattle.yaml_tree.specs.Texts.{Spells, Refused as IsUnread}
+use Rattle.yaml_tree.specs.Texts.{Spells}
 use Rattle.yaml_tree.proofs.One.{one_reading as one_tree}
 use Rattle.dypdl_nodes.specs.Reads.{Refusal}
 use Rattle.dypdl_rules.specs.Expressions.{Reading}
-use Rattle.dypdl_load.specs.Meaning.{Parts, meaning, parts_of}
+use Rattle.dypdl_load.specs.Meaning.{meaning, parts_of}
 use Rattle.dypdl_load.proofs.Readings.{one_reading}
 use Rattle.dypdl_load.proofs.Same.{same_model}
 use Rattle.solve_top.specs.Texts.{tree_refusal, IsUnreadAs, Read, Means, IsRefused}

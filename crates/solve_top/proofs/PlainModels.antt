@@ -1,14 +1,14 @@
 -- A model that passes the test of the plain search is plain.
-use Rattle.std.proofs.Common.{◌≡◌, ℕ, zero, suc, ◌<◌, ◌≤◌, Bool, true, false, not, ◌&&◌, nat_lt, nat_le, List, [], ◌∷◌, length, get_or, map, refl, sym, ap, ◌∙◌, subst, All, Option, Some, None, ℤ, pos, neg_ℤ, ◌≤ℤ◌, int_le, inl, inr, arith}
-use Rattle.std.specs.Prelude.{IsTrue, slice_get, unwrap_or, option_and_then}
+use Rattle.std.proofs.Common.{◌≡◌, ℕ, zero, suc, ◌<◌, ◌≤◌, Bool, true, false, not, nat_lt, List, [], ◌∷◌, length, get_or, map, refl, sym, ap, ◌∙◌, All, Option, Some, None, ℤ, pos, neg_ℤ, int_le, inl, inr, arith}
+use Rattle.std.specs.Prelude.{slice_get, unwrap_or}
 use Rattle.std.specs.List.{list_all}
 use Rattle.std.proofs.lemmas.Int.{ints}
 use Rattle.std.proofs.lemmas.Bool.{and_parts, leb-true, ltb-true, not-true}
 use Rattle.std.proofs.lemmas.Option.{get_or_from_slice_get, slice_get_within}
 use Rattle.std.proofs.lemmas.List.{length-map}
 use Rattle.std.proofs.lemmas.List.Elements.{All-nil, All-cons}
-use Rattle.dp_model.specs.Typing.{kind_at, are_arguments, is_ground, are_grounded, may_hold, are_held, is_state}
-use Rattle.dp_model.specs.Limits.{has_most, is_small_transition, is_small_base_case}
+use Rattle.dp_model.specs.Typing.{kind_at, are_arguments, is_ground, may_hold, are_held}
+use Rattle.dp_model.specs.Limits.{has_most, is_small_transition}
 use Rattle.dp_model.specs.declared.trees.Num.{Num}
 use Rattle.dp_model.specs.declared.trees.Num as nums
 use Rattle.dp_model.specs.declared.trees.Num.TheVariants as num_variants
@@ -32,7 +32,7 @@ use Rattle.dp_model.specs.declared.parts.PlainState.{PlainState}
 use Rattle.dp_model.specs.declared.parts.PlainValue.{PlainValue}
 use Rattle.dp_model.specs.declared.parts.PlainValue.TheVariants as values
 use Rattle.dp_model.specs.declared.whole.Model.{Model}
-use Rattle.solve_top.specs.Plain.{IsSmall, IsLeaf, IsPlainCond, IsPlainNum, IsPlainEffect, HasSmallWeight, IsPlainTransition, HasPlainBase, IsPlainTarget, IsPlain, numbers_of, state_of}
+use Rattle.solve_top.specs.Plain.{IsSmall, IsLeaf, IsPlainCond, IsPlainNum, IsPlainEffect, HasSmallWeight, IsPlainTransition, HasPlainBase, IsPlainTarget, IsPlain, numbers_of}
 use Rattle.solve_top.specs.PlainTest.{NumForm, CondForm, has_none, is_small, is_zero, variable_form, is_variable, fixed_form, is_fixed, leaf_form, is_leaf, plain_num_form, is_plain_num, plain_cond_form, is_plain_cond, is_plain_effect, is_small_weight, is_plain_transition, has_plain_base, is_integer, is_plus, is_small_value, has_plain_states, has_plain_costs, is_plain}
 
 -- ---- lists

@@ -1,8 +1,8 @@
 -- What a run comes to where there is no model to search.
-use Rattle.std.specs.Prelude.{◌≡◌, ℕ, List, Option, None, Some, ⊤}
+use Rattle.std.specs.Prelude.{Option, None, Some, ⊤}
 use Rattle.yaml_tree.specs.declared.tree.YamlEnd.{YamlEnd}
 use Rattle.dypdl_nodes.specs.Reads.{Refusal}
-use Rattle.solve_top.specs.Texts.{IsUnreadAs, IsRefused, tree_refusal}
+use Rattle.solve_top.specs.Texts.{tree_refusal}
 use Rattle.solve_top.specs.Outcomes.{Outcome, ReadFault, TooLong, Refused, NoMemory}
 use Rattle.solve_top.specs.declared.causes.NoModel.{NoModel}
 use Rattle.solve_top.specs.declared.causes.NoModel.TheVariants as causes

@@ -1,4 +1,4 @@
-use Rattle.std.proofs.Common.{◌≡◌, ℕ, List, Option, Err, ◌⊎◌, ap, ◌∙◌, subst}
+use Rattle.std.proofs.Common.{◌≡◌, ℕ, List, Option, ◌⊎◌, subst}
 use Rattle.std.specs.Prelude.{IfSome}
 use Rattle.solve_top.specs.Words.{Asks}
 use Rattle.solve_top.specs.Jobs.{job_of}
