@@ -1,2 +1,5 @@
-pub mod Limits
 pub mod Members
+pub mod Grounds
+pub mod Limits
+pub mod Ranges
+pub mod Next

@@ -1,5 +1,5 @@
 -- Memberships of parameters, one after another.
-use Rattle.std.proofs.Common.{◌≡◌, ℕ, zero, suc, ◌+◌, ◌<◌, ◌≤◌, Bool, true, ◌&&◌, List, [], ◌∷◌, length, get_or, drop, refl, arith, add-one}
+use Rattle.std.proofs.Common.{◌≡◌, ℕ, zero, suc, ◌+◌, ◌<◌, ◌≤◌, true, ◌&&◌, List, [], ◌∷◌, length, get_or, drop, refl, arith}
 use Rattle.dp_model.specs.declared.trees.Over.{Over}
 use Rattle.dp_model.specs.declared.trees.Over.TheVariants.{Object, Members}
 use Rattle.dp_model.specs.declared.parts.PlainState.{PlainState}
@@ -19,10 +19,13 @@ members_step s (over ∷ overs) (k ∷ given) (suc i) d p q =
     rw e (members_step s overs given i d (omega arith) (omega arith))
 
 -- no values are left
+no_values : (s : PlainState) (params : List Over) → are_members s params [] ≡ true
+no_values s [] = refl
+no_values s (over ∷ overs) = refl
+
 pub members_past : (s : PlainState) (params : List Over) (given : List ℕ) (i : ℕ) → length given ≤ i → are_members s (drop i params) (drop i given) ≡ true
-members_past s [] given zero p = refl
-members_past s (over ∷ overs) [] zero p = refl
-members_past s (over ∷ overs) (k ∷ given) zero p = absurd (omega arith)
-members_past s [] given (suc i) p = refl
-members_past s (over ∷ overs) [] (suc i) p = members_past s overs [] i (omega arith)
+members_past s params [] zero p = no_values s params
+members_past s params (k ∷ given) zero p = absurd (omega arith)
+members_past s params [] (suc i) p = no_values s (drop (suc i) params)
+members_past s [] (k ∷ given) (suc i) p = refl
 members_past s (over ∷ overs) (k ∷ given) (suc i) p = members_past s overs given i (omega arith)

@@ -1,6 +1,6 @@
 -- What a state turns out to be when it is looked at: its constraints, its base cases, and, with pruning on, its dual
 -- bounds are evaluated in this order, up to the first fault.
-use Rattle.std.specs.Prelude.{ℕ, ◌+◌, Bool, true, false, not, if◌then◌else◌, List, [], ◌∷◌, Option, Some, None, Result, Ok, Err, ℤ}
+use Rattle.std.specs.Prelude.{ℕ, ◌+◌, Bool, true, false, not, if◌then◌else◌, List, [], ◌∷◌, Option, Some, None, Result, Ok, ℤ}
 use Rattle.dp_base.specs.Results.{◌>>=◌}
 use Rattle.dp_model.specs.Costs.{better_of, join}
 use Rattle.dp_model.specs.Evaluation.{num_value, cond_value}

@@ -2,7 +2,7 @@
 use Rattle.std.specs.Prelude.{ℕ, ◌+◌, Bool, true, false, not, ◌||◌, nat_lt, if◌then◌else◌, List, [], ◌∷◌, length, filter, Option, Some, None, Result, Ok, ℤ}
 use Rattle.std.specs.List.{range_with_len}
 use Rattle.dp_base.specs.Results.{◌>>=◌}
-use Rattle.dp_model.specs.Costs.{join, join_onto, ranged}
+use Rattle.dp_model.specs.Costs.{join_onto, ranged}
 use Rattle.dp_model.specs.Evaluation.{has, set_in}
 use Rattle.dp_model.specs.StepTexts.{ground_of}
 use Rattle.dp_model.specs.declared.trees.Over.{Over}

@@ -1,7 +1,7 @@
 //! Why a call that evaluates a part of a model gives no answer.
 
 ghost use Rattle.std.specs.Prelude.{◌≡◌};
-ghost use Rattle.spot_eval.specs.declared.ends.SpotEnd.TheVariants.{Memory};
+ghost use Rattle.spot_eval.specs.declared.ends.SpotEnd.TheVariants.{Fault, Memory};
 
 use dp_model::{FaultKind, Spot};
 use std::alloc::{AllocError, AllocFailed};
@@ -36,5 +36,13 @@ impl<T: Drop> From<AllocFailed<T>> for SpotEnd {
 
     fn from(_error: AllocFailed<T>) -> SpotEnd {
         SpotEnd::Memory
+    }
+}
+
+impl From<SpotFault> for SpotEnd {
+    ghost from_gives = { λ met e. e ≡ Fault met };
+
+    fn from(met: SpotFault) -> SpotEnd {
+        SpotEnd::Fault(met)
     }
 }
