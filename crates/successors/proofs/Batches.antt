@@ -1,5 +1,5 @@
 -- What a batch is made of is in order.
-use Rattle.std.proofs.Common.{◌≡◌, ℕ, zero, suc, ◌<◌, List, [], ◌∷◌, ◌++◌, length, ℤ, arith}
+use Rattle.std.proofs.Common.{zero, suc, [], ◌∷◌, ◌++◌, arith}
 use Rattle.std.specs.List.{All}
 use Rattle.std.proofs.lemmas.List.Elements.{All-append}
 use Rattle.dp_model.specs.Costs.{InRange}

@@ -1,5 +1,5 @@
 -- How many transitions are not forced at most.
-use Rattle.std.proofs.Common.{◌≡◌, ℕ, ◌≤◌, not, List, length, filter, arith, refl}
+use Rattle.std.proofs.Common.{◌≡◌, ℕ, ◌≤◌, not, List, length, arith, refl}
 use Rattle.std.specs.List.{range_with_len}
 use Rattle.std.proofs.lemmas.List.Filters.{length-filter_both}
 use Rattle.std.proofs.lemmas.List.FromFn.{length-range_with_len}

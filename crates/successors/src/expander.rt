@@ -220,12 +220,10 @@ impl<'m, L: CostLaw> Expander<'m, L> {
         ensures same { self.new ≡ self.old }
     {
         batch.clear();
-        match self.fill(alloc, node, id, best, batch) {
-            Ok(()) => Ok(()),
-            Err(met) => {
-                batch.clear();
-                Err(met)
-            }
+        let told = self.fill(alloc, node, id, best, batch);
+        if told.is_err() {
+            batch.clear();
         }
+        told
     }
 }
