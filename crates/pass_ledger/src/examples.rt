@@ -5,6 +5,7 @@ ghost use Rattle.pass_ledger.specs.WorkedEnough.{LawWorkedEnough};
 ghost use Rattle.pass_ledger.specs.WorkedFault.{LawWorkedFault};
 ghost use Rattle.pass_ledger.specs.WorkedFloors.{LawDropping, LawHonest, LawPruning};
 ghost use Rattle.pass_ledger.specs.WorkedRun.{LawTwoShards};
+ghost use Rattle.pass_ledger.specs.WorkedTour.{LawTourPass};
 ghost use Rattle.pass_ledger.specs.WorkedWrong.{LawWrong};
 
 /// The ledgers of both passes of a search without pruning, written out, are closed: the first drops one node, the second
@@ -41,4 +42,10 @@ pub fn law_worked_enough()
 /// A run of one shard over the worked model with a dual bound that has no value in one state meets that fault, and is halted.
 pub fn law_worked_fault()
     ensures { LawWorkedFault }
+{}
+
+/// The ledger of a pass over the tour with time windows, with floors: it knows a tour of cost 14, prunes three successors by
+/// their floors, and is closed.
+pub fn law_worked_tour()
+    ensures { LawTourPass }
 {}
