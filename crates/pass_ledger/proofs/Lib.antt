@@ -26,3 +26,4 @@ pub mod WorkedFault
 pub mod TourValues
 pub mod TourSteps
 pub mod WorkedTour
+pub mod TourHonest

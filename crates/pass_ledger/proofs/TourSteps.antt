@@ -1,12 +1,11 @@
 -- The nodes of the tour's third pass: their floors, the steps to them, and which transitions are enabled in the visited ones.
-use Rattle.std.proofs.Common.{◌≡◌, ℕ, ◌≤◌, zero, suc, true, ◌⊎◌, inl, inr, List, [], ◌∷◌, Option, Some, None, refl, arith}
-use Rattle.std.specs.Prelude.{ℤ, pos}
+use Rattle.std.proofs.Common.{◌≡◌, ℕ, ◌≤◌, zero, suc, true, ◌⊎◌, inl, inr, [], ◌∷◌, Some, refl, arith}
+use Rattle.std.specs.Prelude.{pos}
 use Rattle.std.proofs.lemmas.Int.{ints}
 use Rattle.dp_model.specs.Costs.{InRange}
 use Rattle.dp_steps.specs.Bounds.{IsFloor}
 use Rattle.dp_steps.specs.States.{Enabled, Forbidden, Inner, Step}
 use Rattle.cost_laws.specs.Orders.{InWideRange}
-use Rattle.dp_model.specs.declared.parts.PlainState.{PlainState}
 use Rattle.pass_ledger.specs.Letters.{InOrder}
 use Rattle.pass_ledger.specs.Passes.{IsStart}
 use Rattle.pass_ledger.specs.Records.{IsSuccessor, LeadsOut}

@@ -1,14 +1,13 @@
 -- What the expressions of the tour stand for in a state, and where its transitions lead.
-use Rattle.std.proofs.Common.{◌≡◌, ℕ, zero, suc, Bool, true, false, not, ◌&&◌, List, [], ◌∷◌, ◌++◌, length, map, ◌==◌, ◌⊎◌, inl, inr, Option, Some, None, Result, Ok, Err, refl, sym, ap, ◌∙◌}
-use Rattle.std.specs.Prelude.{ℤ, pos, IsTrue, if◌then◌else◌}
-use Rattle.std.specs.Ordering.{int_eq}
+use Rattle.std.proofs.Common.{◌≡◌, ℕ, zero, suc, Bool, true, false, not, ◌&&◌, List, [], ◌∷◌, ◌++◌, length, map, ◌==◌, ◌⊎◌, inr, Option, Some, None, Result, Ok, refl, sym, ap, ◌∙◌}
+use Rattle.std.specs.Prelude.{ℤ, pos, if◌then◌else◌}
 use denote.Hole.Carrier
 use Rattle.dp_base.specs.Results.{◌>>=◌, in_turn}
 use Rattle.dp_model.specs.Costs.{ranged}
 use Rattle.dp_model.specs.Evaluation.{num_value, set_value, cond_value, number_in, set_in, count_of, kind_of, object_of_kind, each_holds, operate, compares, has, member_of, members_of, members_where, table_counts, cells_of, number_cell, place_in, choices_of, total_of, ways, ArgValue, CondValue, NumValue, SetValue, arg_step, cond_step, num_step, set_step}
 use Rattle.dp_model.specs.StepTexts.{ground_of}
-use Rattle.dp_steps.specs.Bounds.{IsTightest, values_of}
-use Rattle.dp_steps.specs.States.{Allowed, Forbidden, Base, Considered, Enabled, Inner, IsForced, Step, all_true, case_costs, is_enabled, are_members, weight_of, effect_value, next_state, stored, with_changes}
+use Rattle.dp_steps.specs.Bounds.{IsTightest}
+use Rattle.dp_steps.specs.States.{Base, Considered, Enabled, Inner, IsForced, Step, all_true, case_costs, is_enabled, weight_of, next_state, stored}
 use Rattle.dp_model.specs.declared.answers.FaultKind.{FaultKind}
 use Rattle.dp_model.specs.declared.trees.Num.{Num}
 use Rattle.dp_model.specs.declared.trees.Num as nums
@@ -23,12 +22,9 @@ use Rattle.dp_model.specs.declared.trees.Compare.{Compare}
 use Rattle.dp_model.specs.declared.trees.Compare.TheVariants as comparisons
 use Rattle.dp_model.specs.declared.trees.Over.TheVariants as overs
 use Rattle.dp_model.specs.declared.parts.Transition.{Transition}
-use Rattle.dp_model.specs.declared.parts.Effect.TheVariants as effects
-use Rattle.dp_model.specs.declared.parts.PlainValue.{PlainValue}
-use Rattle.dp_model.specs.declared.parts.PlainValue.TheVariants.{Number, Members}
 use Rattle.dp_model.specs.declared.parts.PlainState.{PlainState}
 use Rattle.dp_model.specs.declared.whole.Model.{Model}
-use Rattle.pass_ledger.specs.Tour.{at, tour, customers, tables, location, time, to, ready, due, min_to, distance, number, arrival, in_time, all_visited, is_home, is_away, visit, return, timely, home, least_distance}
+use Rattle.pass_ledger.specs.Tour.{at, tour, location, time, to, ready, due, min_to, distance, number, arrival, in_time, all_visited, is_home, visit, return, timely, least_distance}
 
 -- ---- expressions, in any model
 
@@ -165,7 +161,7 @@ module _ (u : List ℕ) (l t : ℕ) where
   in_time_is : (k : ℕ) → cond_value tour here in_time (k ∷ []) ≡ is_timely k
   in_time_is k =
       cond_numbers tour here (k ∷ []) comparisons.AtMost (arrival to) (due to) (arrives k) (cell 1 (k ∷ []))
-          (arrival_at (k ∷ []) to k (to_is k)) (num_cell tour here (k ∷ []) 1 to (Ok (pos k)) (to_is k))
+      (arrival_at (k ∷ []) to k (to_is k)) (num_cell tour here (k ∷ []) 1 to (Ok (pos k)) (to_is k))
 
   abbrev all_timely : Result Bool FaultKind
   all_timely = each_holds is_timely u
@@ -205,14 +201,14 @@ module _ (u : List ℕ) (l t : ℕ) where
   base_at h e = record { allowed = constraints_are true h; best = (pos 0, [], is_base e, refl) }
 
   -- the dual bound
-  abbrev least : Fallible
+  abbrev pub least : Fallible
   least = op_of tour here [] operations.Plus (sum_of tour here [] 2 u) (if_of tour here [] (Ok (compares comparisons.Same (pos l) (pos 0))) (Ok (pos 0)) (cell 2 (0 ∷ [])))
 
-  least_is : num_value tour here least_distance [] ≡ least
+  pub least_is : num_value tour here least_distance [] ≡ least
   least_is =
       num_op tour here [] operations.Plus (nums.Sum 2 (args.Many (sets.Var 0) ∷ [])) (nums.If is_home (number 0) (min_to (number 0))) _ _ (num_sum tour here [] 2 0)
-          (num_if tour here [] is_home (number 0) (min_to (number 0)) _ _ _ (home_is comparisons.Same []) (num_fixed tour here [] (pos 0))
-              (num_cell tour here [] 2 (number 0) (Ok (pos 0)) (num_fixed tour here [] (pos 0))))
+      (num_if tour here [] is_home (number 0) (min_to (number 0)) _ _ _ (home_is comparisons.Same []) (num_fixed tour here [] (pos 0))
+      (num_cell tour here [] 2 (number 0) (Ok (pos 0)) (num_fixed tour here [] (pos 0))))
 
   pub tightest_at : (bound : ℤ) → least ≡ Ok bound → IsTightest tour here bound
   tightest_at bound h = (bound, [], rw (least_is ∙ h) refl, refl)

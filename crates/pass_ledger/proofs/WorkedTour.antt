@@ -1,12 +1,12 @@
 -- The ledger of the tour's third pass is closed.
-use Rattle.std.proofs.Common.{◌≡◌, ℕ, ◌+◌, ◌<◌, ◌≤◌, zero, suc, ◌⊎◌, inl, inr, true, List, [], ◌∷◌, ◌++◌, length, slice_get, Some, None, refl, sym, ap, subst, ◌∙◌, arith}
+use Rattle.std.proofs.Common.{◌≡◌, ℕ, ◌+◌, ◌<◌, ◌≤◌, zero, suc, ◌⊎◌, inl, inr, true, [], ◌∷◌, slice_get, Some, None, refl, sym, ap, subst, ◌∙◌, arith}
 use Rattle.std.specs.Prelude.{pos, ◌≤ℤ◌}
 use Rattle.std.proofs.lemmas.Int.{ints}
 use Rattle.dp_claims.specs.Enough.{Has, Different}
-use Rattle.dp_model.specs.declared.parts.PlainValue.TheVariants.{Number, Members}
+use Rattle.dp_model.specs.declared.parts.PlainValue.TheVariants.{Members}
 use Rattle.pass_ledger.specs.Letters.{of, InOrder, Posted, all_told_at}
 use Rattle.pass_ledger.specs.Passes.{word_of, CoversNode, Prunes}
-use Rattle.pass_ledger.specs.Rows.{row, Received, IsCovered, Apart, IsRow}
+use Rattle.pass_ledger.specs.Rows.{row, Received, IsCovered, IsRow}
 use Rattle.pass_ledger.specs.Records.{visit_of, IsSuccessor, LeadsOut, Accounted, IsPruned, Made, Starts, record_of}
 use Rattle.pass_ledger.specs.Ledgers.{IsLedgerOf, Ledger, IsClosedOf, Closed, Totals, IsBest, DropsNone}
 use Rattle.pass_ledger.specs.Tour.{tour}
@@ -17,12 +17,12 @@ use Rattle.pass_ledger.specs.declared.mail.Letter.TheVariants.{State, Mark}
 use Rattle.pass_ledger.specs.declared.records.PrunedAt.{PrunedAt}
 use Rattle.pass_ledger.specs.declared.records.Visit.{Visit}
 use Rattle.pass_ledger.specs.declared.records.Held.{Held}
-use Rattle.pass_ledger.specs.declared.records.LedgerRow.{LedgerRow}
 use Rattle.dp_claims.proofs.Covering.{reflexive}
 use Rattle.pass_ledger.proofs.Lists.{has_none, has_head}
 use Rattle.pass_ledger.proofs.Steps.{empty_row}
 use Rattle.pass_ledger.proofs.Backwards.{law}
 use Rattle.pass_ledger.proofs.Worked.{state_parts, mark_parts, not_both, has_one, has_two, some_is, none_is, one_shard, only_one}
+use Rattle.pass_ledger.proofs.TourHonest.{honest}
 use Rattle.pass_ledger.proofs.TourSteps.{inner_0, start_is, t1_from, t2_from, t12_from, t21_from, t23_from, t231_from, out_3, out_13, t1_in_order, t2_in_order, t23_in_order, from_0, from_1, from_2, from_23}
 
 -- ---- the letters
@@ -204,10 +204,13 @@ visited_once = (
       | inr e ↦ visits_differ (visit_of 0 t0) (visit_of 2 t23) (omega arith) e
     ]
   ],
-  (λ h. elim (has_two (visit_of 1 t2) (visit_of 2 t23) (visit_of 1 t1) h) [
-    | inl e ↦ visits_differ (visit_of 1 t1) (visit_of 1 t2) (omega arith) e
-    | inr e ↦ visits_differ (visit_of 1 t1) (visit_of 2 t23) (omega arith) e
-  ], (λ h. visits_differ (visit_of 1 t2) (visit_of 2 t23) (omega arith) (has_one (visit_of 2 t23) (visit_of 1 t2) h), (λ h. has_none (visit_of 2 t23) h, tt))),
+  (
+    λ h. elim (has_two (visit_of 1 t2) (visit_of 2 t23) (visit_of 1 t1) h) [
+      | inl e ↦ visits_differ (visit_of 1 t1) (visit_of 1 t2) (omega arith) e
+      | inr e ↦ visits_differ (visit_of 1 t1) (visit_of 2 t23) (omega arith) e
+    ],
+    (λ h. visits_differ (visit_of 1 t2) (visit_of 2 t23) (omega arith) (has_one (visit_of 2 t23) (visit_of 1 t2) h), (λ h. has_none (visit_of 2 t23) h, tt)),
+  ),
 )
 
 abbrev IsAccounted : ℕ → Visit → Type 0
@@ -314,4 +317,4 @@ pub tour_law : LawTourPass
 tour_law = (ledger, closed, refl, refl)
 
 pub no_better_tour : LawNoBetterTour
-no_better_tour honest = (law touring (third_pass ∷ []) word_14 word_14 inner_0 (inr honest) ledger closed).0 drops_none
+no_better_tour = (law touring (third_pass ∷ []) word_14 word_14 inner_0 (inr honest) ledger closed).0 drops_none

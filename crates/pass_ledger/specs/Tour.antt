@@ -5,7 +5,7 @@ use Rattle.std.specs.Prelude.{◌≡◌, ℕ, ◌&&◌, ◌==◌, true, false, I
 use Rattle.std.proofs.Common.{refl, ap, ◌∙◌}
 use Rattle.std.proofs.lemmas.Bool.{and_from}
 use denote.Hole.Carrier
-use Rattle.dp_model.specs.Typing.{ArgTest, CondTest, NumTest, SetTest, arg_typed, cond_typed, num_typed, set_typed, is_num, is_set, is_cond, is_in_range, is_transition, is_base_case, are_trees, args_at, cells_at, are_numbers, cell_typed, is_effect, holds_set_of, kind_at}
+use Rattle.dp_model.specs.Typing.{ArgTest, CondTest, NumTest, SetTest, arg_typed, cond_typed, num_typed, set_typed, is_num, is_set, is_cond, is_in_range, is_transition, are_trees, args_at, cells_at, are_numbers, cell_typed, is_effect, holds_set_of, kind_at}
 use Rattle.dp_model.specs.declared.trees.Num.{Num}
 use Rattle.dp_model.specs.declared.trees.Num as nums
 use Rattle.dp_model.specs.declared.trees.NumOp.{NumOp}
@@ -55,7 +55,7 @@ tables =
     ∷ table (codes "due") (0 ∷ []) (pos 100 ∷ pos 16 ∷ pos 10 ∷ pos 14 ∷ [])
     ∷ table (codes "min_to") (0 ∷ []) (pos 3 ∷ pos 3 ∷ pos 3 ∷ pos 3 ∷ [])
     ∷ table (codes "distance") (0 ∷ 0 ∷ [])
-        (pos 0 ∷ pos 3 ∷ pos 4 ∷ pos 5 ∷ pos 3 ∷ pos 0 ∷ pos 5 ∷ pos 4 ∷ pos 4 ∷ pos 5 ∷ pos 0 ∷ pos 3 ∷ pos 5 ∷ pos 4 ∷ pos 3 ∷ pos 0 ∷ [])
+    (pos 0 ∷ pos 3 ∷ pos 4 ∷ pos 5 ∷ pos 3 ∷ pos 0 ∷ pos 5 ∷ pos 4 ∷ pos 4 ∷ pos 5 ∷ pos 0 ∷ pos 3 ∷ pos 5 ∷ pos 4 ∷ pos 3 ∷ pos 0 ∷ [])
     ∷ []
 
 -- the state with this set of unvisited customers, this location and this time
@@ -250,21 +250,21 @@ typed_rest =
 typed_visit : is_transition customers variables tables visit ≡ true
 typed_visit =
     and_from _ _ refl (and_from _ _ (and_from _ _ typed_in_time refl) (and_from _ _ (and_from _ _ typed_rest (and_from _ _ (and_from _ _ refl typed_to) (and_from _ _ (and_from _ _ refl
-        (typed_op operations.Most (arrival to) (ready to) 1 (typed_arrival to 1 typed_to) (typed_cell 0 to 1 refl refl typed_to))) refl)))
+    (typed_op operations.Most (arrival to) (ready to) 1 (typed_arrival to 1 typed_to) (typed_cell 0 to 1 refl refl typed_to))) refl)))
     (and_from _ _ refl (typed_distance location to 1 (typed_location 1) typed_to))))
 
 typed_return : is_transition customers variables tables return ≡ true
 typed_return =
     and_from _ _ refl (and_from _ _ (and_from _ _ typed_all_visited (and_from _ _ (typed_home comparisons.Other) refl)) (and_from _ _
-        (and_from _ _ (and_from _ _ refl typed_zero) (and_from _ _ (and_from _ _ refl (typed_arrival (number 0) 0 typed_zero)) refl))
+    (and_from _ _ (and_from _ _ refl typed_zero) (and_from _ _ (and_from _ _ refl (typed_arrival (number 0) 0 typed_zero)) refl))
     (and_from _ _ refl (typed_distance location (number 0) 0 (typed_location 0) typed_zero))))
 
 pub typed_trees : IsTrue (are_trees customers variables tables (visit ∷ return ∷ []) (timely ∷ []) (home ∷ []) (least_distance ∷ []))
 typed_trees =
     and_from _ _ (and_from _ _ typed_visit (and_from _ _ typed_return refl)) (and_from _ _ (and_from _ _ (typed_timely typed_in_time) refl) (and_from _ _
-        (and_from _ _ (and_from _ _ (and_from _ _ typed_all_visited (and_from _ _ (typed_home comparisons.Same) refl)) typed_zero) refl)
+    (and_from _ _ (and_from _ _ (and_from _ _ typed_all_visited (and_from _ _ (typed_home comparisons.Same) refl)) typed_zero) refl)
     (and_from _ _ (typed_op operations.Plus (nums.Sum 2 (args.Many (sets.Var 0) ∷ [])) (nums.If is_home (number 0) (min_to (number 0))) 0 typed_sum
-        (typed_if is_home (number 0) (min_to (number 0)) 0 (typed_home comparisons.Same) typed_zero (typed_cell 2 (number 0) 0 refl refl typed_zero))) refl)))
+    (typed_if is_home (number 0) (min_to (number 0)) 0 (typed_home comparisons.Same) typed_zero (typed_cell 2 (number 0) 0 refl refl typed_zero))) refl)))
 
 -- ---- the model
 

@@ -4,7 +4,6 @@
 -- pruned and one that is kept; whose only successor is pruned. Four nodes were visited, none was dropped and none is held: so
 -- no tour costs less than 14.
 use Rattle.std.specs.Prelude.{◌≡◌, ℕ, true, List, [], ◌∷◌, length, Option, Some, None, ℤ, pos}
-use Rattle.std.proofs.Common.{refl}
 use Rattle.std.proofs.Math.Nat.{zero-lt-suc}
 use Rattle.dp_claims.specs.Honest.{Honest}
 use Rattle.dp_model.specs.declared.parts.PlainState.{PlainState}
@@ -78,6 +77,10 @@ third_pass =
 abbrev pub LawTourPass : Type 0
 LawTourPass = Ledger touring (third_pass ∷ []) × Closed touring (third_pass ∷ []) word_14 word_14 × (length third_pass.visits ≡ 4) × (dropped_by third_pass ≡ 0)
 
--- so no tour costs less than 14, where the dual bound and the preference tell the truth
+-- the dual bound and the preference of the tour tell the truth
+abbrev pub LawTourHonest : Type 0
+LawTourHonest = Honest tour
+
+-- so no tour costs less than 14
 abbrev pub LawNoBetterTour : Type 0
-LawNoBetterTour = Honest tour → NoneBelow touring (pos word_14)
+LawNoBetterTour = NoneBelow touring (pos word_14)

@@ -5,7 +5,7 @@ ghost use Rattle.pass_ledger.specs.WorkedEnough.{LawWorkedEnough};
 ghost use Rattle.pass_ledger.specs.WorkedFault.{LawWorkedFault};
 ghost use Rattle.pass_ledger.specs.WorkedFloors.{LawDropping, LawHonest, LawPruning};
 ghost use Rattle.pass_ledger.specs.WorkedRun.{LawTwoShards};
-ghost use Rattle.pass_ledger.specs.WorkedTour.{LawTourPass};
+ghost use Rattle.pass_ledger.specs.WorkedTour.{LawNoBetterTour, LawTourHonest, LawTourPass};
 ghost use Rattle.pass_ledger.specs.WorkedWrong.{LawWrong};
 
 /// The ledgers of both passes of a search without pruning, written out, are closed: the first drops one node, the second
@@ -44,8 +44,10 @@ pub fn law_worked_fault()
     ensures { LawWorkedFault }
 {}
 
-/// The ledger of a pass over the tour with time windows, with floors: it knows a tour of cost 14, prunes three successors by
-/// their floors, and is closed.
+/// The tour with time windows is honest, and the ledger of a pass over it, which knows a tour of cost 14 and prunes three
+/// successors by their floors, is closed: so no tour costs less than 14.
 pub fn law_worked_tour()
-    ensures { LawTourPass }
+    ensures honest { LawTourHonest }
+    ensures pass { LawTourPass }
+    ensures best { LawNoBetterTour }
 {}
