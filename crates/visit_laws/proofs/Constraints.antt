@@ -1,0 +1,23 @@
+-- What is found of the constraints of a state.
+use Rattle.std.proofs.Common.{◌≡◌, ℕ, zero, suc, ◌+◌, Bool, true, false, [], Ok, Err, ap, sym, ◌∙◌, zero-add}
+use Rattle.spot_eval.specs.Looks.{all_at, allowed_at, spot_of}
+use Rattle.spot_eval.specs.declared.tests.Tests.TheVariants.{Constraints}
+use Rattle.visit_laws.specs.Constraints.{AllowedFound, ForbiddenFound, ConstraintFaults}
+use Rattle.visit_laws.proofs.Spots.{from_value, to_value}
+use Rattle.visit_laws.proofs.Tests.{all_values, first_fault}
+
+pub allowed_found : AllowedFound
+allowed_found m s =
+    let same = all_values m s Constraints [] 0 m.constraints in
+    (λ e. sym same ∙ to_value (allowed_at m s) true e, λ allowed. from_value (allowed_at m s) true (same ∙ allowed))
+
+pub forbidden_found : ForbiddenFound
+forbidden_found m s =
+    let same = all_values m s Constraints [] 0 m.constraints in
+    (λ e. sym same ∙ to_value (allowed_at m s) false e, λ forbidden. from_value (allowed_at m s) false (same ∙ forbidden))
+
+pub constraint_faults : ConstraintFaults
+constraint_faults m prune cost s met e =
+    let f = first_fault m s Constraints [] m.constraints 0 met e in
+    let at : met.spot ≡ spot_of Constraints f.place = f.spot ∙ ap (spot_of Constraints) (zero-add f.place) in
+    rw at (f.before, (f.test, f.there, f.fault))

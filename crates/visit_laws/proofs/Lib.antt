@@ -1,0 +1,9 @@
+pub mod Spots
+pub mod Best
+pub mod Tests
+pub mod Constraints
+pub mod BaseCases
+pub mod Costs
+pub mod Looks
+pub mod Transitions
+pub mod Steps

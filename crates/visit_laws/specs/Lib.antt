@@ -1,0 +1,5 @@
+pub mod Constraints
+pub mod BaseCases
+pub mod Looks
+pub mod Transitions
+pub mod Steps
