@@ -7,3 +7,5 @@ pub mod Costs
 pub mod Looks
 pub mod Transitions
 pub mod Steps
+pub mod Visits
+pub mod Batches

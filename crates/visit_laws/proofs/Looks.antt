@@ -90,7 +90,7 @@ found_floor m true s cost floor e = floor_told m s cost floor (tightest_at m s 0
 found_floor m false s cost None e = refl
 found_floor m false s cost (Some floor) e = absurd (cc)
 
-floor_found_at : (m : Model) (prune : Bool) (s : PlainState) (cost floor : Option ℤ) → IsFloor m prune s cost floor → floor_at m prune s cost ≡ Ok floor
+pub floor_found_at : (m : Model) (prune : Bool) (s : PlainState) (cost floor : Option ℤ) → IsFloor m prune s cost floor → floor_at m prune s cost ≡ Ok floor
 floor_found_at m true s cost None h = rw (values_tightest m s [] (values_none m s m.bounds h)) refl
 floor_found_at m true s cost (Some floor) h =
     let tightest = h.1.1 in

@@ -140,7 +140,7 @@ effect_faults m prune cost s g t joined met range may there found e =
 -- ---- steps
 
 -- a number names one ground transition
-same_ground : (m : Model) (g : ℕ) (t u : Transition × List ℕ) → ground_of m g ≡ Some t → ground_of m g ≡ Some u → u ≡ t
+pub same_ground : (m : Model) (g : ℕ) (t u : Transition × List ℕ) → ground_of m g ≡ Some t → ground_of m g ≡ Some u → u ≡ t
 same_ground m g t u there other = let same : Some u ≡ Some t = sym other ∙ there in cc
 
 pub step_found : StepFound

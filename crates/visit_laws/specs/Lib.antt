@@ -3,3 +3,5 @@ pub mod BaseCases
 pub mod Looks
 pub mod Transitions
 pub mod Steps
+pub mod Fates
+pub mod Visits

@@ -7,6 +7,7 @@ ghost use Rattle.visit_laws.specs.BaseCases.{BaseFound, InnerFound, BaseFaults};
 ghost use Rattle.visit_laws.specs.Looks.{FloorFaults, FloorFound, LookFaults, LookedBase, LookedForbidden, LookedOpen};
 ghost use Rattle.visit_laws.specs.Transitions.{EnabledFaults, EnabledFound, ForcedAlone, ForcedFaults, ForcedFound, MayStepFaults, MayStepFound, NoneForced};
 ghost use Rattle.visit_laws.specs.Steps.{CostFaults, CostFound, EffectFaults, NextFound, StepFound, StepMade};
+ghost use Rattle.visit_laws.specs.Visits.{BatchFound, FatesExclude, FatesFound, VisitFaults};
 
 /// What is found of the constraints of a state: whether it is allowed, or the first fault.
 pub fn law_constraints()
@@ -62,4 +63,12 @@ pub fn law_steps()
     ensures made { StepMade }
     ensures cost_faults { CostFaults }
     ensures effect_faults { EffectFaults }
+{}
+
+/// What is found of a visit: the fate of each transition that is considered and enabled, or the first fault.
+pub fn law_visits()
+    ensures fates { FatesFound }
+    ensures exclude { FatesExclude }
+    ensures batch { BatchFound }
+    ensures faults { VisitFaults }
 {}

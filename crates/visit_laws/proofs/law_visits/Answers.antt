@@ -1,0 +1,6 @@
+use Rattle.visit_laws.proofs.Visits.{fates_found, visit_faults}
+use Rattle.visit_laws.proofs.Batches.{batch_found, fates_exclude}
+use Rattle.visit_laws.proofs.law_visits.Goals as goal
+
+pub returns : goal.returns
+returns c = record { fates = fates_found; exclude = fates_exclude; batch = batch_found; faults = visit_faults }

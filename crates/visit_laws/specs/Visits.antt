@@ -1,0 +1,77 @@
+-- What is found of a visit of an inner state, at a cost so far in range.
+use Rattle.std.specs.Prelude.{◌≡◌, ℕ, ◌⊎◌, List, map, Ok, Err, IfSome, ℤ}
+use Rattle.std.specs.List.Sorted.{IsStrictlyIncreasing}
+use Rattle.dp_model.specs.Costs.{InRange}
+use Rattle.dp_model.specs.declared.whole.Model.{Model}
+use Rattle.dp_steps.specs.States.{Considered, Enabled, Inner}
+use Rattle.dp_claims.specs.Enough.{Has}
+use Rattle.state_layout.specs.declared.node.Node.{Node}
+use Rattle.successors.specs.Answers.{Met}
+use Rattle.successors.specs.Visits.{Visit, expansion}
+use Rattle.successors.specs.declared.batch.Batch.{Batch}
+use Rattle.successors.specs.declared.batch.Offer.{Offer}
+use Rattle.visit_laws.specs.Fates.{AreFates, Fate, IsSuccessor, IsTotal, LeadsOut, MeetsAfter, Prunes, batch_of}
+
+-- The batch is that of the fates of exactly the considered and enabled transitions, in ascending order.
+abbrev pub FatesFound : Type 0
+FatesFound = (m : Model) (v : Visit) (batch : Batch) → Inner m v.state → IfSome v.cost InRange → expansion m v ≡ Ok batch → (fates : List (ℕ × Fate)) × AreFates m v fates × (batch ≡ batch_of fates)
+
+-- A fault is met in the visited state, or in the state that the transition leads to which is told with it.
+abbrev pub VisitFaults : Type 0
+VisitFaults = (m : Model) (v : Visit) (met : Met) → Inner m v.state → IfSome v.cost InRange → expansion m v ≡ Err met → MeetsAfter m v met.last met
+
+-- ---- the same, kind by kind
+
+-- a batch of a visit: each letter is a successor that the best word does not prune
+abbrev pub LettersSound : Model → Visit → Batch → Type 0
+LettersSound m v batch = (n : Node) → Has batch.letters n → IsSuccessor m v n.transition n × (Prunes m v.best n → ⊥)
+
+-- each pruned node is a successor that the best word prunes
+abbrev pub PrunedSound : Model → Visit → Batch → Type 0
+PrunedSound m v batch = (n : Node) → Has batch.pruned n → IsSuccessor m v n.transition n × Prunes m v.best n
+
+-- each offer is the total of a step to a base state
+abbrev pub OffersSound : Model → Visit → Batch → Type 0
+OffersSound m v batch = (o : Offer) → Has batch.offers o → IsTotal m v o.transition o.cost
+
+-- the total of a step to a base state, which is offered
+abbrev pub IsOffered : Model → Visit → Batch → ℕ → Type 0
+IsOffered m v batch g = (total : ℤ) × IsTotal m v g total × Has batch.offers (record { cost = total; transition = g })
+
+-- a successor, which is a letter, or pruned
+abbrev pub IsKept : Model → Visit → Batch → ℕ → Type 0
+IsKept m v batch g = (n : Node) × IsSuccessor m v g n × (Has batch.letters n ⊎ Has batch.pruned n)
+
+-- each considered and enabled transition leads out, or is offered, or is kept
+abbrev pub Accounted : Model → Visit → Batch → Type 0
+Accounted m v batch = (g : ℕ) → Considered m v.state g → Enabled m v.state g → LeadsOut m v g ⊎ (IsOffered m v batch g ⊎ IsKept m v batch g)
+
+-- the transitions of each kind ascend
+pub record Ascending (batch : Batch) : Type 0 where
+  pub letters : IsStrictlyIncreasing (map (λ (n : Node). n.transition) batch.letters)
+  pub offers : IsStrictlyIncreasing (map (λ (o : Offer). o.transition) batch.offers)
+  pub pruned : IsStrictlyIncreasing (map (λ (n : Node). n.transition) batch.pruned)
+
+pub record IsBatch (m : Model) (v : Visit) (batch : Batch) : Type 0 where
+  pub letters : LettersSound m v batch
+  pub pruned : PrunedSound m v batch
+  pub offers : OffersSound m v batch
+  pub accounted : Accounted m v batch
+  pub ascending : Ascending batch
+
+abbrev pub BatchFound : Type 0
+BatchFound = (m : Model) (v : Visit) (batch : Batch) → Inner m v.state → IfSome v.cost InRange → expansion m v ≡ Ok batch → IsBatch m v batch
+
+-- ---- each transition has one fate
+
+-- A transition that leads out has no total and makes no node; one with a total makes no node; and the total and the node
+-- of a transition are each one.
+pub record OneFate (m : Model) (v : Visit) (g : ℕ) : Type 0 where
+  pub out_total : LeadsOut m v g → (total : ℤ) → IsTotal m v g total → ⊥
+  pub out_node : LeadsOut m v g → (n : Node) → IsSuccessor m v g n → ⊥
+  pub total_node : (total : ℤ) → IsTotal m v g total → (n : Node) → IsSuccessor m v g n → ⊥
+  pub one_total : (a b : ℤ) → IsTotal m v g a → IsTotal m v g b → a ≡ b
+  pub one_node : (a b : Node) → IsSuccessor m v g a → IsSuccessor m v g b → a ≡ b
+
+abbrev pub FatesExclude : Type 0
+FatesExclude = (m : Model) (v : Visit) (g : ℕ) → OneFate m v g
