@@ -7,5 +7,6 @@ pub mod Costs
 pub mod Looks
 pub mod Transitions
 pub mod Steps
+pub mod Rising
 pub mod Visits
 pub mod Batches

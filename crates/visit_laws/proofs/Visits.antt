@@ -34,6 +34,7 @@ use Rattle.visit_laws.proofs.Spots.{fault_there}
 use Rattle.visit_laws.proofs.Costs.{ranged_value}
 use Rattle.visit_laws.proofs.Looks.{Is, looked_is, look_faults}
 use Rattle.visit_laws.proofs.Transitions.{enabled_faults, enabled_found, forced_alone, forced_faults, forced_found, ground_within, none_forced, is_forced_there, forced_is}
+use Rattle.visit_laws.proofs.Rising.{Rises, increasing, rises_sooner}
 use Rattle.visit_laws.proofs.Steps.{cost_faults, effect_faults, step_found}
 
 -- ---- pruning
@@ -120,19 +121,10 @@ abbrev pub add_all : Batch → List (ℕ × Fate) → Batch
 add_all batch [] = batch
 add_all batch (x ∷ xs) = add_all (add batch x.0 x.1) xs
 
--- numbers from one on, each greater than those before it
-abbrev pub Ascends : ℕ → List (ℕ × Fate) → Type 0
-Ascends from [] = Unit {0}
-Ascends from (x ∷ xs) = (from ≤ x.0) × Ascends (x.0 + 1) xs
-
-pub sooner : (from : ℕ) (fates : List (ℕ × Fate)) → Ascends (from + 1) fates → Ascends from fates
-sooner from [] h = tt
-sooner from (x ∷ xs) h = let low : from + 1 ≤ x.0 = h.0 in (omega arith, h.1)
-
 module _ (m : Model) (v : Visit) (p : ℕ → Bool) where
   -- the fates of the enabled ones of the numbers from one on, below another, that pass a test
   pub record Between (from to : ℕ) (fates : List (ℕ × Fate)) : Type 0 where
-    pub ascends : Ascends from fates
+    pub ascends : Rises from (numbers_of fates)
     pub stepping : (g : ℕ) (fate : Fate) → Has fates (g, fate) → Enabled m v.state g
     pub fated : (g : ℕ) (fate : Fate) → Has fates (g, fate) → IsFate m v g fate
     pub every : (g : ℕ) → from ≤ g → g < to → p g ≡ true → Enabled m v.state g → (fate : Fate) × Has fates (g, fate)
@@ -158,7 +150,7 @@ module _ (m : Model) (v : Visit) (p : ℕ → Bool) where
   -- the first number is none of them
   skip : (from to : ℕ) (fates : List (ℕ × Fate)) → (p from ≡ true → Enabled m v.state from → ⊥) → Between (from + 1) to fates → Between from to fates
   skip from to fates off rest = record {
-      ascends = sooner from fates rest.ascends;
+      ascends = rises_sooner from (from + 1) (numbers_of fates) (omega arith) rest.ascends;
       stepping = rest.stepping;
       fated = rest.fated;
       every = λ g low high passes enabled. every_later from to g fates off rest high passes enabled (cases_lt from g) low }
@@ -223,19 +215,10 @@ abbrev pub Found : Model → Visit → Result Batch Met → Type 0
 Found m v (Ok batch) = (fates : List (ℕ × Fate)) × AreFates m v fates × (batch ≡ add_all empty_batch fates)
 Found m v (Err met) = MeetsAfter m v met.last met
 
--- numbers from one on that ascend are strictly increasing
-ascending : (from : ℕ) (fates : List (ℕ × Fate)) → Ascends from fates → IsStrictlyIncreasing (numbers_of fates)
-ascending from [] h k low = absurd (omega arith)
-ascending from (x ∷ []) h k low = absurd (omega arith)
-ascending from (x ∷ y ∷ ys) h zero low = let next : x.0 + 1 ≤ y.0 = h.1.0 in omega arith
-ascending from (x ∷ y ∷ ys) h (suc k) low =
-    let at : suc k + 1 ≡ suc (k + 1) = omega arith in
-    rw at (ascending (x.0 + 1) (y ∷ ys) h.1 k (omega arith))
-
 found_loop : (m : Model) (v : Visit) (r : Result Batch Met) → IfSome v.cost InRange → Inner m v.state → first_enabled m v.state (forced_of m) ≡ Ok None → Looped m v (λ g. not (is_forced m g)) empty_batch 0 (length m.dp_ground) r → Found m v r
 found_loop m v (Ok batch) range inner none looped =
     (looped.0, record {
-        ascending = ascending 0 looped.0 looped.1.ascends;
+        ascending = increasing 0 (numbers_of looped.0) looped.1.ascends;
         stepping = λ g fate there. ((none_forced m v.state g none).0, looped.1.stepping g fate there);
         fated = looped.1.fated;
         every = λ g considered enabled. looped.1.every g (omega arith) (ground_within m g enabled.0 enabled.1) (free m v.state g none enabled) enabled }, looped.2)
