@@ -16,10 +16,10 @@ use Rattle.spot_eval.specs.Answers.{at_spot}
 use Rattle.spot_eval.specs.declared.ends.SpotFault.{SpotFault}
 use Rattle.spot_eval.specs.Looks.{all_at, allowed_at, base_at, best_case, case_at, spot_of, with_better}
 use Rattle.spot_eval.specs.declared.tests.Tests.TheVariants.{BaseConditions}
-use Rattle.visit_laws.specs.BaseCases.{BaseFound, InnerFound, BaseFaults}
-use Rattle.visit_laws.proofs.Spots.{without_spot, from_value, to_value, fault_there, bind_assoc}
+use Rattle.visit_laws.specs.BaseCases.{BaseCostMet, BaseFaults, BaseFound, ConditionMet, InnerFound}
+use Rattle.visit_laws.proofs.Spots.{without_spot, from_value, to_value, fault_there, bind_assoc, two_values}
 use Rattle.visit_laws.proofs.Best.{best_over, over_number, over_one}
-use Rattle.visit_laws.proofs.Tests.{all_values, first_fault}
+use Rattle.visit_laws.proofs.Tests.{all_values, first_fault, test_met}
 use Rattle.visit_laws.proofs.Constraints.{allowed_found, constraint_faults}
 
 -- ---- one base case
@@ -175,3 +175,48 @@ fault_found m prune cost s met (Err other) q e = constraint_faults m prune cost 
 
 pub base_faults : BaseFaults
 base_faults m prune cost s met e = fault_found m prune cost s met (allowed_at m s) refl e
+
+-- ---- each fault that is met is found
+
+-- the base cases before one have costs, and it meets a fault
+met_here : (m : Model) (s : PlainState) (bs : List BaseCase) (i k : ℕ) (best : Option ℤ) (b : BaseCase) (costs : List ℤ) (met : SpotFault) → case_costs m s (take k bs) ≡ Ok costs → slice_get bs k ≡ Some b → case_at m s (i + k) b ≡ Err met → best_case m s i best bs ≡ Err met
+met_here m s [] i k best b costs met before there fault = absurd (cc)
+met_here m s (x ∷ xs) i zero best b costs met before there fault =
+    let same : x ≡ b = cc in
+    let at : i + 0 ≡ i = omega arith in
+    let here : case_at m s i b ≡ Err met = rw at at fault in
+    rw (same, here) refl
+met_here m s (x ∷ xs) i (suc k) best b costs met before there fault =
+    let both = two_values (case_cost m s x) (case_costs m s (take k xs)) (λ (c : Option ℤ) (cs : List ℤ). option_to_list c ++ cs) costs (sym (costs_cons m s x (take k xs)) ∙ before) in
+    let value = from_value (case_at m s i x) both.0 (case_value m s i x ∙ both.2) in
+    let at : i + suc k ≡ (i + 1) + k = omega arith in
+    rw value (met_here m s xs (i + 1) k (with_better m.minimize best both.0) b both.1 met both.3 there (rw at at fault))
+
+base_met : (m : Model) (s : PlainState) (i : ℕ) (b : BaseCase) (met : SpotFault) → ComesTo m s i → slice_get m.base_cases i ≡ Some b → case_at m s i b ≡ Err met → base_at m s ≡ Err met
+base_met m s i b met comes there fault =
+    let at : 0 + i ≡ i = zero-add i in
+    rw ((allowed_found m s).1 comes.0) (met_here m s m.base_cases 0 i None b comes.1.0 met comes.1.1 there (rw at fault))
+
+-- a place holds one case
+one_case : (m : Model) (i : ℕ) (b c : BaseCase) → slice_get m.base_cases i ≡ Some b → slice_get m.base_cases i ≡ Some c → c ≡ b
+one_case m i b c there other = let same : Some c ≡ Some b = sym other ∙ there in cc
+
+pub condition_met : ConditionMet
+condition_met m prune cost s i j kind meets =
+    let comes = meets.0.0 in
+    let holds = meets.0.1 in
+    let fault = meets.1 in
+    let same = one_case m i fault.0 holds.0 fault.2 holds.1 in
+    let before : all_true m s [] (take j fault.0.conditions) ≡ Ok true = subst (λ (b : BaseCase). all_true m s [] (take j b.conditions) ≡ Ok true) same holds.2 in
+    let test = test_met m s (BaseConditions i) [] fault.0.conditions 0 j j fault.1 kind (zero-add j) before fault.3 fault.4 in
+    base_met m s i fault.0 (record { spot = spots.BaseCondition i j; kind = kind }) comes fault.2 (rw test refl)
+
+pub base_cost_met : BaseCostMet
+base_cost_met m prune cost s i kind meets =
+    let comes = meets.0.0 in
+    let holds = meets.0.1 in
+    let fault = meets.1 in
+    let same = one_case m i fault.0 holds.0 fault.1 holds.1 in
+    let whole : all_true m s [] fault.0.conditions ≡ Ok true = subst (λ (b : BaseCase). all_true m s [] b.conditions ≡ Ok true) same holds.2 in
+    let held = from_value (all_at m s (BaseConditions i) [] 0 fault.0.conditions) true (all_values m s (BaseConditions i) [] 0 fault.0.conditions ∙ whole) in
+    base_met m s i fault.0 (record { spot = spots.BaseCost i; kind = kind }) comes fault.1 (rw (held, fault.2) refl)

@@ -2,9 +2,9 @@
 use Rattle.std.proofs.Common.{◌≡◌, ℕ, zero, suc, ◌+◌, Bool, true, false, [], Ok, Err, ap, sym, ◌∙◌, zero-add}
 use Rattle.spot_eval.specs.Looks.{all_at, allowed_at, spot_of}
 use Rattle.spot_eval.specs.declared.tests.Tests.TheVariants.{Constraints}
-use Rattle.visit_laws.specs.Constraints.{AllowedFound, ForbiddenFound, ConstraintFaults}
+use Rattle.visit_laws.specs.Constraints.{AllowedFound, ForbiddenFound, ConstraintFaults, ConstraintMet}
 use Rattle.visit_laws.proofs.Spots.{from_value, to_value}
-use Rattle.visit_laws.proofs.Tests.{all_values, first_fault}
+use Rattle.visit_laws.proofs.Tests.{all_values, first_fault, test_met}
 
 pub allowed_found : AllowedFound
 allowed_found m s =
@@ -21,3 +21,8 @@ constraint_faults m prune cost s met e =
     let f = first_fault m s Constraints [] m.constraints 0 met e in
     let at : met.spot ≡ spot_of Constraints f.place = f.spot ∙ ap (spot_of Constraints) (zero-add f.place) in
     rw at (f.before, (f.test, f.there, f.fault))
+
+pub constraint_met : ConstraintMet
+constraint_met m prune cost s i kind meets =
+    let fault = meets.1 in
+    test_met m s Constraints [] m.constraints 0 i i fault.0 kind (zero-add i) meets.0 fault.1 fault.2

@@ -15,15 +15,15 @@ use Rattle.dp_steps.specs.Bounds.{IsBounded, IsFloor, IsTightest, has_floors, va
 use Rattle.dp_steps.specs.Faults.{HasValue, MeetsIn}
 use Rattle.spot_eval.specs.Answers.{at_spot}
 use Rattle.spot_eval.specs.declared.ends.SpotFault.{SpotFault}
-use Rattle.spot_eval.specs.Looks.{allowed_at, best_case, floor_at, floor_of, looked_at, open_or_base, tightest_at, with_better}
+use Rattle.spot_eval.specs.Looks.{allowed_at, base_at, best_case, floor_at, floor_of, looked_at, open_or_base, tightest_at, with_better}
 use Rattle.spot_eval.specs.declared.looks.Look.{Look}
 use Rattle.spot_eval.specs.declared.looks.Look.TheVariants as looks
-use Rattle.visit_laws.specs.Looks.{FloorFaults, FloorFound, LookFaults, LookedBase, LookedForbidden, LookedOpen}
-use Rattle.visit_laws.proofs.Spots.{without_spot, from_value, to_value, fault_there}
+use Rattle.visit_laws.specs.Looks.{BoundMet, FloorFaults, FloorFound, LookFaults, LookMet, LookedBase, LookedForbidden, LookedOpen}
+use Rattle.visit_laws.proofs.Spots.{without_spot, from_value, to_value, fault_there, two_values}
 use Rattle.visit_laws.proofs.Best.{best_over, over_number}
 use Rattle.visit_laws.proofs.Costs.{join_some}
-use Rattle.visit_laws.proofs.Constraints.{allowed_found, constraint_faults, forbidden_found}
-use Rattle.visit_laws.proofs.BaseCases.{base_best, best_met, inner_best, is_base, is_inner}
+use Rattle.visit_laws.proofs.Constraints.{allowed_found, constraint_faults, constraint_met, forbidden_found}
+use Rattle.visit_laws.proofs.BaseCases.{base_best, base_cost_met, best_met, condition_met, inner_best, is_base, is_inner}
 
 -- ---- the tightest bound
 
@@ -138,6 +138,24 @@ floor_faults m true cost s met inner e =
     rw at ((inner, refl, f.before), (f.bound, f.there, f.fault))
 floor_faults m false cost s met inner e = absurd (cc)
 
+-- the bounds before one have values, and it meets a fault
+bound_here : (m : Model) (s : PlainState) (es : List Num) (i k j : ℕ) (best : Option ℤ) (e : Num) (values : List ℤ) (kind : FaultKind) → i + k ≡ j → values_of m s (take k es) ≡ Ok values → slice_get es k ≡ Some e → num_value m s e [] ≡ Err kind → tightest_at m s i best es ≡ Err (record { spot = spots.Bound j; kind = kind })
+bound_here m s [] i k j best e values kind at before there fault = absurd (cc)
+bound_here m s (x ∷ xs) i zero j best e values kind at before there fault =
+    let same : x ≡ e = cc in
+    let place : i ≡ j = omega arith in
+    rw (same, fault, place) refl
+bound_here m s (x ∷ xs) i (suc k) j best e values kind at before there fault =
+    let both = two_values (num_value m s x []) (values_of m s (take k xs)) (λ (b : ℤ) (bs : List ℤ). b ∷ bs) values before in
+    rw both.2 (bound_here m s xs (i + 1) k j (with_better (not m.minimize) best (Some both.0)) e both.1 kind (omega arith) both.3 there fault)
+
+pub bound_met : BoundMet
+bound_met m prune cost s i kind meets =
+    let reached = meets.0 in
+    let fault = meets.1 in
+    let bound = bound_here m s m.bounds 0 i i None fault.0 reached.2.0 kind (zero-add i) reached.2.1 fault.1 fault.2 in
+    rw (reached.1, bound) refl
+
 -- ---- what a state is found to be
 
 -- where this is found, the state is so
@@ -180,3 +198,24 @@ looked_open m prune s cost floor =
 
 pub look_faults : LookFaults
 look_faults m prune cost s met e = at_look m prune s cost (Err met) e
+
+-- a fault of the base cases is found on the way, where the state is allowed
+past_base : (m : Model) (prune : Bool) (s : PlainState) (cost : Option ℤ) (met : SpotFault) → Allowed m s → base_at m s ≡ Err met → looked_at m prune s cost ≡ Err met
+past_base m prune s cost met allowed e =
+    let found = (allowed_found m s).1 allowed in
+    let best : best_case m s 0 None m.base_cases ≡ Err met = rw found at e in
+    rw (found, best) refl
+
+pub look_met : LookMet
+look_met m prune cost s (spots.Constraint i) kind is meets = rw (constraint_met m prune cost s i kind meets) refl
+look_met m prune cost s (spots.BaseCondition i j) kind is meets =
+    past_base m prune s cost (record { spot = spots.BaseCondition i j; kind = kind }) meets.0.0.0 (condition_met m prune cost s i j kind meets)
+look_met m prune cost s (spots.BaseCost i) kind is meets =
+    past_base m prune s cost (record { spot = spots.BaseCost i; kind = kind }) meets.0.0.0 (base_cost_met m prune cost s i kind meets)
+look_met m prune cost s (spots.Bound i) kind is meets =
+    rw ((allowed_found m s).1 meets.0.0.allowed, inner_best m s meets.0.0, bound_met m prune cost s i kind meets) refl
+look_met m prune cost s spots.Total kind is meets = absurd (false≢true is)
+look_met m prune cost s (spots.Precondition g j) kind is meets = absurd (false≢true is)
+look_met m prune cost s (spots.Weight g) kind is meets = absurd (false≢true is)
+look_met m prune cost s (spots.Cost g) kind is meets = absurd (false≢true is)
+look_met m prune cost s (spots.Effect g i) kind is meets = absurd (false≢true is)

@@ -34,3 +34,9 @@ fault_there spot (Err kind) met e =
 pub bind_assoc : {A B C E : Type 0} (r : Result A E) (f : A → Result B E) (g : B → Result C E) → ((r >>= f) >>= g) ≡ (r >>= λ x. f x >>= g)
 bind_assoc (Ok x) f g = refl
 bind_assoc (Err e) f g = refl
+
+-- the parts of two steps that have a value
+pub two_values : {A B C E : Type 0} (r : Result A E) (q : Result B E) (f : A → B → C) (z : C) → (r >>= λ x. q >>= λ y. Ok (f x y)) ≡ Ok z → (x : A) × (y : B) × (r ≡ Ok x) × (q ≡ Ok y)
+two_values (Ok x) (Ok y) f z e = (x, y, refl, refl)
+two_values (Ok x) (Err k) f z e = absurd (cc)
+two_values (Err k) q f z e = absurd (cc)

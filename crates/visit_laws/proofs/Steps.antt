@@ -16,8 +16,8 @@ use Rattle.dp_steps.specs.Faults.{HasValue, MayStep, MeetsIn}
 use Rattle.spot_eval.specs.Answers.{at_spot}
 use Rattle.spot_eval.specs.declared.ends.SpotFault.{SpotFault}
 use Rattle.spot_eval.specs.Moves.{cost_at, effects_at, joined_at, next_at}
-use Rattle.visit_laws.specs.Steps.{CostFaults, CostFound, EffectFaults, NextFound, StepFound, StepMade}
-use Rattle.visit_laws.proofs.Spots.{without_spot, from_value, to_value, fault_there}
+use Rattle.visit_laws.specs.Steps.{CostFaults, CostFound, CostMet, EffectFaults, EffectMet, NextFound, StepFound, StepMade, WeightMet}
+use Rattle.visit_laws.proofs.Spots.{without_spot, from_value, to_value, fault_there, two_values}
 use Rattle.visit_laws.proofs.Costs.{join_none, join_some, ranged_value, value_ranged}
 
 -- ---- the cost so far
@@ -137,6 +137,17 @@ effect_faults m prune cost s g t joined met range may there found e =
     let in_range : IfSome (join m.join cost joins.0) InRange = subst (λ (c : Option ℤ). IfSome c InRange) joins.2 joins.3 in
     rw at ((may, (t, joins.0, there, joins.1, in_range, f.before)), (t, f.effect, there, f.there, f.fault))
 
+-- the effects before one have values, and it meets a fault
+effect_here : (m : Model) (s : PlainState) (g : ℕ) (given : List ℕ) (es : List Effect) (i k j : ℕ) (e : Effect) (changes : List (ℕ × PlainValue)) (kind : FaultKind) → i + k ≡ j → in_turn (effect_value m s given) (take k es) ≡ Ok changes → slice_get es k ≡ Some e → effect_value m s given e ≡ Err kind → effects_at m s g given i es ≡ Err (record { spot = spots.Effect g j; kind = kind })
+effect_here m s g given [] i k j e changes kind at before there fault = absurd (cc)
+effect_here m s g given (x ∷ xs) i zero j e changes kind at before there fault =
+    let same : x ≡ e = cc in
+    let place : i ≡ j = omega arith in
+    rw (same, fault, place) refl
+effect_here m s g given (x ∷ xs) i (suc k) j e changes kind at before there fault =
+    let both = two_values (effect_value m s given x) (in_turn (effect_value m s given) (take k xs)) (λ (c : ℕ × PlainValue) (cs : List (ℕ × PlainValue)). c ∷ cs) changes before in
+    rw (both.2, effect_here m s g given xs (i + 1) k j e both.1 kind (omega arith) both.3 there fault) refl
+
 -- ---- steps
 
 -- a number names one ground transition
@@ -155,3 +166,30 @@ step_made m s cost g t weight next range step there in_range =
     let weighs : weight_of m s t ≡ Ok weight = subst (λ (u : Transition × List ℕ). weight_of m s u ≡ Ok weight) same step.move.3 in
     let leads : next_state m s t ≡ Ok next = subst (λ (u : Transition × List ℕ). next_state m s u ≡ Ok next) same step.move.4 in
     ((cost_found m s cost g t (join m.join cost weight) range).1 (weight, weighs, refl, in_range), (next_found m s g t next).1 leads)
+
+-- ---- each fault that is met is found
+
+pub weight_met : WeightMet
+weight_met m prune cost s g t kind there meets =
+    let fault = meets.1 in
+    let same = same_ground m g t fault.0 there fault.1 in
+    let weight : weight_of m s t ≡ Err kind = subst (λ (u : Transition × List ℕ). weight_of m s u ≡ Err kind) same fault.2 in
+    rw weight refl
+
+pub joined_met : CostMet
+joined_met m prune cost s g t kind there meets =
+    let fault = meets.1 in
+    let same = same_ground m g t fault.0 there fault.2 in
+    let weight : weight_of m s t ≡ Ok (Some fault.1) = subst (λ (u : Transition × List ℕ). weight_of m s u ≡ Ok (Some fault.1)) same fault.3 in
+    rw (weight, fault.4) refl
+
+pub effect_met : EffectMet
+effect_met m prune cost s g i t kind there meets =
+    let changes = meets.0.1 in
+    let fault = meets.1 in
+    let same = same_ground m g t fault.0 there fault.2 in
+    let other = same_ground m g t changes.0 there changes.2 in
+    let before : HasValue (in_turn (effect_value m s t.1) (take i t.0.effects)) = subst (λ (u : Transition × List ℕ). HasValue (in_turn (effect_value m s u.1) (take i u.0.effects))) other changes.5 in
+    let here : slice_get t.0.effects i ≡ Some fault.1 = subst (λ (u : Transition × List ℕ). slice_get u.0.effects i ≡ Some fault.1) same fault.3 in
+    let value : effect_value m s t.1 fault.1 ≡ Err kind = subst (λ (u : Transition × List ℕ). effect_value m s u.1 fault.1 ≡ Err kind) same fault.4 in
+    rw (effect_here m s g t.1 t.0.effects 0 i i fault.1 before.0 kind (zero-add i) before.1 here value) refl

@@ -48,3 +48,18 @@ module _ (m : Model) (s : PlainState) (tests : Tests) (given : List ℕ) where
   pub first_fault : (cs : List Cond) (i : ℕ) (met : SpotFault) → all_at m s tests given i cs ≡ Err met → FirstFault m s tests given i cs met
   first_fault [] i met e = absurd (cc)
   first_fault (c ∷ cs) i met e = fault_step c cs i met (cond_value m s c given) refl (first_fault cs (i + 1) met) e
+
+  met_step : (c : Cond) (cs before : List Cond) (i : ℕ) (met : SpotFault) (r : Result Bool FaultKind) → cond_value m s c given ≡ r → (r >>= λ held. if held then all_true m s given before else Ok false) ≡ Ok true → (all_true m s given before ≡ Ok true → all_at m s tests given (i + 1) cs ≡ Err met) → all_at m s tests given i (c ∷ cs) ≡ Err met
+  met_step c cs before i met (Ok true) q e rest = rw q (rest e)
+  met_step c cs before i met (Ok false) q e rest = absurd (cc)
+  met_step c cs before i met (Err kind) q e rest = absurd (cc)
+
+  -- the first fault of tests is the one that is found
+  pub test_met : (cs : List Cond) (i k j : ℕ) (c : Cond) (kind : FaultKind) → i + k ≡ j → all_true m s given (take k cs) ≡ Ok true → slice_get cs k ≡ Some c → cond_value m s c given ≡ Err kind → all_at m s tests given i cs ≡ Err (record { spot = spot_of tests j; kind = kind })
+  test_met [] i k j c kind at held there fault = absurd (cc)
+  test_met (x ∷ xs) i zero j c kind at held there fault =
+      let same : x ≡ c = cc in
+      let place : i ≡ j = omega arith in
+      rw (same, fault, place) refl
+  test_met (x ∷ xs) i (suc k) j c kind at held there fault =
+      met_step x xs (take k xs) i (record { spot = spot_of tests j; kind = kind }) (cond_value m s x given) refl held (λ before. test_met xs (i + 1) k j c kind (omega arith) before there fault)

@@ -18,9 +18,9 @@ use Rattle.spot_eval.specs.declared.ends.SpotFault.{SpotFault}
 use Rattle.spot_eval.specs.Looks.{all_at, spot_of}
 use Rattle.spot_eval.specs.Moves.{enabled_at, first_enabled, forced_of, goes_before, is_forced, may_step_at, named_enabled, named_forced, number_enabled}
 use Rattle.spot_eval.specs.declared.tests.Tests.TheVariants.{Preconditions}
-use Rattle.visit_laws.specs.Transitions.{EnabledFaults, EnabledFound, ForcedAlone, ForcedFaults, ForcedFound, MayStepFaults, MayStepFound, NoneForced}
+use Rattle.visit_laws.specs.Transitions.{EnabledFaults, EnabledFound, ForcedAlone, ForcedFaults, ForcedFound, MayStepFaults, MayStepFound, NoneForced, PreconditionMet}
 use Rattle.visit_laws.proofs.Spots.{without_spot, from_value, to_value, fault_there}
-use Rattle.visit_laws.proofs.Tests.{all_values, first_fault}
+use Rattle.visit_laws.proofs.Tests.{all_values, first_fault, test_met}
 
 -- ---- one transition
 
@@ -232,6 +232,22 @@ step_met m prune cost s g met (Err other) q told inner e =
 
 pub may_step_faults : MayStepFaults
 may_step_faults m prune cost s g met inner e = step_met m prune cost s g met (first_enabled m s (filter (goes_before m g) (forced_of m))) refl (before_told m s g) inner e
+
+pub precondition_found : PreconditionMet
+precondition_found m prune cost s g j kind meets =
+    let considered = meets.0.1 in
+    let admits = meets.0.2 in
+    let fault = meets.1 in
+    let there = fault.2 in
+    let same : Some admits.0 ≡ Some fault.0 = sym admits.1 ∙ there in
+    let one : admits.0 ≡ fault.0 = cc in
+    let members : are_members s fault.0.0.params fault.0.1 ≡ true = subst (λ (t : Transition × List ℕ). are_members s t.0.params t.1 ≡ true) one admits.2 in
+    let before : all_true m s fault.0.1 (take j fault.0.0.preconditions) ≡ Ok true = subst (λ (t : Transition × List ℕ). all_true m s t.1 (take j t.0.preconditions) ≡ Ok true) one admits.3 in
+    let test = test_met m s (Preconditions g) fault.0.1 fault.0.0.preconditions 0 j j fault.1 kind (zero-add j) before fault.3 fault.4 in
+    let found : enabled_at m s g fault.0 ≡ Err (record { spot = spot_of (Preconditions g) j; kind = kind }) = rw (members, test) refl in
+    let number = number_there m s g fault.0 there ∙ found in
+    let none = none_told m s (is_before m g) (length m.dp_ground) (first_enabled m s (filter (goes_before m g) (forced_of m))) (before_told m s g) (none_considered m s g considered) in
+    (number, rw none number)
 
 -- ---- the forced transitions
 

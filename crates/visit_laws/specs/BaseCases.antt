@@ -1,5 +1,7 @@
 -- What is found of the base cases of a state.
-use Rattle.std.specs.Prelude.{◌≡◌, ◌↔◌, Bool, Option, Some, None, Ok, Err, ℤ}
+use Rattle.std.specs.Prelude.{◌≡◌, ◌↔◌, ℕ, Bool, Option, Some, None, Ok, Err, ℤ}
+use Rattle.dp_model.specs.declared.answers.FaultKind.{FaultKind}
+use Rattle.dp_model.specs.declared.answers.Spot.TheVariants as spots
 use Rattle.dp_model.specs.declared.parts.PlainState.{PlainState}
 use Rattle.dp_model.specs.declared.whole.Model.{Model}
 use Rattle.dp_steps.specs.States.{Allowed, Base, Inner}
@@ -18,3 +20,11 @@ InnerFound = (m : Model) (s : PlainState) → Allowed m s → (base_at m s ≡ O
 -- A fault that is found is met in the state, at the spot that is told, with pruning on or off and at any cost so far.
 abbrev pub BaseFaults : Type 0
 BaseFaults = (m : Model) (prune : Bool) (cost : Option ℤ) (s : PlainState) (met : SpotFault) → base_at m s ≡ Err met → MeetsIn m prune cost s met.spot met.kind
+
+-- A fault of a base case's condition that is met in the state is the one that is found,
+abbrev pub ConditionMet : Type 0
+ConditionMet = (m : Model) (prune : Bool) (cost : Option ℤ) (s : PlainState) (i j : ℕ) (kind : FaultKind) → MeetsIn m prune cost s (spots.BaseCondition i j) kind → base_at m s ≡ Err (record { spot = spots.BaseCondition i j; kind = kind })
+
+-- and so is one of a base case's cost.
+abbrev pub BaseCostMet : Type 0
+BaseCostMet = (m : Model) (prune : Bool) (cost : Option ℤ) (s : PlainState) (i : ℕ) (kind : FaultKind) → MeetsIn m prune cost s (spots.BaseCost i) kind → base_at m s ≡ Err (record { spot = spots.BaseCost i; kind = kind })

@@ -1,5 +1,7 @@
 -- What is found of the constraints of a state.
-use Rattle.std.specs.Prelude.{◌≡◌, ◌↔◌, Bool, true, false, Option, Ok, Err, ℤ}
+use Rattle.std.specs.Prelude.{◌≡◌, ◌↔◌, ℕ, Bool, true, false, Option, Ok, Err, ℤ}
+use Rattle.dp_model.specs.declared.answers.FaultKind.{FaultKind}
+use Rattle.dp_model.specs.declared.answers.Spot.TheVariants as spots
 use Rattle.dp_model.specs.declared.parts.PlainState.{PlainState}
 use Rattle.dp_model.specs.declared.whole.Model.{Model}
 use Rattle.dp_steps.specs.States.{Allowed, Forbidden}
@@ -18,3 +20,7 @@ ForbiddenFound = (m : Model) (s : PlainState) → (allowed_at m s ≡ Ok false) 
 -- A fault that is found is met in the state, at the spot that is told, with pruning on or off and at any cost so far.
 abbrev pub ConstraintFaults : Type 0
 ConstraintFaults = (m : Model) (prune : Bool) (cost : Option ℤ) (s : PlainState) (met : SpotFault) → allowed_at m s ≡ Err met → MeetsIn m prune cost s met.spot met.kind
+
+-- A fault of a constraint that is met in the state is the one that is found.
+abbrev pub ConstraintMet : Type 0
+ConstraintMet = (m : Model) (prune : Bool) (cost : Option ℤ) (s : PlainState) (i : ℕ) (kind : FaultKind) → MeetsIn m prune cost s (spots.Constraint i) kind → allowed_at m s ≡ Err (record { spot = spots.Constraint i; kind = kind })

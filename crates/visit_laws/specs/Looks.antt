@@ -1,5 +1,8 @@
 -- What is found of the floor of a state, and what a state is found to be.
-use Rattle.std.specs.Prelude.{◌≡◌, ◌↔◌, Bool, Option, Ok, Err, ℤ}
+use Rattle.std.specs.Prelude.{◌≡◌, ◌↔◌, ℕ, Bool, true, false, Option, Ok, Err, ℤ}
+use Rattle.dp_model.specs.declared.answers.FaultKind.{FaultKind}
+use Rattle.dp_model.specs.declared.answers.Spot.{Spot}
+use Rattle.dp_model.specs.declared.answers.Spot.TheVariants as spots
 use Rattle.dp_model.specs.declared.parts.PlainState.{PlainState}
 use Rattle.dp_model.specs.declared.whole.Model.{Model}
 use Rattle.dp_steps.specs.States.{Base, Forbidden, Inner}
@@ -18,6 +21,10 @@ FloorFound = (m : Model) (prune : Bool) (s : PlainState) (cost floor : Option �
 abbrev pub FloorFaults : Type 0
 FloorFaults = (m : Model) (prune : Bool) (cost : Option ℤ) (s : PlainState) (met : SpotFault) → Inner m s → floor_at m prune s cost ≡ Err met → MeetsIn m prune cost s met.spot met.kind
 
+-- A fault of a dual bound that is met in the state is the one that is found.
+abbrev pub BoundMet : Type 0
+BoundMet = (m : Model) (prune : Bool) (cost : Option ℤ) (s : PlainState) (i : ℕ) (kind : FaultKind) → MeetsIn m prune cost s (spots.Bound i) kind → floor_at m prune s cost ≡ Err (record { spot = spots.Bound i; kind = kind })
+
 -- A state is found not to be allowed exactly where it is forbidden,
 abbrev pub LookedForbidden : Type 0
 LookedForbidden = (m : Model) (prune : Bool) (s : PlainState) (cost : Option ℤ) → (looked_at m prune s cost ≡ Ok looks.NotAllowed) ↔ Forbidden m s
@@ -33,3 +40,19 @@ LookedOpen = (m : Model) (prune : Bool) (s : PlainState) (cost floor : Option �
 -- A fault that is found on the way is met in the state, at the spot that is told.
 abbrev pub LookFaults : Type 0
 LookFaults = (m : Model) (prune : Bool) (cost : Option ℤ) (s : PlainState) (met : SpotFault) → looked_at m prune s cost ≡ Err met → MeetsIn m prune cost s met.spot met.kind
+
+-- the spots of constraints, base cases and dual bounds, which are evaluated when a state is looked at
+abbrev pub is_looked : Spot → Bool
+is_looked (spots.Constraint i) = true
+is_looked (spots.BaseCondition i j) = true
+is_looked (spots.BaseCost i) = true
+is_looked (spots.Bound i) = true
+is_looked spots.Total = false
+is_looked (spots.Precondition g j) = false
+is_looked (spots.Weight g) = false
+is_looked (spots.Cost g) = false
+is_looked (spots.Effect g i) = false
+
+-- A fault at one of these spots that is met in the state is the one that is found.
+abbrev pub LookMet : Type 0
+LookMet = (m : Model) (prune : Bool) (cost : Option ℤ) (s : PlainState) (spot : Spot) (kind : FaultKind) → is_looked spot ≡ true → MeetsIn m prune cost s spot kind → looked_at m prune s cost ≡ Err (record { spot = spot; kind = kind })

@@ -2,6 +2,8 @@
 use Rattle.std.specs.Prelude.{◌≡◌, ◌↔◌, ℕ, Bool, List, Option, Some, Ok, Err, IfSome, ℤ}
 use Rattle.dp_model.specs.Costs.{InRange, join}
 use Rattle.dp_model.specs.StepTexts.{ground_of}
+use Rattle.dp_model.specs.declared.answers.FaultKind.{FaultKind}
+use Rattle.dp_model.specs.declared.answers.Spot.TheVariants as spots
 use Rattle.dp_model.specs.declared.parts.Transition.{Transition}
 use Rattle.dp_model.specs.declared.parts.PlainState.{PlainState}
 use Rattle.dp_model.specs.declared.whole.Model.{Model}
@@ -48,3 +50,21 @@ abbrev pub EffectFaults : Type 0
 EffectFaults =
     (m : Model) (prune : Bool) (cost : Option ℤ) (s : PlainState) (g : ℕ) (t : Transition × List ℕ) (joined : Option ℤ) (met : SpotFault) → IfSome cost InRange
     → MayStep m s g → ground_of m g ≡ Some t → cost_at m s cost g t ≡ Ok joined → next_at m s g t ≡ Err met → MeetsIn m prune cost s met.spot met.kind
+
+-- A fault of a transition's weight that is met in the state is the one that is found,
+abbrev pub WeightMet : Type 0
+WeightMet =
+    (m : Model) (prune : Bool) (cost : Option ℤ) (s : PlainState) (g : ℕ) (t : Transition × List ℕ) (kind : FaultKind) → ground_of m g ≡ Some t
+    → MeetsIn m prune cost s (spots.Weight g) kind → cost_at m s cost g t ≡ Err (record { spot = spots.Weight g; kind = kind })
+
+-- so is one of the joined cost,
+abbrev pub CostMet : Type 0
+CostMet =
+    (m : Model) (prune : Bool) (cost : Option ℤ) (s : PlainState) (g : ℕ) (t : Transition × List ℕ) (kind : FaultKind) → ground_of m g ≡ Some t
+    → MeetsIn m prune cost s (spots.Cost g) kind → cost_at m s cost g t ≡ Err (record { spot = spots.Cost g; kind = kind })
+
+-- and so is one of an effect.
+abbrev pub EffectMet : Type 0
+EffectMet =
+    (m : Model) (prune : Bool) (cost : Option ℤ) (s : PlainState) (g i : ℕ) (t : Transition × List ℕ) (kind : FaultKind) → ground_of m g ≡ Some t
+    → MeetsIn m prune cost s (spots.Effect g i) kind → next_at m s g t ≡ Err (record { spot = spots.Effect g i; kind = kind })

@@ -1,5 +1,7 @@
 -- Which transitions are found to be enabled and considered in a state.
 use Rattle.std.specs.Prelude.{◌≡◌, ◌↔◌, ℕ, Bool, true, Option, Some, None, Ok, Err, ℤ}
+use Rattle.dp_model.specs.declared.answers.FaultKind.{FaultKind}
+use Rattle.dp_model.specs.declared.answers.Spot.TheVariants as spots
 use Rattle.dp_model.specs.declared.parts.PlainState.{PlainState}
 use Rattle.dp_model.specs.declared.whole.Model.{Model}
 use Rattle.dp_steps.specs.States.{Considered, Enabled, Inner, IsForced}
@@ -23,6 +25,12 @@ EnabledFound = (m : Model) (s : PlainState) (g : ℕ) → (number_enabled m s g 
 -- A fault of a considered transition's preconditions is met in an inner state, at the spot that is told.
 abbrev pub EnabledFaults : Type 0
 EnabledFaults = (m : Model) (prune : Bool) (cost : Option ℤ) (s : PlainState) (g : ℕ) (met : SpotFault) → Inner m s → Considered m s g → number_enabled m s g ≡ Err met → MeetsIn m prune cost s met.spot met.kind
+
+-- A fault of a transition's precondition that is met in the state is the one that is found of the transition.
+abbrev pub PreconditionMet : Type 0
+PreconditionMet =
+    (m : Model) (prune : Bool) (cost : Option ℤ) (s : PlainState) (g j : ℕ) (kind : FaultKind) → MeetsIn m prune cost s (spots.Precondition g j) kind
+    → (number_enabled m s g ≡ Err (record { spot = spots.Precondition g j; kind = kind })) × (may_step_at m s g ≡ Err (record { spot = spots.Precondition g j; kind = kind }))
 
 -- The first enabled one of the forced transitions is considered and enabled.
 abbrev pub ForcedFound : Type 0

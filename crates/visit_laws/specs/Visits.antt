@@ -1,9 +1,15 @@
 -- What is found of a visit of an inner state, at a cost so far in range.
-use Rattle.std.specs.Prelude.{◌≡◌, ℕ, ◌⊎◌, List, map, Ok, Err, IfSome, ℤ}
+use Rattle.std.specs.Prelude.{◌≡◌, ℕ, Bool, true, false, ◌⊎◌, List, map, Option, Ok, Err, IfSome, ℤ}
 use Rattle.std.specs.List.Sorted.{IsStrictlyIncreasing}
-use Rattle.dp_model.specs.Costs.{InRange}
+use Rattle.dp_model.specs.Costs.{InRange, join}
+use Rattle.dp_model.specs.declared.answers.FaultKind.{FaultKind}
+use Rattle.dp_model.specs.declared.answers.Spot.{Spot}
+use Rattle.dp_model.specs.declared.answers.Spot.TheVariants as spots
+use Rattle.dp_model.specs.declared.parts.PlainState.{PlainState}
 use Rattle.dp_model.specs.declared.whole.Model.{Model}
-use Rattle.dp_steps.specs.States.{Considered, Enabled, Inner}
+use Rattle.dp_steps.specs.States.{Considered, Enabled, Inner, Step}
+use Rattle.dp_steps.specs.Bounds.{IsFloor}
+use Rattle.dp_steps.specs.Faults.{MeetsIn}
 use Rattle.dp_claims.specs.Enough.{Has}
 use Rattle.state_layout.specs.declared.node.Node.{Node}
 use Rattle.successors.specs.Answers.{Met}
@@ -19,6 +25,32 @@ FatesFound = (m : Model) (v : Visit) (batch : Batch) → Inner m v.state → IfS
 -- A fault is met in the visited state, or in the state that the transition leads to which is told with it.
 abbrev pub VisitFaults : Type 0
 VisitFaults = (m : Model) (v : Visit) (met : Met) → Inner m v.state → IfSome v.cost InRange → expansion m v ≡ Err met → MeetsAfter m v met.last met
+
+-- A fault at this spot may be met in a state that was looked at: none of the constraints, base cases and dual bounds, nor
+-- of a total.
+abbrev pub is_later : Spot → Bool
+is_later (spots.Constraint i) = false
+is_later (spots.BaseCondition i j) = false
+is_later (spots.BaseCost i) = false
+is_later (spots.Bound i) = false
+is_later spots.Total = false
+is_later (spots.Precondition g j) = true
+is_later (spots.Weight g) = true
+is_later (spots.Cost g) = true
+is_later (spots.Effect g i) = true
+
+-- Where a batch is found of an inner state that has a floor, or none, without a fault, no fault at all is met in the
+-- state. In the states that steps lead to, none is met at the spots that are evaluated there.
+pub record PassesNone (m : Model) (v : Visit) : Type 0 where
+  pub here : (spot : Spot) (kind : FaultKind) → MeetsIn m v.prune v.cost v.state spot kind → ⊥
+  pub after :
+    (g : ℕ) (weight : Option ℤ) (next : PlainState) → Step m v.state g weight next
+    → (spot : Spot) (kind : FaultKind) → is_later spot ≡ false → MeetsIn m v.prune (join m.join v.cost weight) next spot kind → ⊥
+
+abbrev pub NoFaultPassed : Type 0
+NoFaultPassed =
+    (m : Model) (v : Visit) (batch : Batch) (floor : Option ℤ) → Inner m v.state → IfSome v.cost InRange → IsFloor m v.prune v.state v.cost floor
+    → expansion m v ≡ Ok batch → PassesNone m v
 
 -- ---- the same, kind by kind
 
