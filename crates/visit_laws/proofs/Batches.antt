@@ -196,7 +196,7 @@ batch_found m v batch inner range e =
 
 -- ---- one fate
 
-same_next : (m : Model) (s : PlainState) (g : ℕ) (w w' : Option ℤ) (next next' : PlainState) → Step m s g w next → Step m s g w' next' → (w ≡ w') × (next ≡ next')
+pub same_next : (m : Model) (s : PlainState) (g : ℕ) (w w' : Option ℤ) (next next' : PlainState) → Step m s g w next → Step m s g w' next' → (w ≡ w') × (next ≡ next')
 same_next m s g w w' next next' a b =
     let t = a.move.0 in
     let same = same_ground m g t b.move.0 a.move.1 b.move.1 in
@@ -206,19 +206,19 @@ same_next m s g w w' next next' a b =
     let states : Ok next ≡ Ok next' = sym a.move.4 ∙ leads in
     (cc, cc)
 
-not_both : (m : Model) (s s' : PlainState) → s ≡ s' → Forbidden m s → Allowed m s' → ⊥
+pub not_both : (m : Model) (s s' : PlainState) → s ≡ s' → Forbidden m s → Allowed m s' → ⊥
 not_both m s s' same forbidden allowed =
     let at : Allowed m s = subst (λ (x : PlainState). Allowed m x) (sym same) allowed in
     let clash : Ok false ≡ Ok true = sym forbidden ∙ at in
     cc
 
-not_inner : (m : Model) (s s' : PlainState) (base : ℤ) → s ≡ s' → Base m s base → Inner m s' → ⊥
+pub not_inner : (m : Model) (s s' : PlainState) (base : ℤ) → s ≡ s' → Base m s base → Inner m s' → ⊥
 not_inner m s s' base same is inner =
     let at : Inner m s = subst (λ (x : PlainState). Inner m x) (sym same) inner in
     let clash : Ok (Some base) ≡ Ok None = sym (base_best m s base is) ∙ inner_best m s at in
     cc
 
-same_base : (m : Model) (s s' : PlainState) (a b : ℤ) → s ≡ s' → Base m s a → Base m s' b → a ≡ b
+pub same_base : (m : Model) (s s' : PlainState) (a b : ℤ) → s ≡ s' → Base m s a → Base m s' b → a ≡ b
 same_base m s s' a b same is is' =
     let at : Base m s b = subst (λ (x : PlainState). Base m x b) (sym same) is' in
     let clash : Ok (Some a) ≡ Ok (Some b) = sym (base_best m s a is) ∙ base_best m s b at in

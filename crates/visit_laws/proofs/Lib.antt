@@ -10,3 +10,4 @@ pub mod Steps
 pub mod Rising
 pub mod Visits
 pub mod Batches
+pub mod Passes

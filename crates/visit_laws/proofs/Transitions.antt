@@ -256,8 +256,20 @@ forced_found m s f e =
     let first : Told m s (is_forced m) 0 (length m.dp_ground) (Ok (Some f)) = subst (λ (v : Result (Option ℕ) SpotFault). Told m s (is_forced m) 0 (length m.dp_ground) v) e (forced_told m s) in
     (forced_is m f first.0.passes, forced_considered m s f first.0, (enabled_found m s f).0 first.1)
 
+-- each forced one before the first enabled one is found not to be enabled
+pub forced_before : (m : Model) (s : PlainState) (f g : ℕ) → first_enabled m s (forced_of m) ≡ Ok (Some f) → IsForced m g → g < f → number_enabled m s g ≡ Ok false
+forced_before m s f g e forced less =
+    let first : Told m s (is_forced m) 0 (length m.dp_ground) (Ok (Some f)) = subst (λ (v : Result (Option ℕ) SpotFault). Told m s (is_forced m) 0 (length m.dp_ground) v) e (forced_told m s) in
+    first.0.before g (omega arith) less (is_forced_there m g forced)
+
+-- and so is each forced one where none is enabled
+pub none_before : (m : Model) (s : PlainState) (g : ℕ) → first_enabled m s (forced_of m) ≡ Ok None → IsForced m g → number_enabled m s g ≡ Ok false
+none_before m s g e forced =
+    let none : NoneEnabled m s (is_forced m) 0 (length m.dp_ground) = subst (λ (v : Result (Option ℕ) SpotFault). Told m s (is_forced m) 0 (length m.dp_ground) v) e (forced_told m s) in
+    none g (omega arith) (ground_within m g forced.0 forced.1) (is_forced_there m g forced)
+
 -- an enabled forced transition goes before each other one that is not forced, or has a greater number
-alone_at : (m : Model) (s : PlainState) (f g : ℕ) → IsForced m f → Enabled m s f → Considered m s g → (f < g) ⊎ (IsForced m g → ⊥) → ⊥
+pub alone_at : (m : Model) (s : PlainState) (f g : ℕ) → IsForced m f → Enabled m s f → Considered m s g → (f < g) ⊎ (IsForced m g → ⊥) → ⊥
 alone_at m s f g forced enabled considered order =
     let off = is_found m s f forced.0 false forced.1 (considered f forced.0 forced forced.1 order) in
     let on = (enabled_found m s f).1 enabled in

@@ -3,7 +3,7 @@ use Rattle.std.proofs.Common.{◌≡◌, ℕ, zero, suc, ◌+◌, ◌<◌, ◌�
 use Rattle.std.specs.Prelude.{pos, int_le, ◌≤ℤ◌}
 use Rattle.std.specs.List.{range_with_len}
 use Rattle.std.specs.List.Sorted.{IsStrictlyIncreasing}
-use Rattle.std.proofs.lemmas.Bool.{false≢true, cases_lt, not_from_false, false_from_ne_true}
+use Rattle.std.proofs.lemmas.Bool.{false≢true, cases_lt, cases_Bool, cases_order, not_from_false, false_from_ne_true}
 use Rattle.std.proofs.lemmas.Int.{ints}
 use Rattle.dp_base.specs.Results.{◌>>=◌, each}
 use Rattle.dp_model.specs.Costs.{InRange, join, join_onto, order_word, ranged}
@@ -33,7 +33,7 @@ use Rattle.visit_laws.specs.Visits.{FatesFound, VisitFaults}
 use Rattle.visit_laws.proofs.Spots.{fault_there}
 use Rattle.visit_laws.proofs.Costs.{ranged_value}
 use Rattle.visit_laws.proofs.Looks.{Is, looked_is, look_faults}
-use Rattle.visit_laws.proofs.Transitions.{enabled_faults, enabled_found, forced_alone, forced_faults, forced_found, ground_within, none_forced, is_forced_there, forced_is}
+use Rattle.visit_laws.proofs.Transitions.{alone_at, enabled_faults, enabled_found, forced_alone, forced_before, none_before, forced_faults, forced_found, ground_within, none_forced, is_forced_there, forced_is}
 use Rattle.visit_laws.proofs.Rising.{Rises, increasing, rises_sooner}
 use Rattle.visit_laws.proofs.Steps.{cost_faults, effect_faults, step_found}
 
@@ -121,6 +121,10 @@ abbrev pub add_all : Batch → List (ℕ × Fate) → Batch
 add_all batch [] = batch
 add_all batch (x ∷ xs) = add_all (add batch x.0 x.1) xs
 
+-- it is found whether the transition is enabled
+abbrev pub IsTested : Model → Visit → ℕ → Type 0
+IsTested m v g = (b : Bool) × (number_enabled m v.state g ≡ Ok b)
+
 module _ (m : Model) (v : Visit) (p : ℕ → Bool) where
   -- the fates of the enabled ones of the numbers from one on, below another, that pass a test
   pub record Between (from to : ℕ) (fates : List (ℕ × Fate)) : Type 0 where
@@ -128,6 +132,7 @@ module _ (m : Model) (v : Visit) (p : ℕ → Bool) where
     pub stepping : (g : ℕ) (fate : Fate) → Has fates (g, fate) → Enabled m v.state g
     pub fated : (g : ℕ) (fate : Fate) → Has fates (g, fate) → IsFate m v g fate
     pub every : (g : ℕ) → from ≤ g → g < to → p g ≡ true → Enabled m v.state g → (fate : Fate) × Has fates (g, fate)
+    pub tested : (g : ℕ) → from ≤ g → g < to → p g ≡ true → IsTested m v g
 
   -- what is made of them
   abbrev pub Looped : Batch → ℕ → ℕ → Result Batch Met → Type 0
@@ -139,7 +144,8 @@ module _ (m : Model) (v : Visit) (p : ℕ → Bool) where
       ascends = tt;
       stepping = λ g fate there. absurd (let clash : None ≡ Some (g, fate) = there.1 in cc);
       fated = λ g fate there. absurd (let clash : None ≡ Some (g, fate) = there.1 in cc);
-      every = λ g low high passes enabled. absurd (omega arith) }
+      every = λ g low high passes enabled. absurd (omega arith);
+      tested = λ g low high passes. absurd (omega arith) }
 
   every_later : (from to g : ℕ) (fates : List (ℕ × Fate)) → (p from ≡ true → Enabled m v.state from → ⊥) → Between (from + 1) to fates → g < to → p g ≡ true → Enabled m v.state g → (from < g) ⊎ (g ≤ from) → from ≤ g → (fate : Fate) × Has fates (g, fate)
   every_later from to g fates off rest high passes enabled (inl less) low = rest.every g (omega arith) high passes enabled
@@ -147,13 +153,20 @@ module _ (m : Model) (v : Visit) (p : ℕ → Bool) where
       let same : g ≡ from = omega arith in
       absurd (off (rw (← same) passes) (subst (λ (k : ℕ). Enabled m v.state k) same enabled))
 
+  tested_later : (from to g : ℕ) (fates : List (ℕ × Fate)) → (p from ≡ true → IsTested m v from) → Between (from + 1) to fates → g < to → p g ≡ true → (from < g) ⊎ (g ≤ from) → from ≤ g → IsTested m v g
+  tested_later from to g fates here rest high passes (inl less) low = rest.tested g (omega arith) high passes
+  tested_later from to g fates here rest high passes (inr most) low =
+      let same : from ≡ g = omega arith in
+      rw (← same) (here (rw same passes))
+
   -- the first number is none of them
-  skip : (from to : ℕ) (fates : List (ℕ × Fate)) → (p from ≡ true → Enabled m v.state from → ⊥) → Between (from + 1) to fates → Between from to fates
-  skip from to fates off rest = record {
+  skip : (from to : ℕ) (fates : List (ℕ × Fate)) → (p from ≡ true → Enabled m v.state from → ⊥) → (p from ≡ true → IsTested m v from) → Between (from + 1) to fates → Between from to fates
+  skip from to fates off here rest = record {
       ascends = rises_sooner from (from + 1) (numbers_of fates) (omega arith) rest.ascends;
       stepping = rest.stepping;
       fated = rest.fated;
-      every = λ g low high passes enabled. every_later from to g fates off rest high passes enabled (cases_lt from g) low }
+      every = λ g low high passes enabled. every_later from to g fates off rest high passes enabled (cases_lt from g) low;
+      tested = λ g low high passes. tested_later from to g fates here rest high passes (cases_lt from g) low }
 
   -- what holds of the first and of each later one holds of each
   in_cons : (P : ℕ × Fate → Type 0) (x y : ℕ × Fate) (xs : List (ℕ × Fate)) (k : ℕ) → P x → ((y : ℕ × Fate) → Has xs y → P y) → slice_get (x ∷ xs) k ≡ Some y → P y
@@ -174,11 +187,12 @@ module _ (m : Model) (v : Visit) (p : ℕ → Bool) where
       ascends = (omega arith, rest.ascends);
       stepping = λ g f there. in_cons (λ x. Enabled m v.state x.0) (from, fate) (g, f) fates there.0 enabled (λ y has. rest.stepping y.0 y.1 has) there.1;
       fated = λ g f there. in_cons (λ x. IsFate m v x.0 x.1) (from, fate) (g, f) fates there.0 is (λ y has. rest.fated y.0 y.1 has) there.1;
-      every = λ g low high passes enabled'. every_now from to g fate fates rest high passes enabled' (cases_lt from g) low }
+      every = λ g low high passes enabled'. every_now from to g fate fates rest high passes enabled' (cases_lt from g) low;
+      tested = λ g low high passes. tested_later from to g fates (λ e. (true, (enabled_found m v.state from).1 enabled)) rest high passes (cases_lt from g) low }
 
-  skipped : (batch : Batch) (from to : ℕ) (r : Result Batch Met) → (p from ≡ true → Enabled m v.state from → ⊥) → Looped batch (from + 1) to r → Looped batch from to r
-  skipped batch from to (Ok more) off rest = (rest.0, skip from to rest.0 off rest.1, rest.2)
-  skipped batch from to (Err met) off rest = rest
+  skipped : (batch : Batch) (from to : ℕ) (r : Result Batch Met) → (p from ≡ true → Enabled m v.state from → ⊥) → (p from ≡ true → IsTested m v from) → Looped batch (from + 1) to r → Looped batch from to r
+  skipped batch from to (Ok more) off here rest = (rest.0, skip from to rest.0 off here rest.1, rest.2)
+  skipped batch from to (Err met) off here rest = rest
 
   added : (batch more : Batch) (from to : ℕ) (fate : Fate) (r : Result Batch Met) → more ≡ add batch from fate → Enabled m v.state from → IsFate m v from fate → Looped more (from + 1) to r → Looped batch from to r
   added batch more from to fate (Ok most) same enabled is rest =
@@ -194,12 +208,12 @@ module _ (m : Model) (v : Visit) (p : ℕ → Bool) where
       let enabled = (enabled_found m v.state from).0 q in
       loop_made batch from to xs (with_number m v batch from) (made m v batch from range (inner, considered from, enabled)) enabled rest
   loop_tested range inner considered batch from to xs (Ok false) q rest =
-      skipped batch from to (each (with_tested m v) batch xs) (λ passes enabled. let on = (enabled_found m v.state from).1 enabled in absurd (cc)) (rest batch)
+      skipped batch from to (each (with_tested m v) batch xs) (λ passes enabled. let on = (enabled_found m v.state from).1 enabled in absurd (cc)) (λ passes. (false, q)) (rest batch)
   loop_tested range inner considered batch from to xs (Err met) q rest = enabled_faults m v.prune v.cost v.state from met inner (considered from) q
 
   loop_step : IfSome v.cost InRange → Inner m v.state → ((g : ℕ) → Considered m v.state g) → (batch : Batch) (from to : ℕ) (xs : List ℕ) (b : Bool) → p from ≡ b → ((other : Batch) → Looped other (from + 1) to (each (with_tested m v) other xs)) → Looped batch from to (each (with_tested m v) batch (cond b (from ∷ xs) xs))
   loop_step range inner considered batch from to xs true q rest = loop_tested range inner considered batch from to xs (number_enabled m v.state from) refl rest
-  loop_step range inner considered batch from to xs false q rest = skipped batch from to (each (with_tested m v) batch xs) (λ passes enabled. false≢true (sym q ∙ passes)) (rest batch)
+  loop_step range inner considered batch from to xs false q rest = skipped batch from to (each (with_tested m v) batch xs) (λ passes enabled. false≢true (sym q ∙ passes)) (λ passes. absurd (false≢true (sym q ∙ passes))) (rest batch)
 
   looped : IfSome v.cost InRange → Inner m v.state → ((g : ℕ) → Considered m v.state g) → (n from to : ℕ) → from + n ≡ to → (batch : Batch) → Looped batch from to (each (with_tested m v) batch (filter p (range_with_len from n)))
   looped range inner considered zero from to at batch =
@@ -210,10 +224,18 @@ module _ (m : Model) (v : Visit) (p : ℕ → Bool) where
 
 -- ---- the whole visit
 
+-- it is found of each considered transition whether it is enabled
+abbrev pub AllTested : Model → Visit → Type 0
+AllTested m v = (g : ℕ) (t : Transition × List ℕ) → ground_of m g ≡ Some t → Considered m v.state g → IsTested m v g
+
 -- what is found of it
 abbrev pub Found : Model → Visit → Result Batch Met → Type 0
-Found m v (Ok batch) = (fates : List (ℕ × Fate)) × AreFates m v fates × (batch ≡ add_all empty_batch fates)
+Found m v (Ok batch) = (fates : List (ℕ × Fate)) × AreFates m v fates × (batch ≡ add_all empty_batch fates) × AllTested m v
 Found m v (Err met) = MeetsAfter m v met.last met
+
+none_tested : (m : Model) (v : Visit) (g : ℕ) (t : Transition × List ℕ) (fates : List (ℕ × Fate)) → first_enabled m v.state (forced_of m) ≡ Ok None → ground_of m g ≡ Some t → Between m v (λ g. not (is_forced m g)) 0 (length m.dp_ground) fates → (is_forced m g ≡ true) ⊎ (is_forced m g ≡ false) → IsTested m v g
+none_tested m v g t fates none there between (inl is) = (false, none_before m v.state g none (forced_is m g is))
+none_tested m v g t fates none there between (inr free) = between.tested g (omega arith) (ground_within m g t there) (not_from_false (is_forced m g) free)
 
 found_loop : (m : Model) (v : Visit) (r : Result Batch Met) → IfSome v.cost InRange → Inner m v.state → first_enabled m v.state (forced_of m) ≡ Ok None → Looped m v (λ g. not (is_forced m g)) empty_batch 0 (length m.dp_ground) r → Found m v r
 found_loop m v (Ok batch) range inner none looped =
@@ -221,11 +243,26 @@ found_loop m v (Ok batch) range inner none looped =
         ascending = increasing 0 (numbers_of looped.0) looped.1.ascends;
         stepping = λ g fate there. ((none_forced m v.state g none).0, looped.1.stepping g fate there);
         fated = looped.1.fated;
-        every = λ g considered enabled. looped.1.every g (omega arith) (ground_within m g enabled.0 enabled.1) (free m v.state g none enabled) enabled }, looped.2)
+        every = λ g considered enabled. looped.1.every g (omega arith) (ground_within m g enabled.0 enabled.1) (free m v.state g none enabled) enabled }, looped.2,
+     λ g t there considered. none_tested m v g t looped.0 none there looped.1 (cases_Bool (is_forced m g)))
   where
     free : (m : Model) (s : PlainState) (g : ℕ) → first_enabled m s (forced_of m) ≡ Ok None → Enabled m s g → not (is_forced m g) ≡ true
     free m s g none enabled = not_from_false (is_forced m g) (false_from_ne_true (is_forced m g) (λ e. (none_forced m s g none).1 (forced_is m g e) enabled))
 found_loop m v (Err met) range inner none looped = looped
+
+-- each transition is tested before a considered forced one that is enabled, or is not considered
+one_order : (m : Model) (v : Visit) (f g : ℕ) → first_enabled m v.state (forced_of m) ≡ Ok (Some f) → Considered m v.state g → IsForced m g → (f ≡ g) ⊎ ((f < g) ⊎ (g < f)) → IsTested m v g
+one_order m v f g one considered forced (inl same) = subst (λ (k : ℕ). IsTested m v k) same (true, (enabled_found m v.state f).1 (forced_found m v.state f one).2)
+one_order m v f g one considered forced (inr (inl less)) =
+    let is = forced_found m v.state f one in
+    absurd (alone_at m v.state f g is.0 is.2 considered (inl less))
+one_order m v f g one considered forced (inr (inr less)) = (false, forced_before m v.state f g one forced less)
+
+one_tested : (m : Model) (v : Visit) (f g : ℕ) → first_enabled m v.state (forced_of m) ≡ Ok (Some f) → Considered m v.state g → (is_forced m g ≡ true) ⊎ (is_forced m g ≡ false) → IsTested m v g
+one_tested m v f g one considered (inl is) = one_order m v f g one considered (forced_is m g is) (cases_order f g)
+one_tested m v f g one considered (inr free) =
+    let is = forced_found m v.state f one in
+    absurd (alone_at m v.state f g is.0 is.2 considered (inr (λ forced. false≢true (sym free ∙ is_forced_there m g forced))))
 
 -- one forced transition is alone
 found_one : (m : Model) (v : Visit) (g : ℕ) (r : Result Batch Met) → first_enabled m v.state (forced_of m) ≡ Ok (Some g) → Made m v empty_batch g r → Found m v r
@@ -235,7 +272,8 @@ found_one m v g (Ok batch) one made =
         ascending = λ k low. absurd (omega arith);
         stepping = λ h fate there. in_one (λ x. Considered m v.state x.0 × Enabled m v.state x.0) (g, made.0) (h, fate) there.0 (is.1, is.2) there.1;
         fated = λ h fate there. in_one (λ x. IsFate m v x.0 x.1) (g, made.0) (h, fate) there.0 made.1 there.1;
-        every = λ h considered enabled. (made.0, (zero, ap (λ (k : ℕ). Some (k, made.0)) (sym (forced_alone m v.state g h one considered enabled)))) }, made.2)
+        every = λ h considered enabled. (made.0, (zero, ap (λ (k : ℕ). Some (k, made.0)) (sym (forced_alone m v.state g h one considered enabled)))) }, made.2,
+     λ h t there considered. one_tested m v g h one considered (cases_Bool (is_forced m h)))
   where
     one_fate : ℕ → Fate → List (ℕ × Fate)
     one_fate g fate = (g, fate) ∷ []
@@ -285,3 +323,8 @@ fates_found m v batch inner range e =
 
 pub visit_faults : VisitFaults
 visit_faults m v met inner range e = subst (λ (r : Result Batch Met). Found m v r) e (found m v range inner)
+
+pub all_tested : (m : Model) (v : Visit) (batch : Batch) → Inner m v.state → IfSome v.cost InRange → expansion m v ≡ Ok batch → AllTested m v
+all_tested m v batch inner range e =
+    let f : Found m v (Ok batch) = subst (λ (r : Result Batch Met). Found m v r) e (found m v range inner) in
+    f.3

@@ -7,7 +7,7 @@ ghost use Rattle.visit_laws.specs.BaseCases.{BaseCostMet, BaseFaults, BaseFound,
 ghost use Rattle.visit_laws.specs.Looks.{BoundMet, FloorFaults, FloorFound, LookFaults, LookMet, LookedBase, LookedForbidden, LookedOpen};
 ghost use Rattle.visit_laws.specs.Transitions.{EnabledFaults, EnabledFound, ForcedAlone, ForcedFaults, ForcedFound, MayStepFaults, MayStepFound, NoneForced, PreconditionMet};
 ghost use Rattle.visit_laws.specs.Steps.{CostFaults, CostFound, CostMet, EffectFaults, EffectMet, NextFound, StepFound, StepMade, WeightMet};
-ghost use Rattle.visit_laws.specs.Visits.{BatchFound, FatesExclude, FatesFound, VisitFaults};
+ghost use Rattle.visit_laws.specs.Visits.{BatchFound, FatesExclude, FatesFound, NoFaultPassed, VisitFaults};
 
 /// What is found of the constraints of a state: whether it is allowed, or the first fault, which is the one that is met
 /// there.
@@ -78,10 +78,12 @@ pub fn law_steps()
     ensures effect_met { EffectMet }
 {}
 
-/// What is found of a visit: the fate of each transition that is considered and enabled, or the first fault.
+/// What is found of a visit: the fate of each transition that is considered and enabled, or the first fault. Where a batch
+/// is found, no fault is met.
 pub fn law_visits()
     ensures fates { FatesFound }
     ensures exclude { FatesExclude }
     ensures batch { BatchFound }
     ensures faults { VisitFaults }
+    ensures none_passed { NoFaultPassed }
 {}

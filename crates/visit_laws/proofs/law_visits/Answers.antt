@@ -1,6 +1,7 @@
 use Rattle.visit_laws.proofs.Visits.{fates_found, visit_faults}
 use Rattle.visit_laws.proofs.Batches.{batch_found, fates_exclude}
+use Rattle.visit_laws.proofs.Passes.{no_fault_passed}
 use Rattle.visit_laws.proofs.law_visits.Goals as goal
 
 pub returns : goal.returns
-returns c = record { fates = fates_found; exclude = fates_exclude; batch = batch_found; faults = visit_faults }
+returns c = record { fates = fates_found; exclude = fates_exclude; batch = batch_found; faults = visit_faults; none_passed = no_fault_passed }
