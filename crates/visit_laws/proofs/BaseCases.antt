@@ -17,7 +17,7 @@ use Rattle.spot_eval.specs.declared.ends.SpotFault.{SpotFault}
 use Rattle.spot_eval.specs.Looks.{all_at, allowed_at, base_at, best_case, case_at, spot_of, with_better}
 use Rattle.spot_eval.specs.declared.tests.Tests.TheVariants.{BaseConditions}
 use Rattle.visit_laws.specs.BaseCases.{BaseCostMet, BaseFaults, BaseFound, ConditionMet, InnerFound}
-use Rattle.visit_laws.proofs.Spots.{without_spot, from_value, to_value, fault_there, bind_assoc, two_values}
+use Rattle.visit_laws.proofs.Spots.{without_spot, from_value, fault_there, bind_assoc, two_values}
 use Rattle.visit_laws.proofs.Best.{best_over, over_number, over_one}
 use Rattle.visit_laws.proofs.Tests.{all_values, first_fault, test_met}
 use Rattle.visit_laws.proofs.Constraints.{allowed_found, constraint_faults}
@@ -112,9 +112,10 @@ found_base m s base (Ok false) q e = absurd (cc)
 found_base m s base (Err met) q e = absurd (cc)
 
 pub base_found : BaseFound
-base_found m s base =
-    (λ e. found_base m s base (allowed_at m s) refl e,
-     λ b. rw ((allowed_found m s).1 b.allowed) (base_best m s base b))
+base_found m s base = (
+  λ e. found_base m s base (allowed_at m s) refl e,
+  λ b. rw ((allowed_found m s).1 b.allowed) (base_best m s base b),
+)
 
 pub inner_found : InnerFound
 inner_found m s allowed =

@@ -1,6 +1,5 @@
 -- What is found of a visit, kind by kind, and that each transition has one fate.
-use Rattle.std.proofs.Common.{◌≡◌, ℕ, zero, suc, ◌+◌, ◌<◌, ◌≤◌, Bool, true, false, ◌⊎◌, inl, inr, List, [], ◌∷◌, map, length, slice_get, Option, Some, None, Result, Ok, Err, ℤ, refl, sym, ap, subst, ◌∙◌, arith}
-use Rattle.std.specs.List.Sorted.{IsStrictlyIncreasing}
+use Rattle.std.proofs.Common.{◌≡◌, ℕ, zero, suc, ◌+◌, ◌≤◌, Bool, true, false, ◌⊎◌, inl, inr, List, [], ◌∷◌, map, slice_get, Option, Some, None, Ok, ℤ, refl, sym, ap, subst, ◌∙◌, arith}
 use Rattle.dp_model.specs.Costs.{join, join_onto}
 use Rattle.dp_model.specs.declared.parts.Transition.{Transition}
 use Rattle.dp_model.specs.declared.parts.PlainState.{PlainState}
@@ -10,13 +9,12 @@ use Rattle.dp_steps.specs.Bounds.{IsFloor}
 use Rattle.dp_claims.specs.Enough.{Has}
 use Rattle.path_log.specs.declared.logs.StepId.{StepId}
 use Rattle.state_layout.specs.declared.node.Node.{Node}
-use Rattle.spot_eval.specs.declared.ends.SpotFault.{SpotFault}
 use Rattle.successors.specs.Visits.{Visit}
 use Rattle.successors.specs.declared.batch.Batch.{Batch}
 use Rattle.successors.specs.declared.batch.Offer.{Offer}
-use Rattle.visit_laws.specs.Fates.{AreFates, Fate, IsFate, IsSuccessor, IsTotal, LeadsOut, Prunes, batch_of, letters_of, numbers_of, offers_of, pruned_of, with_letter, with_offer, with_pruned}
+use Rattle.visit_laws.specs.Fates.{AreFates, Fate, IsFate, IsSuccessor, IsTotal, LeadsOut, batch_of, letters_of, numbers_of, offers_of, pruned_of, with_letter, with_offer, with_pruned}
 use Rattle.visit_laws.specs.Fates.Fate.{Out, Total, Letter, Pruned}
-use Rattle.visit_laws.specs.Visits.{Accounted, Ascending, BatchFound, FatesExclude, IsBatch, IsKept, IsOffered, LettersSound, OffersSound, OneFate, PrunedSound}
+use Rattle.visit_laws.specs.Visits.{Accounted, Ascending, BatchFound, FatesExclude, IsBatch, IsKept, IsOffered, LettersSound, OffersSound, PrunedSound}
 use Rattle.visit_laws.proofs.BaseCases.{base_best, inner_best}
 use Rattle.visit_laws.proofs.Looks.{floor_found_at}
 use Rattle.visit_laws.proofs.Steps.{same_ground}
@@ -184,7 +182,8 @@ module _ (m : Model) (v : Visit) (fates : List (ℕ × Fate)) (are : AreFates m 
       record {
         letters = increasing 0 (map (λ (n : Node). n.transition) (letters_of fates)) (letters_rise m v 0 fates are.fated rise);
         offers = increasing 0 (map (λ (o : Offer). o.transition) (offers_of fates)) (offers_rise 0 fates rise);
-        pruned = increasing 0 (map (λ (n : Node). n.transition) (pruned_of fates)) (pruned_rise m v 0 fates are.fated rise) }
+        pruned = increasing 0 (map (λ (n : Node). n.transition) (pruned_of fates)) (pruned_rise m v 0 fates are.fated rise);
+      }
 
   is_batch : IsBatch m v (batch_of fates)
   is_batch = record { letters = letters_sound; pruned = pruned_sound; offers = offers_sound; accounted = accounted; ascending = ascending }
@@ -253,8 +252,9 @@ same_node m v g a b x y =
 
 pub fates_exclude : FatesExclude
 fates_exclude m v g = record {
-    out_total = λ out total x. not_both m out.1 x.next (same_next m v.state g out.0 x.weight out.1 x.next out.2 x.step).1 out.4 x.is_base.allowed;
-    out_node = λ out n x. not_both m out.1 n.state (same_next m v.state g out.0 x.weight out.1 n.state out.2 x.step).1 out.4 x.inner.allowed;
-    total_node = λ total x n y. not_inner m x.next n.state x.base (same_next m v.state g x.weight y.weight x.next n.state x.step y.step).1 x.is_base y.inner;
-    one_total = λ a b x y. same_total m v g a b x y;
-    one_node = λ a b x y. same_node m v g a b x y }
+  out_total = λ out total x. not_both m out.1 x.next (same_next m v.state g out.0 x.weight out.1 x.next out.2 x.step).1 out.4 x.is_base.allowed;
+  out_node = λ out n x. not_both m out.1 n.state (same_next m v.state g out.0 x.weight out.1 n.state out.2 x.step).1 out.4 x.inner.allowed;
+  total_node = λ total x n y. not_inner m x.next n.state x.base (same_next m v.state g x.weight y.weight x.next n.state x.step y.step).1 x.is_base y.inner;
+  one_total = λ a b x y. same_total m v g a b x y;
+  one_node = λ a b x y. same_node m v g a b x y;
+}

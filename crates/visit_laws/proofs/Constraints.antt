@@ -1,6 +1,6 @@
 -- What is found of the constraints of a state.
-use Rattle.std.proofs.Common.{◌≡◌, ℕ, zero, suc, ◌+◌, Bool, true, false, [], Ok, Err, ap, sym, ◌∙◌, zero-add}
-use Rattle.spot_eval.specs.Looks.{all_at, allowed_at, spot_of}
+use Rattle.std.proofs.Common.{◌≡◌, true, false, [], ap, sym, ◌∙◌, zero-add}
+use Rattle.spot_eval.specs.Looks.{allowed_at, spot_of}
 use Rattle.spot_eval.specs.declared.tests.Tests.TheVariants.{Constraints}
 use Rattle.visit_laws.specs.Constraints.{AllowedFound, ForbiddenFound, ConstraintFaults, ConstraintMet}
 use Rattle.visit_laws.proofs.Spots.{from_value, to_value}

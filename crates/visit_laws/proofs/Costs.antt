@@ -1,11 +1,10 @@
 -- Costs in range, and joined costs.
-use Rattle.std.proofs.Common.{◌≡◌, Bool, true, false, ◌&&◌, cond, Option, Some, None, Result, Ok, Err, ℤ, refl, ap, ◌∙◌, arith}
+use Rattle.std.proofs.Common.{◌≡◌, Bool, true, false, cond, Option, Some, None, Ok, Err, ℤ, refl, arith}
 use Rattle.std.specs.Prelude.{neg_ℤ, int_le}
 use Rattle.std.proofs.lemmas.Bool.{and_parts, and_from}
 use Rattle.std.proofs.lemmas.Int.{ints}
 use Rattle.dp_model.specs.Costs.{InRange, greatest, join, join_onto, ranged}
 use Rattle.dp_model.specs.Typing.{is_in_range}
-use Rattle.dp_model.specs.declared.answers.FaultKind.{FaultKind}
 use Rattle.dp_model.specs.declared.answers.FaultKind.TheVariants.{Range}
 use Rattle.dp_model.specs.declared.parts.JoinOp.{JoinOp}
 

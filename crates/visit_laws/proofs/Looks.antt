@@ -1,8 +1,8 @@
 -- What is found of the floor of a state, and what a state is found to be.
-use Rattle.std.proofs.Common.{◌≡◌, ℕ, zero, suc, ◌+◌, Bool, true, false, not, ◌&&◌, ◌==◌, if◌then◌else◌, List, [], ◌∷◌, length, slice_get, take, fold, Option, Some, None, Result, Ok, Err, ℤ, refl, sym, ap, subst, ◌∙◌, arith, zero-add}
+use Rattle.std.proofs.Common.{◌≡◌, ℕ, zero, suc, ◌+◌, Bool, true, false, not, ◌==◌, if◌then◌else◌, List, [], ◌∷◌, length, slice_get, take, fold, Option, Some, None, Result, Ok, Err, ℤ, refl, sym, ap, subst, ◌∙◌, arith, zero-add}
 use Rattle.std.proofs.lemmas.Bool.{false≢true}
 use Rattle.dp_base.specs.Results.{◌>>=◌}
-use Rattle.dp_model.specs.Costs.{better_of, join, join_onto}
+use Rattle.dp_model.specs.Costs.{better_of, join_onto}
 use Rattle.dp_model.specs.Evaluation.{num_value}
 use Rattle.dp_model.specs.declared.answers.FaultKind.{FaultKind}
 use Rattle.dp_model.specs.declared.answers.Spot.{Spot}
@@ -11,7 +11,7 @@ use Rattle.dp_model.specs.declared.trees.Num.{Num}
 use Rattle.dp_model.specs.declared.parts.PlainState.{PlainState}
 use Rattle.dp_model.specs.declared.whole.Model.{Model}
 use Rattle.dp_steps.specs.States.{Allowed, Base, Forbidden, Inner}
-use Rattle.dp_steps.specs.Bounds.{IsBounded, IsFloor, IsTightest, has_floors, values_of}
+use Rattle.dp_steps.specs.Bounds.{IsFloor, values_of}
 use Rattle.dp_steps.specs.Faults.{HasValue, MeetsIn}
 use Rattle.spot_eval.specs.Answers.{at_spot}
 use Rattle.spot_eval.specs.declared.ends.SpotFault.{SpotFault}
@@ -19,7 +19,7 @@ use Rattle.spot_eval.specs.Looks.{allowed_at, base_at, best_case, floor_at, floo
 use Rattle.spot_eval.specs.declared.looks.Look.{Look}
 use Rattle.spot_eval.specs.declared.looks.Look.TheVariants as looks
 use Rattle.visit_laws.specs.Looks.{BoundMet, FloorFaults, FloorFound, LookFaults, LookMet, LookedBase, LookedForbidden, LookedOpen}
-use Rattle.visit_laws.proofs.Spots.{without_spot, from_value, to_value, fault_there, two_values}
+use Rattle.visit_laws.proofs.Spots.{without_spot, from_value, fault_there, two_values}
 use Rattle.visit_laws.proofs.Best.{best_over, over_number}
 use Rattle.visit_laws.proofs.Costs.{join_some}
 use Rattle.visit_laws.proofs.Constraints.{allowed_found, constraint_faults, constraint_met, forbidden_found}
@@ -192,9 +192,10 @@ pub looked_base : LookedBase
 looked_base m prune s cost base = (λ e. at_look m prune s cost (Ok (looks.Base base)) e, λ b. rw ((allowed_found m s).1 b.allowed, base_best m s base b) refl)
 
 pub looked_open : LookedOpen
-looked_open m prune s cost floor =
-    (λ e. at_look m prune s cost (Ok (looks.Open floor)) e,
-     λ h. rw ((allowed_found m s).1 h.0.allowed, inner_best m s h.0, floor_found_at m prune s cost floor h.1) refl)
+looked_open m prune s cost floor = (
+  λ e. at_look m prune s cost (Ok (looks.Open floor)) e,
+  λ h. rw ((allowed_found m s).1 h.0.allowed, inner_best m s h.0, floor_found_at m prune s cost floor h.1) refl,
+)
 
 pub look_faults : LookFaults
 look_faults m prune cost s met e = at_look m prune s cost (Err met) e

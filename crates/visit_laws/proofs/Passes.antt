@@ -1,13 +1,13 @@
 -- Where a visit finds a batch, no fault is passed over.
-use Rattle.std.proofs.Common.{◌≡◌, ℕ, Bool, true, false, ◌⊎◌, inl, inr, List, Option, Some, None, Result, Ok, Err, IfSome, ℤ, refl, sym, ap, subst, ◌∙◌}
+use Rattle.std.proofs.Common.{◌≡◌, ℕ, Bool, true, ◌⊎◌, inl, inr, Option, Ok, IfSome, ℤ, refl, sym, ap, subst, ◌∙◌}
 use Rattle.std.proofs.lemmas.Bool.{false≢true}
-use Rattle.dp_model.specs.Costs.{InRange, join, join_onto, ranged}
+use Rattle.dp_model.specs.Costs.{InRange, join, join_onto}
 use Rattle.dp_model.specs.declared.answers.FaultKind.{FaultKind}
 use Rattle.dp_model.specs.declared.answers.Spot.{Spot}
 use Rattle.dp_model.specs.declared.answers.Spot.TheVariants as spots
 use Rattle.dp_model.specs.declared.parts.PlainState.{PlainState}
 use Rattle.dp_model.specs.declared.whole.Model.{Model}
-use Rattle.dp_steps.specs.States.{Allowed, Base, Considered, Enabled, Forbidden, Inner, Step}
+use Rattle.dp_steps.specs.States.{Base, Enabled, Forbidden, Inner, Step}
 use Rattle.dp_steps.specs.Bounds.{IsFloor}
 use Rattle.dp_steps.specs.Faults.{MayStep, MeetsIn}
 use Rattle.spot_eval.specs.Looks.{looked_at}
@@ -15,9 +15,9 @@ use Rattle.spot_eval.specs.declared.looks.Look.{Look}
 use Rattle.spot_eval.specs.declared.looks.Look.TheVariants as looks
 use Rattle.successors.specs.Visits.{Visit}
 use Rattle.successors.specs.declared.batch.Batch.{Batch}
-use Rattle.visit_laws.specs.Fates.{IsSuccessor, IsTotal, LeadsOut}
+use Rattle.visit_laws.specs.Fates.{LeadsOut}
 use Rattle.visit_laws.specs.Looks.{is_looked}
-use Rattle.visit_laws.specs.Visits.{Accounted, IsKept, IsOffered, NoFaultPassed, PassesNone, is_later}
+use Rattle.visit_laws.specs.Visits.{Accounted, IsKept, IsOffered, NoFaultPassed, is_on_arrival}
 use Rattle.visit_laws.proofs.Costs.{value_ranged}
 use Rattle.visit_laws.proofs.Looks.{look_met, looked_base, looked_forbidden, looked_open}
 use Rattle.visit_laws.proofs.Transitions.{precondition_found}
@@ -106,18 +106,18 @@ module _ (m : Model) (v : Visit) (batch : Batch) (range : IfSome v.cost InRange)
       let look = looked_as g weight next step (accounted g step.considered enabled) in
       none_looked m v.prune (join m.join v.cost weight) next look.0 spot kind look.1 is meets
 
-  none_after : (g : ℕ) (weight : Option ℤ) (next : PlainState) → Step m v.state g weight next → (spot : Spot) (kind : FaultKind) → is_later spot ≡ false → MeetsIn m v.prune (join m.join v.cost weight) next spot kind → ⊥
-  none_after g weight next step (spots.Constraint i) kind later meets = looked_none g weight next step (spots.Constraint i) kind refl meets
-  none_after g weight next step (spots.BaseCondition i j) kind later meets = looked_none g weight next step (spots.BaseCondition i j) kind refl meets
-  none_after g weight next step (spots.BaseCost i) kind later meets = looked_none g weight next step (spots.BaseCost i) kind refl meets
-  none_after g weight next step (spots.Bound i) kind later meets = looked_none g weight next step (spots.Bound i) kind refl meets
-  none_after g weight next step spots.Total kind later meets =
+  none_after : (g : ℕ) (weight : Option ℤ) (next : PlainState) → Step m v.state g weight next → (spot : Spot) (kind : FaultKind) → is_on_arrival spot ≡ true → MeetsIn m v.prune (join m.join v.cost weight) next spot kind → ⊥
+  none_after g weight next step (spots.Constraint i) kind arrival meets = looked_none g weight next step (spots.Constraint i) kind refl meets
+  none_after g weight next step (spots.BaseCondition i j) kind arrival meets = looked_none g weight next step (spots.BaseCondition i j) kind refl meets
+  none_after g weight next step (spots.BaseCost i) kind arrival meets = looked_none g weight next step (spots.BaseCost i) kind refl meets
+  none_after g weight next step (spots.Bound i) kind arrival meets = looked_none g weight next step (spots.Bound i) kind refl meets
+  none_after g weight next step spots.Total kind arrival meets =
       let enabled : Enabled m v.state g = (step.move.0, step.move.1, step.move.2) in
       none_total g weight next kind step meets (accounted g step.considered enabled)
-  none_after g weight next step (spots.Precondition h j) kind later meets = absurd (false≢true (sym later))
-  none_after g weight next step (spots.Weight h) kind later meets = absurd (false≢true (sym later))
-  none_after g weight next step (spots.Cost h) kind later meets = absurd (false≢true (sym later))
-  none_after g weight next step (spots.Effect h i) kind later meets = absurd (false≢true (sym later))
+  none_after g weight next step (spots.Precondition h j) kind arrival meets = absurd (false≢true arrival)
+  none_after g weight next step (spots.Weight h) kind arrival meets = absurd (false≢true arrival)
+  none_after g weight next step (spots.Cost h) kind arrival meets = absurd (false≢true arrival)
+  none_after g weight next step (spots.Effect h i) kind arrival meets = absurd (false≢true arrival)
 
 pub no_fault_passed : NoFaultPassed
 no_fault_passed m v batch floor inner range is e =
@@ -125,4 +125,5 @@ no_fault_passed m v batch floor inner range is e =
     let tested = all_tested m v batch inner range e in
     record {
       here = λ spot kind meets. none_here m v batch range accounted tested floor inner is spot kind meets;
-      after = λ g weight next step spot kind later meets. none_after m v batch range accounted tested g weight next step spot kind later meets }
+      after = λ g weight next step spot kind arrival meets. none_after m v batch range accounted tested g weight next step spot kind arrival meets;
+    }

@@ -11,7 +11,7 @@ use Rattle.dp_model.specs.declared.parts.Transition.{Transition}
 use Rattle.dp_model.specs.declared.parts.PlainState.{PlainState}
 use Rattle.dp_model.specs.declared.parts.PlainValue.{PlainValue}
 use Rattle.dp_model.specs.declared.whole.Model.{Model}
-use Rattle.dp_steps.specs.States.{Step, effect_value, is_enabled, next_state, weight_of, with_changes}
+use Rattle.dp_steps.specs.States.{effect_value, is_enabled, next_state, weight_of, with_changes}
 use Rattle.dp_steps.specs.Faults.{HasValue, MayStep, MeetsIn}
 use Rattle.spot_eval.specs.Answers.{at_spot}
 use Rattle.spot_eval.specs.declared.ends.SpotFault.{SpotFault}

@@ -1,5 +1,5 @@
 -- Lists of tests in order: whether they hold, and the first fault.
-use Rattle.std.proofs.Common.{◌≡◌, ℕ, zero, suc, ◌+◌, Bool, true, false, if◌then◌else◌, List, [], ◌∷◌, slice_get, take, Some, Result, Ok, Err, refl, sym, ap, ◌∙◌, arith}
+use Rattle.std.proofs.Common.{◌≡◌, ℕ, zero, suc, ◌+◌, Bool, true, false, if◌then◌else◌, List, [], ◌∷◌, slice_get, take, Some, Result, Ok, Err, refl, ◌∙◌, arith}
 use Rattle.dp_base.specs.Results.{◌>>=◌}
 use Rattle.dp_model.specs.Evaluation.{cond_value}
 use Rattle.dp_model.specs.declared.answers.FaultKind.{FaultKind}

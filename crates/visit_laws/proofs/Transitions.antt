@@ -1,11 +1,9 @@
 -- Which transitions are found to be enabled and considered.
-use Rattle.std.proofs.Common.{◌≡◌, ℕ, zero, suc, ◌+◌, ◌<◌, ◌≤◌, Bool, true, false, not, ◌||◌, ◌&&◌, cond, if◌then◌else◌, ◌⊎◌, inl, inr, List, [], ◌∷◌, length, slice_get, take, filter, Option, Some, None, option_and_then, Result, Ok, Err, ℤ, refl, sym, ap, subst, ◌∙◌, arith, zero-add}
+use Rattle.std.proofs.Common.{◌≡◌, ℕ, zero, suc, ◌+◌, ◌<◌, ◌≤◌, Bool, true, false, not, ◌&&◌, cond, if◌then◌else◌, ◌⊎◌, inl, inr, List, [], ◌∷◌, length, slice_get, take, filter, Option, Some, None, option_and_then, Result, Ok, Err, ℤ, refl, sym, ap, subst, ◌∙◌, arith, zero-add}
 use Rattle.std.specs.Prelude.{option_map, nat_lt}
 use Rattle.std.specs.List.{range_with_len}
 use Rattle.std.proofs.lemmas.Bool.{false≢true, ltb-true, lt-ltb, or_cases, or_left, or_right, not_from_false, not-true, cases_Bool, cases_order, cases_lt, and_from, and_parts, false_from_ne_true}
 use Rattle.std.proofs.lemmas.Option.{slice_get_within}
-use Rattle.dp_base.specs.Results.{◌>>=◌}
-use Rattle.dp_model.specs.Evaluation.{cond_value}
 use Rattle.dp_model.specs.StepTexts.{ground_of}
 use Rattle.dp_model.specs.declared.answers.FaultKind.{FaultKind}
 use Rattle.dp_model.specs.declared.parts.Ground.{Ground}
@@ -18,8 +16,8 @@ use Rattle.spot_eval.specs.declared.ends.SpotFault.{SpotFault}
 use Rattle.spot_eval.specs.Looks.{all_at, spot_of}
 use Rattle.spot_eval.specs.Moves.{enabled_at, first_enabled, forced_of, goes_before, is_forced, may_step_at, named_enabled, named_forced, number_enabled}
 use Rattle.spot_eval.specs.declared.tests.Tests.TheVariants.{Preconditions}
-use Rattle.visit_laws.specs.Transitions.{EnabledFaults, EnabledFound, ForcedAlone, ForcedFaults, ForcedFound, MayStepFaults, MayStepFound, NoneForced, PreconditionMet}
-use Rattle.visit_laws.proofs.Spots.{without_spot, from_value, to_value, fault_there}
+use Rattle.visit_laws.specs.Transitions.{AllConsidered, EnabledFaults, EnabledFound, ForcedAlone, ForcedFaults, ForcedFound, MayNotStep, MayStepFaults, MayStepFound, NoneForced, PreconditionMet}
+use Rattle.visit_laws.proofs.Spots.{without_spot, from_value, to_value}
 use Rattle.visit_laws.proofs.Tests.{all_values, first_fault, test_met}
 
 -- ---- one transition
@@ -204,7 +202,7 @@ before_considered : (m : Model) (s : PlainState) (g f : ℕ) → First m s (is_b
 before_considered m s g f first =
     let parts = and_parts (is_forced m f) (goes_before m g f) first.passes in
     considered_first m s (is_before m g) (length m.dp_ground) f first (forced_is m f parts.0)
-        (λ k forced less. and_from (is_forced m k) (goes_before m g k) (is_forced_there m k forced) (goes_where m g k (less_order m g f k less (where_goes m g f parts.1))))
+    (λ k forced less. and_from (is_forced m k) (goes_before m g k) (is_forced_there m k forced) (goes_where m g k (less_order m g f k less (where_goes m g f parts.1))))
 
 forced_considered : (m : Model) (s : PlainState) (f : ℕ) → First m s (is_forced m) 0 (length m.dp_ground) f → Considered m s f
 forced_considered m s f first = considered_first m s (is_forced m) (length m.dp_ground) f first (forced_is m f first.passes) (λ k forced less. is_forced_there m k forced)
@@ -217,11 +215,17 @@ step_found m s g (Ok (Some f)) q told e = let clash : Ok false ≡ Ok true = rw 
 step_found m s g (Err met) q told e = let clash : Err met ≡ Ok true = rw q at e in absurd (cc)
 
 pub may_step_found : MayStepFound
-may_step_found m s g =
-    (λ e. step_found m s g (first_enabled m s (filter (goes_before m g) (forced_of m))) refl (before_told m s g) e,
-     λ may.
-       (let none = none_told m s (is_before m g) (length m.dp_ground) (first_enabled m s (filter (goes_before m g) (forced_of m))) (before_told m s g) (none_considered m s g may.0) in
-        rw none ((enabled_found m s g).1 may.1)))
+may_step_found m s g = (
+  λ e. step_found m s g (first_enabled m s (filter (goes_before m g) (forced_of m))) refl (before_told m s g) e,
+  λ may.
+      (let none = none_told m s (is_before m g) (length m.dp_ground) (first_enabled m s (filter (goes_before m g) (forced_of m))) (before_told m s g) (none_considered m s g may.0) in
+      rw none ((enabled_found m s g).1 may.1)),
+)
+
+pub may_not_step : MayNotStep
+may_not_step m s g e considered enabled =
+    let may = (may_step_found m s g).1 (considered, enabled) in
+    absurd (cc)
 
 step_met : (m : Model) (prune : Bool) (cost : Option ℤ) (s : PlainState) (g : ℕ) (met : SpotFault) (v : Result (Option ℕ) SpotFault) → first_enabled m s (filter (goes_before m g) (forced_of m)) ≡ v → Told m s (is_before m g) 0 (length m.dp_ground) v → Inner m s → may_step_at m s g ≡ Err met → MeetsIn m prune cost s met.spot met.kind
 step_met m prune cost s g met (Ok None) q told inner e = enabled_faults m prune cost s g met inner (considered_none m s g told) (rw q at e)
@@ -290,13 +294,10 @@ forced_alone m s f g e considered enabled =
     alone_cases m s f g found.0 found.1 found.2 considered enabled (cases_Bool (is_forced m g))
 
 pub none_forced : NoneForced
-none_forced m s g e =
-    let none : NoneEnabled m s (is_forced m) 0 (length m.dp_ground) = subst (λ (v : Result (Option ℕ) SpotFault). Told m s (is_forced m) 0 (length m.dp_ground) v) e (forced_told m s) in
-    (λ f t forced there order. found_is m s f t false there (none f (omega arith) (ground_within m f t there) (is_forced_there m f forced)),
-     λ forced enabled.
-       (let off = none g (omega arith) (ground_within m g forced.0 forced.1) (is_forced_there m g forced) in
-        let on = (enabled_found m s g).1 enabled in
-        absurd (cc)))
+none_forced m s f t e forced there = found_is m s f t false there (none_before m s f e forced)
+
+pub all_considered : AllConsidered
+all_considered m s g e f t forced there order = none_forced m s f t e forced there
 
 pub forced_faults : ForcedFaults
 forced_faults m prune cost s met inner e =

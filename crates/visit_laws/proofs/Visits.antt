@@ -1,8 +1,7 @@
 -- What is found of a visit.
-use Rattle.std.proofs.Common.{◌≡◌, ℕ, zero, suc, ◌+◌, ◌<◌, ◌≤◌, Bool, true, false, not, ◌&&◌, cond, if◌then◌else◌, ◌⊎◌, inl, inr, List, [], ◌∷◌, ◌++◌, length, map, slice_get, filter, Option, Some, None, Result, Ok, Err, IfSome, ℤ, refl, sym, ap, subst, ◌∙◌, arith, zero-add, add-zero, append_assoc, append-nil}
+use Rattle.std.proofs.Common.{◌≡◌, ℕ, zero, suc, ◌+◌, ◌<◌, ◌≤◌, Bool, true, false, not, cond, if◌then◌else◌, ◌⊎◌, inl, inr, List, [], ◌∷◌, ◌++◌, length, slice_get, filter, Option, Some, None, Result, Ok, Err, IfSome, ℤ, refl, sym, ap, subst, ◌∙◌, arith, zero-add, add-zero, append_assoc, append-nil}
 use Rattle.std.specs.Prelude.{pos, int_le, ◌≤ℤ◌}
 use Rattle.std.specs.List.{range_with_len}
-use Rattle.std.specs.List.Sorted.{IsStrictlyIncreasing}
 use Rattle.std.proofs.lemmas.Bool.{false≢true, cases_lt, cases_Bool, cases_order, not_from_false, false_from_ne_true}
 use Rattle.std.proofs.lemmas.Int.{ints}
 use Rattle.dp_base.specs.Results.{◌>>=◌, each}
@@ -13,7 +12,7 @@ use Rattle.dp_model.specs.declared.answers.Spot.TheVariants as spots
 use Rattle.dp_model.specs.declared.parts.Transition.{Transition}
 use Rattle.dp_model.specs.declared.parts.PlainState.{PlainState}
 use Rattle.dp_model.specs.declared.whole.Model.{Model}
-use Rattle.dp_steps.specs.States.{Base, Considered, Enabled, Forbidden, Inner, IsForced, Step}
+use Rattle.dp_steps.specs.States.{Base, Considered, Enabled, Inner, IsForced, Step}
 use Rattle.dp_steps.specs.Bounds.{IsFloor}
 use Rattle.dp_steps.specs.Faults.{MayStep, MeetsIn}
 use Rattle.dp_claims.specs.Enough.{Has}
@@ -25,15 +24,14 @@ use Rattle.spot_eval.specs.declared.ends.SpotFault.{SpotFault}
 use Rattle.spot_eval.specs.declared.looks.Look.{Look}
 use Rattle.spot_eval.specs.declared.looks.Look.TheVariants as looks
 use Rattle.successors.specs.Answers.{Met, after, here}
-use Rattle.successors.specs.Visits.{Visit, after_forced, empty_batch, expansion, is_pruned, with_look, with_named, with_node, with_number, with_successor, with_tested}
+use Rattle.successors.specs.Visits.{Visit, after_forced, empty_batch, expansion, is_pruned, with_look, with_named, with_number, with_tested}
 use Rattle.successors.specs.declared.batch.Batch.{Batch}
-use Rattle.visit_laws.specs.Fates.{AreFates, Fate, IsFate, IsSuccessor, IsTotal, LeadsOut, MeetsAfter, Prunes, batch_of, letters_of, numbers_of, offers_of, out_of, pruned_of}
+use Rattle.visit_laws.specs.Fates.{AreFates, Fate, IsFate, IsSuccessor, MeetsAfter, Prunes, batch_of, letters_of, numbers_of, offers_of, out_of, pruned_of}
 use Rattle.visit_laws.specs.Fates.Fate.{Out, Total, Letter, Pruned}
 use Rattle.visit_laws.specs.Visits.{FatesFound, VisitFaults}
-use Rattle.visit_laws.proofs.Spots.{fault_there}
 use Rattle.visit_laws.proofs.Costs.{ranged_value}
-use Rattle.visit_laws.proofs.Looks.{Is, looked_is, look_faults}
-use Rattle.visit_laws.proofs.Transitions.{alone_at, enabled_faults, enabled_found, forced_alone, forced_before, none_before, forced_faults, forced_found, ground_within, none_forced, is_forced_there, forced_is}
+use Rattle.visit_laws.proofs.Looks.{Is, looked_is}
+use Rattle.visit_laws.proofs.Transitions.{all_considered, alone_at, enabled_faults, enabled_found, forced_alone, forced_before, none_before, forced_faults, forced_found, ground_within, is_forced_there, forced_is}
 use Rattle.visit_laws.proofs.Rising.{Rises, increasing, rises_sooner}
 use Rattle.visit_laws.proofs.Steps.{cost_faults, effect_faults, step_found}
 
@@ -76,12 +74,20 @@ fault_after m v g cost next met joins meets =
 
 made_base : (m : Model) (v : Visit) (batch : Batch) (g : ℕ) (cost : Option ℤ) (next : PlainState) (base : ℤ) (r : Result ℤ FaultKind) → ranged (join_onto m.join cost base) ≡ r → Joins m v g cost next → Base m next base → Made m v batch g (after g (at_spot spots.Total r >>= λ total. Ok (add batch g (Total total))))
 made_base m v batch g cost next base (Ok total) q joins is =
-    let value = ranged_value (join_onto m.join cost base) total q in
-    (Total total, record {
-        weight = joins.0; next = next; base = base; step = joins.1; is_base = is;
+    let value = ranged_value (join_onto m.join cost base) total q in (
+      Total total,
+      record {
+        weight = joins.0;
+        next = next;
+        base = base;
+        step = joins.1;
+        is_base = is;
         cost_in_range = subst (λ (c : Option ℤ). IfSome c InRange) joins.2 joins.3;
         in_range = rw value.1 value.0;
-        is = value.1 ∙ ap (λ (c : Option ℤ). join_onto m.join c base) joins.2 }, refl)
+        is = value.1 ∙ ap (λ (c : Option ℤ). join_onto m.join c base) joins.2;
+      },
+      refl,
+    )
 made_base m v batch g cost next base (Err kind) q joins is =
     fault_after m v g cost next (record { spot = spots.Total; kind = kind }) joins ((base, is), (base, is, q))
 
@@ -141,11 +147,12 @@ module _ (m : Model) (v : Visit) (p : ℕ → Bool) where
 
   nothing_between : (from : ℕ) → Between from from []
   nothing_between from = record {
-      ascends = tt;
-      stepping = λ g fate there. absurd (let clash : None ≡ Some (g, fate) = there.1 in cc);
-      fated = λ g fate there. absurd (let clash : None ≡ Some (g, fate) = there.1 in cc);
-      every = λ g low high passes enabled. absurd (omega arith);
-      tested = λ g low high passes. absurd (omega arith) }
+    ascends = tt;
+    stepping = λ g fate there. absurd (let clash : None ≡ Some (g, fate) = there.1 in cc);
+    fated = λ g fate there. absurd (let clash : None ≡ Some (g, fate) = there.1 in cc);
+    every = λ g low high passes enabled. absurd (omega arith);
+    tested = λ g low high passes. absurd (omega arith);
+  }
 
   every_later : (from to g : ℕ) (fates : List (ℕ × Fate)) → (p from ≡ true → Enabled m v.state from → ⊥) → Between (from + 1) to fates → g < to → p g ≡ true → Enabled m v.state g → (from < g) ⊎ (g ≤ from) → from ≤ g → (fate : Fate) × Has fates (g, fate)
   every_later from to g fates off rest high passes enabled (inl less) low = rest.every g (omega arith) high passes enabled
@@ -162,11 +169,12 @@ module _ (m : Model) (v : Visit) (p : ℕ → Bool) where
   -- the first number is none of them
   skip : (from to : ℕ) (fates : List (ℕ × Fate)) → (p from ≡ true → Enabled m v.state from → ⊥) → (p from ≡ true → IsTested m v from) → Between (from + 1) to fates → Between from to fates
   skip from to fates off here rest = record {
-      ascends = rises_sooner from (from + 1) (numbers_of fates) (omega arith) rest.ascends;
-      stepping = rest.stepping;
-      fated = rest.fated;
-      every = λ g low high passes enabled. every_later from to g fates off rest high passes enabled (cases_lt from g) low;
-      tested = λ g low high passes. tested_later from to g fates here rest high passes (cases_lt from g) low }
+    ascends = rises_sooner from (from + 1) (numbers_of fates) (omega arith) rest.ascends;
+    stepping = rest.stepping;
+    fated = rest.fated;
+    every = λ g low high passes enabled. every_later from to g fates off rest high passes enabled (cases_lt from g) low;
+    tested = λ g low high passes. tested_later from to g fates here rest high passes (cases_lt from g) low;
+  }
 
   -- what holds of the first and of each later one holds of each
   in_cons : (P : ℕ × Fate → Type 0) (x y : ℕ × Fate) (xs : List (ℕ × Fate)) (k : ℕ) → P x → ((y : ℕ × Fate) → Has xs y → P y) → slice_get (x ∷ xs) k ≡ Some y → P y
@@ -184,11 +192,12 @@ module _ (m : Model) (v : Visit) (p : ℕ → Bool) where
   -- the first number is one of them
   first : (from to : ℕ) (fate : Fate) (fates : List (ℕ × Fate)) → Enabled m v.state from → IsFate m v from fate → Between (from + 1) to fates → Between from to ((from, fate) ∷ fates)
   first from to fate fates enabled is rest = record {
-      ascends = (omega arith, rest.ascends);
-      stepping = λ g f there. in_cons (λ x. Enabled m v.state x.0) (from, fate) (g, f) fates there.0 enabled (λ y has. rest.stepping y.0 y.1 has) there.1;
-      fated = λ g f there. in_cons (λ x. IsFate m v x.0 x.1) (from, fate) (g, f) fates there.0 is (λ y has. rest.fated y.0 y.1 has) there.1;
-      every = λ g low high passes enabled'. every_now from to g fate fates rest high passes enabled' (cases_lt from g) low;
-      tested = λ g low high passes. tested_later from to g fates (λ e. (true, (enabled_found m v.state from).1 enabled)) rest high passes (cases_lt from g) low }
+    ascends = (omega arith, rest.ascends);
+    stepping = λ g f there. in_cons (λ x. Enabled m v.state x.0) (from, fate) (g, f) fates there.0 enabled (λ y has. rest.stepping y.0 y.1 has) there.1;
+    fated = λ g f there. in_cons (λ x. IsFate m v x.0 x.1) (from, fate) (g, f) fates there.0 is (λ y has. rest.fated y.0 y.1 has) there.1;
+    every = λ g low high passes enabled'. every_now from to g fate fates rest high passes enabled' (cases_lt from g) low;
+    tested = λ g low high passes. tested_later from to g fates (λ e. (true, (enabled_found m v.state from).1 enabled)) rest high passes (cases_lt from g) low;
+  }
 
   skipped : (batch : Batch) (from to : ℕ) (r : Result Batch Met) → (p from ≡ true → Enabled m v.state from → ⊥) → (p from ≡ true → IsTested m v from) → Looped batch (from + 1) to r → Looped batch from to r
   skipped batch from to (Ok more) off here rest = (rest.0, skip from to rest.0 off here rest.1, rest.2)
@@ -238,16 +247,24 @@ none_tested m v g t fates none there between (inl is) = (false, none_before m v.
 none_tested m v g t fates none there between (inr free) = between.tested g (omega arith) (ground_within m g t there) (not_from_false (is_forced m g) free)
 
 found_loop : (m : Model) (v : Visit) (r : Result Batch Met) → IfSome v.cost InRange → Inner m v.state → first_enabled m v.state (forced_of m) ≡ Ok None → Looped m v (λ g. not (is_forced m g)) empty_batch 0 (length m.dp_ground) r → Found m v r
-found_loop m v (Ok batch) range inner none looped =
-    (looped.0, record {
-        ascending = increasing 0 (numbers_of looped.0) looped.1.ascends;
-        stepping = λ g fate there. ((none_forced m v.state g none).0, looped.1.stepping g fate there);
-        fated = looped.1.fated;
-        every = λ g considered enabled. looped.1.every g (omega arith) (ground_within m g enabled.0 enabled.1) (free m v.state g none enabled) enabled }, looped.2,
-     λ g t there considered. none_tested m v g t looped.0 none there looped.1 (cases_Bool (is_forced m g)))
+found_loop m v (Ok batch) range inner none looped = (
+  looped.0,
+  record {
+    ascending = increasing 0 (numbers_of looped.0) looped.1.ascends;
+    stepping = λ g fate there. (all_considered m v.state g none, looped.1.stepping g fate there);
+    fated = looped.1.fated;
+    every = λ g considered enabled. looped.1.every g (omega arith) (ground_within m g enabled.0 enabled.1) (free m v.state g none enabled) enabled;
+  },
+  looped.2,
+  λ g t there considered. none_tested m v g t looped.0 none there looped.1 (cases_Bool (is_forced m g)),
+)
   where
     free : (m : Model) (s : PlainState) (g : ℕ) → first_enabled m s (forced_of m) ≡ Ok None → Enabled m s g → not (is_forced m g) ≡ true
-    free m s g none enabled = not_from_false (is_forced m g) (false_from_ne_true (is_forced m g) (λ e. (none_forced m s g none).1 (forced_is m g e) enabled))
+    free m s g none enabled =
+        not_from_false (is_forced m g) (false_from_ne_true (is_forced m g) (λ e.
+        (let off = none_before m s g none (forced_is m g e) in
+        let on = (enabled_found m s g).1 enabled in
+        absurd (cc))))
 found_loop m v (Err met) range inner none looped = looped
 
 -- each transition is tested before a considered forced one that is enabled, or is not considered
@@ -267,16 +284,21 @@ one_tested m v f g one considered (inr free) =
 -- one forced transition is alone
 found_one : (m : Model) (v : Visit) (g : ℕ) (r : Result Batch Met) → first_enabled m v.state (forced_of m) ≡ Ok (Some g) → Made m v empty_batch g r → Found m v r
 found_one m v g (Ok batch) one made =
-    let is = forced_found m v.state g one in
-    (one_fate g made.0, record {
+    let is = forced_found m v.state g one in (
+      one_fate g made.0,
+      record {
         ascending = λ k low. absurd (omega arith);
         stepping = λ h fate there. in_one (λ x. Considered m v.state x.0 × Enabled m v.state x.0) (g, made.0) (h, fate) there.0 (is.1, is.2) there.1;
         fated = λ h fate there. in_one (λ x. IsFate m v x.0 x.1) (g, made.0) (h, fate) there.0 made.1 there.1;
-        every = λ h considered enabled. (made.0, (zero, ap (λ (k : ℕ). Some (k, made.0)) (sym (forced_alone m v.state g h one considered enabled)))) }, made.2,
-     λ h t there considered. one_tested m v g h one considered (cases_Bool (is_forced m h)))
+        every = λ h considered enabled. (made.0, (zero, ap (λ (k : ℕ). Some (k, made.0)) (sym (forced_alone m v.state g h one considered enabled))));
+      },
+      made.2,
+      λ h t there considered. one_tested m v g h one considered (cases_Bool (is_forced m h)),
+    )
   where
     one_fate : ℕ → Fate → List (ℕ × Fate)
     one_fate g fate = (g, fate) ∷ []
+
     in_one : (P : ℕ × Fate → Type 0) (x y : ℕ × Fate) (k : ℕ) → P x → slice_get (x ∷ []) k ≡ Some y → P y
     in_one P x y zero here e = let same : x ≡ y = cc in subst P same here
     in_one P x y (suc k) here e = absurd (let clash : None ≡ Some y = e in cc)
@@ -286,7 +308,7 @@ found_cases : (m : Model) (v : Visit) (r : Result (Option ℕ) SpotFault) → fi
 found_cases m v (Ok (Some g)) q range inner = found_one m v g (with_number m v empty_batch g) q (made m v empty_batch g range (inner, (forced_found m v.state g q).1, (forced_found m v.state g q).2))
 found_cases m v (Ok None) q range inner =
     found_loop m v (each (with_tested m v) empty_batch (others_of m)) range inner q
-        (looped m v (λ g. not (is_forced m g)) range inner (λ g. (none_forced m v.state g q).0) (length m.dp_ground) 0 (length m.dp_ground) (zero-add (length m.dp_ground)) empty_batch)
+    (looped m v (λ g. not (is_forced m g)) range inner (λ g. all_considered m v.state g q) (length m.dp_ground) 0 (length m.dp_ground) (zero-add (length m.dp_ground)) empty_batch)
 found_cases m v (Err met) q range inner = forced_faults m v.prune v.cost v.state met inner q
 
 pub found : (m : Model) (v : Visit) → IfSome v.cost InRange → Inner m v.state → Found m v (expansion m v)

@@ -41,17 +41,13 @@ LookedOpen = (m : Model) (prune : Bool) (s : PlainState) (cost floor : Option �
 abbrev pub LookFaults : Type 0
 LookFaults = (m : Model) (prune : Bool) (cost : Option ℤ) (s : PlainState) (met : SpotFault) → looked_at m prune s cost ≡ Err met → MeetsIn m prune cost s met.spot met.kind
 
--- the spots of constraints, base cases and dual bounds, which are evaluated when a state is looked at
+-- the spots that are evaluated when a state is looked at: of constraints, base cases and dual bounds
 abbrev pub is_looked : Spot → Bool
 is_looked (spots.Constraint i) = true
 is_looked (spots.BaseCondition i j) = true
 is_looked (spots.BaseCost i) = true
 is_looked (spots.Bound i) = true
-is_looked spots.Total = false
-is_looked (spots.Precondition g j) = false
-is_looked (spots.Weight g) = false
-is_looked (spots.Cost g) = false
-is_looked (spots.Effect g i) = false
+is_looked spot = false
 
 -- A fault at one of these spots that is met in the state is the one that is found.
 abbrev pub LookMet : Type 0

@@ -1,5 +1,5 @@
 -- What is found of a visit of an inner state, at a cost so far in range.
-use Rattle.std.specs.Prelude.{◌≡◌, ℕ, Bool, true, false, ◌⊎◌, List, map, Option, Ok, Err, IfSome, ℤ}
+use Rattle.std.specs.Prelude.{◌≡◌, ℕ, Bool, true, ◌⊎◌, List, map, Option, Ok, Err, IfSome, ℤ}
 use Rattle.std.specs.List.Sorted.{IsStrictlyIncreasing}
 use Rattle.dp_model.specs.Costs.{InRange, join}
 use Rattle.dp_model.specs.declared.answers.FaultKind.{FaultKind}
@@ -16,6 +16,7 @@ use Rattle.successors.specs.Answers.{Met}
 use Rattle.successors.specs.Visits.{Visit, expansion}
 use Rattle.successors.specs.declared.batch.Batch.{Batch}
 use Rattle.successors.specs.declared.batch.Offer.{Offer}
+use Rattle.visit_laws.specs.Looks.{is_looked}
 use Rattle.visit_laws.specs.Fates.{AreFates, Fate, IsSuccessor, IsTotal, LeadsOut, MeetsAfter, Prunes, batch_of}
 
 -- The batch is that of the fates of exactly the considered and enabled transitions, in ascending order.
@@ -26,27 +27,21 @@ FatesFound = (m : Model) (v : Visit) (batch : Batch) → Inner m v.state → IfS
 abbrev pub VisitFaults : Type 0
 VisitFaults = (m : Model) (v : Visit) (met : Met) → Inner m v.state → IfSome v.cost InRange → expansion m v ≡ Err met → MeetsAfter m v met.last met
 
--- A fault at this spot may be met in a state that was looked at: none of the constraints, base cases and dual bounds, nor
--- of a total.
-abbrev pub is_later : Spot → Bool
-is_later (spots.Constraint i) = false
-is_later (spots.BaseCondition i j) = false
-is_later (spots.BaseCost i) = false
-is_later (spots.Bound i) = false
-is_later spots.Total = false
-is_later (spots.Precondition g j) = true
-is_later (spots.Weight g) = true
-is_later (spots.Cost g) = true
-is_later (spots.Effect g i) = true
+-- the spots that a visit evaluates in a successor: those of a look, and that of the total
+abbrev pub is_on_arrival : Spot → Bool
+is_on_arrival spots.Total = true
+is_on_arrival spot = is_looked spot
 
--- Where a batch is found of an inner state that has a floor, or none, without a fault, no fault at all is met in the
--- state. In the states that steps lead to, none is met at the spots that are evaluated there.
+-- No fault is met in the visited state, and in the states that steps lead to from there none at the spots that a visit
+-- evaluates there.
 pub record PassesNone (m : Model) (v : Visit) : Type 0 where
   pub here : (spot : Spot) (kind : FaultKind) → MeetsIn m v.prune v.cost v.state spot kind → ⊥
   pub after :
-    (g : ℕ) (weight : Option ℤ) (next : PlainState) → Step m v.state g weight next
-    → (spot : Spot) (kind : FaultKind) → is_later spot ≡ false → MeetsIn m v.prune (join m.join v.cost weight) next spot kind → ⊥
+      (g : ℕ) (weight : Option ℤ) (next : PlainState) → Step m v.state g weight next
+      → (spot : Spot) (kind : FaultKind) → is_on_arrival spot ≡ true → MeetsIn m v.prune (join m.join v.cost weight) next spot kind → ⊥
 
+-- Where a batch is found of a state that was looked at before without a fault, so that it is inner and its floor is known,
+-- no fault is passed over.
 abbrev pub NoFaultPassed : Type 0
 NoFaultPassed =
     (m : Model) (v : Visit) (batch : Batch) (floor : Option ℤ) → Inner m v.state → IfSome v.cost InRange → IsFloor m v.prune v.state v.cost floor

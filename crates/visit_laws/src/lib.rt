@@ -5,7 +5,7 @@
 ghost use Rattle.visit_laws.specs.Constraints.{AllowedFound, ConstraintFaults, ConstraintMet, ForbiddenFound};
 ghost use Rattle.visit_laws.specs.BaseCases.{BaseCostMet, BaseFaults, BaseFound, ConditionMet, InnerFound};
 ghost use Rattle.visit_laws.specs.Looks.{BoundMet, FloorFaults, FloorFound, LookFaults, LookMet, LookedBase, LookedForbidden, LookedOpen};
-ghost use Rattle.visit_laws.specs.Transitions.{EnabledFaults, EnabledFound, ForcedAlone, ForcedFaults, ForcedFound, MayStepFaults, MayStepFound, NoneForced, PreconditionMet};
+ghost use Rattle.visit_laws.specs.Transitions.{AllConsidered, EnabledFaults, EnabledFound, ForcedAlone, ForcedFaults, ForcedFound, MayNotStep, MayStepFaults, MayStepFound, NoneForced, PreconditionMet};
 ghost use Rattle.visit_laws.specs.Steps.{CostFaults, CostFound, CostMet, EffectFaults, EffectMet, NextFound, StepFound, StepMade, WeightMet};
 ghost use Rattle.visit_laws.specs.Visits.{BatchFound, FatesExclude, FatesFound, NoFaultPassed, VisitFaults};
 
@@ -51,6 +51,7 @@ pub fn law_transitions()
     ensures enabled { EnabledFound }
     ensures enabled_faults { EnabledFaults }
     ensures may_step { MayStepFound }
+    ensures may_not { MayNotStep }
     ensures faults { MayStepFaults }
     ensures met { PreconditionMet }
 {}
@@ -61,6 +62,7 @@ pub fn law_forced()
     ensures found { ForcedFound }
     ensures alone { ForcedAlone }
     ensures none { NoneForced }
+    ensures others { AllConsidered }
     ensures faults { ForcedFaults }
 {}
 

@@ -3,5 +3,13 @@ use Rattle.visit_laws.proofs.law_steps.Goals as goal
 
 pub returns : goal.returns
 returns c = record {
-    cost = cost_found; next = next_found; step = step_found; made = step_made; cost_faults = cost_faults; effect_faults = effect_faults;
-    weight_met = weight_met; cost_met = joined_met; effect_met = effect_met }
+  cost = cost_found;
+  next = next_found;
+  step = step_found;
+  made = step_made;
+  cost_faults = cost_faults;
+  effect_faults = effect_faults;
+  weight_met = weight_met;
+  cost_met = joined_met;
+  effect_met = effect_met;
+}
