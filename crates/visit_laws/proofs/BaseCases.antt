@@ -104,6 +104,13 @@ base_best m s base b =
 pub inner_best : (m : Model) (s : PlainState) → Inner m s → best_case m s 0 None m.base_cases ≡ Ok None
 inner_best m s inner = costs_best m s [] inner.open_cases
 
+-- a base state is not inner
+pub not_inner : (m : Model) (s s' : PlainState) (base : ℤ) → s ≡ s' → Base m s base → Inner m s' → ⊥
+not_inner m s s' base same is inner =
+    let at : Inner m s = subst (λ (x : PlainState). Inner m x) (sym same) inner in
+    let clash : Ok (Some base) ≡ Ok None = sym (base_best m s base is) ∙ inner_best m s at in
+    cc
+
 -- ---- what is found
 
 found_base : (m : Model) (s : PlainState) (base : ℤ) (q : Result Bool SpotFault) → allowed_at m s ≡ q → (q >>= λ allowed. if allowed then best_case m s 0 None m.base_cases else Ok None) ≡ Ok (Some base) → Base m s base
@@ -143,7 +150,7 @@ first_step m s i best b bs met (Ok c) q rest e =
     let costs : case_costs m s (b ∷ take f.place bs) ≡ Ok (option_to_list c ++ f.before.0) = rw (costs_cons m s b (take f.place bs), value, f.before.1) refl in
     record { place = suc f.place; «case» = f.«case»; there = f.there; fault = rw at f.fault; before = (option_to_list c ++ f.before.0, costs) }
 
-first_case : (m : Model) (s : PlainState) (i : ℕ) (best : Option ℤ) (bs : List BaseCase) (met : SpotFault) → best_case m s i best bs ≡ Err met → FirstCase m s i bs met
+pub first_case : (m : Model) (s : PlainState) (i : ℕ) (best : Option ℤ) (bs : List BaseCase) (met : SpotFault) → best_case m s i best bs ≡ Err met → FirstCase m s i bs met
 first_case m s i best [] met e = absurd (cc)
 first_case m s i best (b ∷ bs) met e = first_step m s i best b bs met (case_at m s i b) refl (λ other. first_case m s (i + 1) other bs met) e
 

@@ -15,7 +15,7 @@ use Rattle.successors.specs.declared.batch.Offer.{Offer}
 use Rattle.visit_laws.specs.Fates.{AreFates, Fate, IsFate, IsSuccessor, IsTotal, LeadsOut, batch_of, letters_of, numbers_of, offers_of, pruned_of, with_letter, with_offer, with_pruned}
 use Rattle.visit_laws.specs.Fates.Fate.{Out, Total, Letter, Pruned}
 use Rattle.visit_laws.specs.Visits.{Accounted, Ascending, BatchFound, FatesExclude, IsBatch, IsKept, IsOffered, LettersSound, OffersSound, PrunedSound}
-use Rattle.visit_laws.proofs.BaseCases.{base_best, inner_best}
+use Rattle.visit_laws.proofs.BaseCases.{base_best, not_inner}
 use Rattle.visit_laws.proofs.Looks.{floor_found_at}
 use Rattle.visit_laws.proofs.Steps.{same_ground}
 use Rattle.visit_laws.proofs.Rising.{Rises, increasing, rises, rises_sooner}
@@ -209,12 +209,6 @@ pub not_both : (m : Model) (s s' : PlainState) → s ≡ s' → Forbidden m s �
 not_both m s s' same forbidden allowed =
     let at : Allowed m s = subst (λ (x : PlainState). Allowed m x) (sym same) allowed in
     let clash : Ok false ≡ Ok true = sym forbidden ∙ at in
-    cc
-
-pub not_inner : (m : Model) (s s' : PlainState) (base : ℤ) → s ≡ s' → Base m s base → Inner m s' → ⊥
-not_inner m s s' base same is inner =
-    let at : Inner m s = subst (λ (x : PlainState). Inner m x) (sym same) inner in
-    let clash : Ok (Some base) ≡ Ok None = sym (base_best m s base is) ∙ inner_best m s at in
     cc
 
 pub same_base : (m : Model) (s s' : PlainState) (a b : ℤ) → s ≡ s' → Base m s a → Base m s' b → a ≡ b

@@ -8,6 +8,9 @@ pub mod Looks
 pub mod Transitions
 pub mod Steps
 pub mod Rising
+pub mod Fates
+pub mod InTurn
+pub mod Exact
 pub mod Visits
 pub mod Batches
 pub mod Passes

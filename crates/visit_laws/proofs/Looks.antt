@@ -8,6 +8,7 @@ use Rattle.dp_model.specs.declared.answers.FaultKind.{FaultKind}
 use Rattle.dp_model.specs.declared.answers.Spot.{Spot}
 use Rattle.dp_model.specs.declared.answers.Spot.TheVariants as spots
 use Rattle.dp_model.specs.declared.trees.Num.{Num}
+use Rattle.dp_model.specs.declared.parts.BaseCase.{BaseCase}
 use Rattle.dp_model.specs.declared.parts.PlainState.{PlainState}
 use Rattle.dp_model.specs.declared.whole.Model.{Model}
 use Rattle.dp_steps.specs.States.{Allowed, Base, Forbidden, Inner}
@@ -15,15 +16,17 @@ use Rattle.dp_steps.specs.Bounds.{IsFloor, values_of}
 use Rattle.dp_steps.specs.Faults.{HasValue, MeetsIn}
 use Rattle.spot_eval.specs.Answers.{at_spot}
 use Rattle.spot_eval.specs.declared.ends.SpotFault.{SpotFault}
-use Rattle.spot_eval.specs.Looks.{allowed_at, base_at, best_case, floor_at, floor_of, looked_at, open_or_base, tightest_at, with_better}
+use Rattle.spot_eval.specs.Looks.{all_at, allowed_at, base_at, best_case, floor_at, floor_of, looked_at, open_or_base, tightest_at, with_better}
+use Rattle.spot_eval.specs.declared.tests.Tests.TheVariants.{BaseConditions, Constraints}
 use Rattle.spot_eval.specs.declared.looks.Look.{Look}
 use Rattle.spot_eval.specs.declared.looks.Look.TheVariants as looks
-use Rattle.visit_laws.specs.Looks.{BoundMet, FloorFaults, FloorFound, LookFaults, LookMet, LookedBase, LookedForbidden, LookedOpen}
+use Rattle.visit_laws.specs.Looks.{BoundMet, FloorFaults, FloorFound, LookFaults, LookedBase, LookedForbidden, LookedOpen, is_looked}
 use Rattle.visit_laws.proofs.Spots.{without_spot, from_value, fault_there, two_values}
+use Rattle.visit_laws.proofs.Tests.{first_fault}
 use Rattle.visit_laws.proofs.Best.{best_over, over_number}
 use Rattle.visit_laws.proofs.Costs.{join_some}
 use Rattle.visit_laws.proofs.Constraints.{allowed_found, constraint_faults, constraint_met, forbidden_found}
-use Rattle.visit_laws.proofs.BaseCases.{base_best, base_cost_met, best_met, condition_met, inner_best, is_base, is_inner}
+use Rattle.visit_laws.proofs.BaseCases.{base_best, base_cost_met, best_met, condition_met, first_case, inner_best, is_base, is_inner}
 
 -- ---- the tightest bound
 
@@ -174,13 +177,13 @@ is_cases m prune s cost (Ok (Some base)) q allowed = is_base m s base allowed q
 is_cases m prune s cost (Ok None) q allowed = is_open m prune s cost (floor_at m prune s cost) refl (is_inner m s allowed q)
 is_cases m prune s cost (Err met) q allowed = best_met m prune cost s met allowed q
 
-is_looked : (m : Model) (prune : Bool) (s : PlainState) (cost : Option ℤ) (r : Result Bool SpotFault) → allowed_at m s ≡ r → Is m prune s cost (r >>= λ allowed. if allowed then (best_case m s 0 None m.base_cases >>= open_or_base m prune s cost) else Ok looks.NotAllowed)
-is_looked m prune s cost (Ok true) q = is_cases m prune s cost (best_case m s 0 None m.base_cases) refl ((allowed_found m s).0 q)
-is_looked m prune s cost (Ok false) q = (forbidden_found m s).0 q
-is_looked m prune s cost (Err met) q = constraint_faults m prune cost s met q
+is_told : (m : Model) (prune : Bool) (s : PlainState) (cost : Option ℤ) (r : Result Bool SpotFault) → allowed_at m s ≡ r → Is m prune s cost (r >>= λ allowed. if allowed then (best_case m s 0 None m.base_cases >>= open_or_base m prune s cost) else Ok looks.NotAllowed)
+is_told m prune s cost (Ok true) q = is_cases m prune s cost (best_case m s 0 None m.base_cases) refl ((allowed_found m s).0 q)
+is_told m prune s cost (Ok false) q = (forbidden_found m s).0 q
+is_told m prune s cost (Err met) q = constraint_faults m prune cost s met q
 
 pub looked_is : (m : Model) (prune : Bool) (s : PlainState) (cost : Option ℤ) → Is m prune s cost (looked_at m prune s cost)
-looked_is m prune s cost = is_looked m prune s cost (allowed_at m s) refl
+looked_is m prune s cost = is_told m prune s cost (allowed_at m s) refl
 
 at_look : (m : Model) (prune : Bool) (s : PlainState) (cost : Option ℤ) (look : Result Look SpotFault) → looked_at m prune s cost ≡ look → Is m prune s cost look
 at_look m prune s cost look e = subst (λ (r : Result Look SpotFault). Is m prune s cost r) e (looked_is m prune s cost)
@@ -197,9 +200,6 @@ looked_open m prune s cost floor = (
   λ h. rw ((allowed_found m s).1 h.0.allowed, inner_best m s h.0, floor_found_at m prune s cost floor h.1) refl,
 )
 
-pub look_faults : LookFaults
-look_faults m prune cost s met e = at_look m prune s cost (Err met) e
-
 -- a fault of the base cases is found on the way, where the state is allowed
 past_base : (m : Model) (prune : Bool) (s : PlainState) (cost : Option ℤ) (met : SpotFault) → Allowed m s → base_at m s ≡ Err met → looked_at m prune s cost ≡ Err met
 past_base m prune s cost met allowed e =
@@ -207,7 +207,8 @@ past_base m prune s cost met allowed e =
     let best : best_case m s 0 None m.base_cases ≡ Err met = rw found at e in
     rw (found, best) refl
 
-pub look_met : LookMet
+-- a fault of a look that is met in the state is the one that is found
+pub look_met : (m : Model) (prune : Bool) (cost : Option ℤ) (s : PlainState) (spot : Spot) (kind : FaultKind) → is_looked spot ≡ true → MeetsIn m prune cost s spot kind → looked_at m prune s cost ≡ Err (record { spot = spot; kind = kind })
 look_met m prune cost s (spots.Constraint i) kind is meets = rw (constraint_met m prune cost s i kind meets) refl
 look_met m prune cost s (spots.BaseCondition i j) kind is meets =
     past_base m prune s cost (record { spot = spots.BaseCondition i j; kind = kind }) meets.0.0.0 (condition_met m prune cost s i j kind meets)
@@ -220,3 +221,48 @@ look_met m prune cost s (spots.Precondition g j) kind is meets = absurd (false�
 look_met m prune cost s (spots.Weight g) kind is meets = absurd (false≢true is)
 look_met m prune cost s (spots.Cost g) kind is meets = absurd (false≢true is)
 look_met m prune cost s (spots.Effect g i) kind is meets = absurd (false≢true is)
+
+-- ---- the spots of faults
+
+looked_at_spot : (spot spot' : Spot) → spot ≡ spot' → is_looked spot' ≡ true → is_looked spot ≡ true
+looked_at_spot spot spot' same is = rw same is
+
+constraint_spot : (m : Model) (s : PlainState) (met : SpotFault) → allowed_at m s ≡ Err met → is_looked met.spot ≡ true
+constraint_spot m s met e = looked_at_spot met.spot _ (first_fault m s Constraints [] m.constraints 0 met e).spot refl
+
+case_spot : (m : Model) (s : PlainState) (i : ℕ) (b : BaseCase) (met : SpotFault) (q : Result Bool SpotFault) (n : Result ℤ FaultKind) → all_at m s (BaseConditions i) [] 0 b.conditions ≡ q → (q >>= λ held. if held then (at_spot (spots.BaseCost i) n >>= λ c. Ok (Some c)) else Ok None) ≡ Err met → is_looked met.spot ≡ true
+case_spot m s i b met (Err other) n q e = looked_at_spot met.spot _ (first_fault m s (BaseConditions i) [] b.conditions 0 met (q ∙ cc)).spot refl
+case_spot m s i b met (Ok false) n q e = absurd (cc)
+case_spot m s i b met (Ok true) (Ok c) q e = absurd (cc)
+case_spot m s i b met (Ok true) (Err kind) q e = looked_at_spot met.spot (spots.BaseCost i) (fault_there {A = ℤ} (spots.BaseCost i) (Err kind) met cc).1 refl
+
+best_spot : (m : Model) (s : PlainState) (met : SpotFault) → best_case m s 0 None m.base_cases ≡ Err met → is_looked met.spot ≡ true
+best_spot m s met e =
+    let f = first_case m s 0 None m.base_cases met e in
+    case_spot m s (0 + f.place) f.«case» met (all_at m s (BaseConditions (0 + f.place)) [] 0 f.«case».conditions) (num_value m s f.«case».cost []) refl f.fault
+
+floor_spot : (m : Model) (prune : Bool) (s : PlainState) (cost : Option ℤ) (met : SpotFault) → floor_at m prune s cost ≡ Err met → is_looked met.spot ≡ true
+floor_spot m true s cost met e = looked_at_spot met.spot _ (first_bound m s 0 None m.bounds met (floor_fault m cost met (tightest_at m s 0 None m.bounds) e)).spot refl
+floor_spot m false s cost met e = absurd (cc)
+
+open_spot : (m : Model) (prune : Bool) (s : PlainState) (cost : Option ℤ) (met : SpotFault) (r : Result (Option ℤ) SpotFault) → floor_at m prune s cost ≡ r → (r >>= λ floor. Ok (looks.Open floor)) ≡ Err met → is_looked met.spot ≡ true
+open_spot m prune s cost met (Ok floor) q e = absurd (cc)
+open_spot m prune s cost met (Err other) q e = floor_spot m prune s cost met (q ∙ cc)
+
+cases_spot : (m : Model) (prune : Bool) (s : PlainState) (cost : Option ℤ) (met : SpotFault) (r : Result (Option ℤ) SpotFault) → best_case m s 0 None m.base_cases ≡ r → (r >>= open_or_base m prune s cost) ≡ Err met → is_looked met.spot ≡ true
+cases_spot m prune s cost met (Ok (Some base)) q e = absurd (cc)
+cases_spot m prune s cost met (Ok None) q e = open_spot m prune s cost met (floor_at m prune s cost) refl e
+cases_spot m prune s cost met (Err other) q e = best_spot m s met (q ∙ cc)
+
+look_spot_step : (m : Model) (prune : Bool) (s : PlainState) (cost : Option ℤ) (met : SpotFault) (r : Result Bool SpotFault) → allowed_at m s ≡ r → (r >>= λ allowed. if allowed then (best_case m s 0 None m.base_cases >>= open_or_base m prune s cost) else Ok looks.NotAllowed) ≡ Err met → is_looked met.spot ≡ true
+look_spot_step m prune s cost met (Ok true) q e = cases_spot m prune s cost met (best_case m s 0 None m.base_cases) refl e
+look_spot_step m prune s cost met (Ok false) q e = absurd (cc)
+look_spot_step m prune s cost met (Err other) q e = constraint_spot m s met (q ∙ cc)
+
+-- a fault that is found of a look is one of its spots
+pub look_spot : (m : Model) (prune : Bool) (s : PlainState) (cost : Option ℤ) (met : SpotFault) → looked_at m prune s cost ≡ Err met → is_looked met.spot ≡ true
+look_spot m prune s cost met e = look_spot_step m prune s cost met (allowed_at m s) refl e
+
+pub look_faults : LookFaults
+look_faults m prune cost s met =
+    (λ e. (look_spot m prune s cost met e, at_look m prune s cost (Err met) e), λ h. look_met m prune cost s met.spot met.kind h.0 h.1)

@@ -53,7 +53,7 @@ pub cost_found : CostFound
 cost_found m s cost g t joined range =
     (λ e. cost_joins m s cost g t joined (weight_of m s t) range refl e, λ joins. joins_cost m s cost g t joined joins.0 joins.1 joins.2 joins.3)
 
-fault_some : (spot : Spot) (v : Result ℤ FaultKind) (met : SpotFault) → (at_spot spot v >>= λ c. Ok (Some c)) ≡ Err met → (v ≡ Err met.kind) × (met.spot ≡ spot)
+pub fault_some : (spot : Spot) (v : Result ℤ FaultKind) (met : SpotFault) → (at_spot spot v >>= λ c. Ok (Some c)) ≡ Err met → (v ≡ Err met.kind) × (met.spot ≡ spot)
 fault_some spot (Ok x) met e = absurd (cc)
 fault_some spot (Err kind) met e = fault_there {A = ℤ} spot (Err kind) met cc
 
@@ -125,7 +125,7 @@ next_found m s g t next =
     let same = next_value m s g t in
     (λ e. sym same ∙ to_value (next_at m s g t) next e, λ e. from_value (next_at m s g t) next (same ∙ e))
 
-next_fault : (s : PlainState) (q : Result (List (ℕ × PlainValue)) SpotFault) (met : SpotFault) → (q >>= λ changes. Ok (changed s changes)) ≡ Err met → q ≡ Err met
+pub next_fault : (s : PlainState) (q : Result (List (ℕ × PlainValue)) SpotFault) (met : SpotFault) → (q >>= λ changes. Ok (changed s changes)) ≡ Err met → q ≡ Err met
 next_fault s (Ok changes) met e = absurd (cc)
 next_fault s (Err other) met e = cc
 

@@ -299,6 +299,12 @@ none_forced m s f t e forced there = found_is m s f t false there (none_before m
 pub all_considered : AllConsidered
 all_considered m s g e f t forced there order = none_forced m s f t e forced there
 
+-- the first forced one that meets a fault, before which none is enabled
+pub forced_fault : (m : Model) (s : PlainState) (met : SpotFault) → first_enabled m s (forced_of m) ≡ Err met → (f : ℕ) × IsForced m f × ((number_enabled m s f ≡ Err met) × ((h : ℕ) → IsForced m h → h < f → number_enabled m s h ≡ Ok false))
+forced_fault m s met e =
+    let first : Told m s (is_forced m) 0 (length m.dp_ground) (Err met) = subst (λ (v : Result (Option ℕ) SpotFault). Told m s (is_forced m) 0 (length m.dp_ground) v) e (forced_told m s) in
+    (first.0, forced_is m first.0 first.1.passes, (first.2, λ h forced less. first.1.before h (omega arith) less (is_forced_there m h forced)))
+
 pub forced_faults : ForcedFaults
 forced_faults m prune cost s met inner e =
     let first : Told m s (is_forced m) 0 (length m.dp_ground) (Err met) = subst (λ (v : Result (Option ℕ) SpotFault). Told m s (is_forced m) 0 (length m.dp_ground) v) e (forced_told m s) in

@@ -1,8 +1,10 @@
 -- What may become of a transition of a visited node: the state that it leads to, its cost so far, and what a visit makes
 -- of both.
-use Rattle.std.specs.Prelude.{◌≡◌, ℕ, ◌+◌, List, [], ◌∷◌, map, Option, Some, None, IfSome, ℤ, pos, ◌≤ℤ◌}
+use Rattle.std.specs.Prelude.{◌≡◌, ℕ, ◌+◌, Bool, true, List, [], ◌∷◌, map, Option, Some, None, IfSome, ℤ, pos, ◌≤ℤ◌}
 use Rattle.std.specs.List.Sorted.{IsStrictlyIncreasing}
 use Rattle.dp_model.specs.Costs.{InRange, join, join_onto, order_word}
+use Rattle.dp_model.specs.declared.answers.Spot.{Spot}
+use Rattle.dp_model.specs.declared.answers.Spot.TheVariants as spots
 use Rattle.dp_model.specs.declared.parts.PlainState.{PlainState}
 use Rattle.dp_model.specs.declared.whole.Model.{Model}
 use Rattle.dp_steps.specs.Bounds.{IsFloor}
@@ -14,6 +16,7 @@ use Rattle.successors.specs.Answers.{Met}
 use Rattle.successors.specs.Visits.{Visit}
 use Rattle.successors.specs.declared.batch.Batch.{Batch}
 use Rattle.successors.specs.declared.batch.Offer.{Offer}
+use Rattle.visit_laws.specs.Looks.{is_looked}
 
 -- The node of a step from the visited state to an inner state: it has the joined cost, its floor, the visited node as its
 -- parent, and the step's transition.
@@ -125,3 +128,28 @@ MeetsAfter m v None met = MeetsIn m v.prune v.cost v.state met.spot met.kind
 MeetsAfter m v (Some g) met =
     (weight : Option ℤ) × (next : PlainState) × Step m v.state g weight next × IfSome (join m.join v.cost weight) InRange
     × MeetsIn m v.prune (join m.join v.cost weight) next met.spot met.kind
+
+-- the fault is of this transition: it is met in the state that the transition leads to, or at one of its own spots
+abbrev pub IsOf : ℕ → (last : Option ℕ) → Spot → Type 0
+IsOf g (Some h) spot = h ≡ g
+IsOf g None (spots.Precondition h j) = h ≡ g
+IsOf g None (spots.Weight h) = h ≡ g
+IsOf g None (spots.Cost h) = h ≡ g
+IsOf g None (spots.Effect h i) = h ≡ g
+IsOf g None spot = ⊥
+
+-- the spots that a visit evaluates in a successor: those of a look, and that of the total
+abbrev pub is_on_arrival : Spot → Bool
+is_on_arrival spots.Total = true
+is_on_arrival spot = is_looked spot
+
+-- the fault is not met in a successor, or at one of these spots
+abbrev pub Arrives : (last : Option ℕ) → Spot → Type 0
+Arrives None spot = Unit {0}
+Arrives (Some g) spot = is_on_arrival spot ≡ true
+
+-- a fault that is met on the way from the first precondition of a transition to the look at the state that it leads to
+pub record IsFaultOf (m : Model) (v : Visit) (g : ℕ) (met : Met) : Type 0 where
+  pub is_of : IsOf g met.last met.spot
+  pub meets : MeetsAfter m v met.last met
+  pub arrives : Arrives met.last met.spot

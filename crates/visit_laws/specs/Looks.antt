@@ -37,10 +37,6 @@ LookedBase = (m : Model) (prune : Bool) (s : PlainState) (cost : Option ℤ) (ba
 abbrev pub LookedOpen : Type 0
 LookedOpen = (m : Model) (prune : Bool) (s : PlainState) (cost floor : Option ℤ) → (looked_at m prune s cost ≡ Ok (looks.Open floor)) ↔ (Inner m s × IsFloor m prune s cost floor)
 
--- A fault that is found on the way is met in the state, at the spot that is told.
-abbrev pub LookFaults : Type 0
-LookFaults = (m : Model) (prune : Bool) (cost : Option ℤ) (s : PlainState) (met : SpotFault) → looked_at m prune s cost ≡ Err met → MeetsIn m prune cost s met.spot met.kind
-
 -- the spots that are evaluated when a state is looked at: of constraints, base cases and dual bounds
 abbrev pub is_looked : Spot → Bool
 is_looked (spots.Constraint i) = true
@@ -49,6 +45,6 @@ is_looked (spots.BaseCost i) = true
 is_looked (spots.Bound i) = true
 is_looked spot = false
 
--- A fault at one of these spots that is met in the state is the one that is found.
-abbrev pub LookMet : Type 0
-LookMet = (m : Model) (prune : Bool) (cost : Option ℤ) (s : PlainState) (spot : Spot) (kind : FaultKind) → is_looked spot ≡ true → MeetsIn m prune cost s spot kind → looked_at m prune s cost ≡ Err (record { spot = spot; kind = kind })
+-- A fault is found exactly where it is met in the state at one of these spots.
+abbrev pub LookFaults : Type 0
+LookFaults = (m : Model) (prune : Bool) (cost : Option ℤ) (s : PlainState) (met : SpotFault) → (looked_at m prune s cost ≡ Err met) ↔ ((is_looked met.spot ≡ true) × MeetsIn m prune cost s met.spot met.kind)

@@ -1,10 +1,9 @@
 -- What is found of a visit of an inner state, at a cost so far in range.
-use Rattle.std.specs.Prelude.{◌≡◌, ℕ, Bool, true, ◌⊎◌, List, map, Option, Ok, Err, IfSome, ℤ}
+use Rattle.std.specs.Prelude.{◌≡◌, ℕ, ◌<◌, true, ◌⊎◌, List, map, Option, Ok, Err, IfSome, ℤ}
 use Rattle.std.specs.List.Sorted.{IsStrictlyIncreasing}
 use Rattle.dp_model.specs.Costs.{InRange, join}
 use Rattle.dp_model.specs.declared.answers.FaultKind.{FaultKind}
 use Rattle.dp_model.specs.declared.answers.Spot.{Spot}
-use Rattle.dp_model.specs.declared.answers.Spot.TheVariants as spots
 use Rattle.dp_model.specs.declared.parts.PlainState.{PlainState}
 use Rattle.dp_model.specs.declared.whole.Model.{Model}
 use Rattle.dp_steps.specs.States.{Considered, Enabled, Inner, Step}
@@ -16,8 +15,7 @@ use Rattle.successors.specs.Answers.{Met}
 use Rattle.successors.specs.Visits.{Visit, expansion}
 use Rattle.successors.specs.declared.batch.Batch.{Batch}
 use Rattle.successors.specs.declared.batch.Offer.{Offer}
-use Rattle.visit_laws.specs.Looks.{is_looked}
-use Rattle.visit_laws.specs.Fates.{AreFates, Fate, IsSuccessor, IsTotal, LeadsOut, MeetsAfter, Prunes, batch_of}
+use Rattle.visit_laws.specs.Fates.{AreFates, Fate, IsFaultOf, IsSuccessor, IsTotal, LeadsOut, MeetsAfter, Prunes, batch_of, is_on_arrival}
 
 -- The batch is that of the fates of exactly the considered and enabled transitions, in ascending order.
 abbrev pub FatesFound : Type 0
@@ -27,10 +25,15 @@ FatesFound = (m : Model) (v : Visit) (batch : Batch) → Inner m v.state → IfS
 abbrev pub VisitFaults : Type 0
 VisitFaults = (m : Model) (v : Visit) (met : Met) → Inner m v.state → IfSome v.cost InRange → expansion m v ≡ Err met → MeetsAfter m v met.last met
 
--- the spots that a visit evaluates in a successor: those of a look, and that of the total
-abbrev pub is_on_arrival : Spot → Bool
-is_on_arrival spots.Total = true
-is_on_arrival spot = is_looked spot
+-- It is the first one: no fault of a transition with a lesser number is met.
+abbrev pub FirstFound : Type 0
+FirstFound =
+    (m : Model) (v : Visit) (met : Met) → Inner m v.state → IfSome v.cost InRange → expansion m v ≡ Err met
+    → (g : ℕ) × IsFaultOf m v g met × ((h : ℕ) (other : Met) → h < g → IsFaultOf m v h other → ⊥)
+
+-- And it is the only one of its transition.
+abbrev pub OneFault : Type 0
+OneFault = (m : Model) (v : Visit) (g : ℕ) (a b : Met) → IfSome v.cost InRange → IsFaultOf m v g a → IsFaultOf m v g b → a ≡ b
 
 -- No fault is met in the visited state, and in the states that steps lead to from there none at the spots that a visit
 -- evaluates there.

@@ -4,10 +4,10 @@
 
 ghost use Rattle.visit_laws.specs.Constraints.{AllowedFound, ConstraintFaults, ConstraintMet, ForbiddenFound};
 ghost use Rattle.visit_laws.specs.BaseCases.{BaseCostMet, BaseFaults, BaseFound, ConditionMet, InnerFound};
-ghost use Rattle.visit_laws.specs.Looks.{BoundMet, FloorFaults, FloorFound, LookFaults, LookMet, LookedBase, LookedForbidden, LookedOpen};
+ghost use Rattle.visit_laws.specs.Looks.{BoundMet, FloorFaults, FloorFound, LookFaults, LookedBase, LookedForbidden, LookedOpen};
 ghost use Rattle.visit_laws.specs.Transitions.{AllConsidered, EnabledFaults, EnabledFound, ForcedAlone, ForcedFaults, ForcedFound, MayNotStep, MayStepFaults, MayStepFound, NoneForced, PreconditionMet};
 ghost use Rattle.visit_laws.specs.Steps.{CostFaults, CostFound, CostMet, EffectFaults, EffectMet, NextFound, StepFound, StepMade, WeightMet};
-ghost use Rattle.visit_laws.specs.Visits.{BatchFound, FatesExclude, FatesFound, NoFaultPassed, VisitFaults};
+ghost use Rattle.visit_laws.specs.Visits.{BatchFound, FatesExclude, FatesFound, FirstFound, NoFaultPassed, OneFault, VisitFaults};
 
 /// What is found of the constraints of a state: whether it is allowed, or the first fault, which is the one that is met
 /// there.
@@ -42,7 +42,6 @@ pub fn law_looks()
     ensures base { LookedBase }
     ensures open_inner { LookedOpen }
     ensures faults { LookFaults }
-    ensures met { LookMet }
 {}
 
 /// What is found of a transition in a state: whether it is enabled, whether it is considered and enabled, or the first
@@ -87,5 +86,7 @@ pub fn law_visits()
     ensures exclude { FatesExclude }
     ensures batch { BatchFound }
     ensures faults { VisitFaults }
+    ensures first { FirstFound }
+    ensures one { OneFault }
     ensures none_passed { NoFaultPassed }
 {}
