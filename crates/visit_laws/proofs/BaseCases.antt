@@ -38,7 +38,7 @@ case_value m s i b =
 
 costs_step : (m : Model) (s : PlainState) (b : BaseCase) (bs : List BaseCase) (r : Result (Option ℤ) FaultKind) → case_cost m s b ≡ r → case_costs m s (b ∷ bs) ≡ (r >>= λ c. case_costs m s bs >>= λ costs. Ok (option_to_list c ++ costs))
 costs_step m s b bs (Err kind) q = rw q refl
-costs_step m s b bs (Ok c) q = rw (q, bind_assoc (in_turn (case_cost m s) bs), bind_assoc (in_turn (case_cost m s) bs)) refl
+costs_step m s b bs (Ok c) q = rw q (simp bind_assoc)
 
 pub costs_cons : (m : Model) (s : PlainState) (b : BaseCase) (bs : List BaseCase) → case_costs m s (b ∷ bs) ≡ (case_cost m s b >>= λ c. case_costs m s bs >>= λ costs. Ok (option_to_list c ++ costs))
 costs_cons m s b bs = costs_step m s b bs (case_cost m s b) refl
