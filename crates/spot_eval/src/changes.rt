@@ -19,7 +19,7 @@ fn copy_value(alloc: Global, value: &PlainValue) -> Result<PlainValue, AllocErro
 }
 
 /// The values of a state, once more.
-pub(crate) fn copy_values(alloc: Global, s: &PlainState) -> Result<Vec<PlainValue>, AllocError>
+pub fn copy_values(alloc: Global, s: &PlainState) -> Result<Vec<PlainValue>, AllocError>
     ensures { IfOk result (λ values. values.items ≡ s.now.values) }
 {
     let held = s.values().list();

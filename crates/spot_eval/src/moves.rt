@@ -146,7 +146,7 @@ fn goes_before(model: &Model, number: u32, forced: u32) -> bool
 }
 
 /// The first enabled one of the forced transitions that are tested before this one.
-fn first_before(
+pub fn first_before(
     alloc: Global,
     model: &Model,
     s: &PlainState,
