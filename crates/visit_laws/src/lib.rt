@@ -5,7 +5,7 @@
 ghost use Rattle.visit_laws.specs.Constraints.{AllowedFound, ConstraintFaults, ConstraintMet, ForbiddenFound};
 ghost use Rattle.visit_laws.specs.BaseCases.{BaseCostMet, BaseFaults, BaseFound, ConditionMet, InnerFound};
 ghost use Rattle.visit_laws.specs.Looks.{BoundMet, FloorFaults, FloorFound, LookFaults, LookedBase, LookedForbidden, LookedOpen};
-ghost use Rattle.visit_laws.specs.Transitions.{AllConsidered, EnabledFaults, EnabledFound, ForcedAlone, ForcedFaults, ForcedFound, MayNotStep, MayStepFaults, MayStepFound, NoneForced, PreconditionMet};
+ghost use Rattle.visit_laws.specs.Transitions.{AllConsidered, EnabledFaults, EnabledFound, ForcedAlone, ForcedFaults, ForcedFound, ForcedListed, MayNotStep, MayStepFaults, MayStepFound, NoneForced, OthersListed, PreconditionMet};
 ghost use Rattle.visit_laws.specs.Steps.{CostFaults, CostFound, CostMet, EffectFaults, EffectMet, NextFound, StepFound, StepMade, WeightMet};
 ghost use Rattle.visit_laws.specs.Visits.{BatchFound, FatesExclude, FatesFound, FirstFound, NoFaultPassed, OneFault, VisitFaults};
 
@@ -53,6 +53,12 @@ pub fn law_transitions()
     ensures may_not { MayNotStep }
     ensures faults { MayStepFaults }
     ensures met { PreconditionMet }
+{}
+
+/// The lists of the forced transitions and of the others: each has exactly these, in ascending order.
+pub fn law_lists()
+    ensures forced { ForcedListed }
+    ensures others { OthersListed }
 {}
 
 /// What is found of the forced transitions in a state: the one that is considered alone, that there is none, or the first
