@@ -1,7 +1,7 @@
 -- What is found of the base cases of a state.
 use Rattle.std.proofs.Common.{◌≡◌, ℕ, zero, suc, ◌+◌, Bool, true, false, if◌then◌else◌, List, [], ◌∷◌, ◌++◌, slice_get, take, fold, Option, Some, None, Result, Ok, Err, ℤ, refl, sym, ap, subst, ◌∙◌, arith, zero-add}
 use Rattle.std.specs.Prelude.{option_to_list}
-use Rattle.dp_base.specs.Results.{◌>>=◌, in_turn}
+use Rattle.dp_base.specs.Results.{◌>>=◌}
 use Rattle.dp_model.specs.Costs.{better_of}
 use Rattle.dp_model.specs.Evaluation.{num_value}
 use Rattle.dp_model.specs.declared.answers.FaultKind.{FaultKind}

@@ -1,10 +1,10 @@
 -- What is found of a visit, kind by kind, and that each transition has one fate.
-use Rattle.std.proofs.Common.{◌≡◌, ℕ, zero, suc, ◌+◌, ◌≤◌, Bool, true, false, ◌⊎◌, inl, inr, List, [], ◌∷◌, map, slice_get, Option, Some, None, Ok, ℤ, refl, sym, ap, subst, ◌∙◌, arith}
+use Rattle.std.proofs.Common.{◌≡◌, ℕ, zero, suc, ◌+◌, ◌≤◌, Bool, true, false, ◌⊎◌, inl, inr, List, [], ◌∷◌, map, slice_get, Option, Some, Ok, ℤ, refl, sym, ap, subst, ◌∙◌, arith}
 use Rattle.dp_model.specs.Costs.{join, join_onto}
 use Rattle.dp_model.specs.declared.parts.Transition.{Transition}
 use Rattle.dp_model.specs.declared.parts.PlainState.{PlainState}
 use Rattle.dp_model.specs.declared.whole.Model.{Model}
-use Rattle.dp_steps.specs.States.{Allowed, Base, Forbidden, Inner, Step, next_state, weight_of}
+use Rattle.dp_steps.specs.States.{Allowed, Base, Forbidden, Step, next_state, weight_of}
 use Rattle.dp_steps.specs.Bounds.{IsFloor}
 use Rattle.dp_claims.specs.Enough.{Has}
 use Rattle.path_log.specs.declared.logs.StepId.{StepId}

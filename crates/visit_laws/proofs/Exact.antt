@@ -1,8 +1,7 @@
 -- Each fault of a transition that is met is the one that its whole treatment finds.
-use Rattle.std.proofs.Common.{◌≡◌, ℕ, Bool, true, false, List, Option, Some, None, Result, Ok, Err, IfSome, ℤ, refl, sym, ap, subst, ◌∙◌}
+use Rattle.std.proofs.Common.{◌≡◌, ℕ, true, List, Option, Some, None, Ok, Err, IfSome, ℤ, refl, sym, subst, ◌∙◌}
 use Rattle.std.proofs.lemmas.Bool.{false≢true}
-use Rattle.dp_model.specs.Costs.{InRange, join, join_onto, ranged}
-use Rattle.dp_model.specs.StepTexts.{ground_of}
+use Rattle.dp_model.specs.Costs.{InRange, join}
 use Rattle.dp_model.specs.declared.answers.FaultKind.{FaultKind}
 use Rattle.dp_model.specs.declared.answers.Spot.{Spot}
 use Rattle.dp_model.specs.declared.answers.Spot.TheVariants as spots
@@ -10,10 +9,7 @@ use Rattle.dp_model.specs.declared.parts.Transition.{Transition}
 use Rattle.dp_model.specs.declared.parts.PlainState.{PlainState}
 use Rattle.dp_model.specs.declared.whole.Model.{Model}
 use Rattle.dp_steps.specs.States.{Considered, Enabled, Step, weight_of}
-use Rattle.dp_steps.specs.Faults.{MayStep, MeetsIn}
-use Rattle.spot_eval.specs.Looks.{looked_at}
-use Rattle.spot_eval.specs.Moves.{cost_at, next_at, number_enabled}
-use Rattle.spot_eval.specs.declared.looks.Look.TheVariants as looks
+use Rattle.dp_steps.specs.Faults.{MeetsIn}
 use Rattle.successors.specs.Answers.{Met}
 use Rattle.successors.specs.Visits.{Visit, empty_batch, with_tested}
 use Rattle.successors.specs.declared.batch.Batch.{Batch}

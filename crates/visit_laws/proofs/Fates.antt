@@ -1,10 +1,9 @@
 -- What a visit makes of one transition: its fate, or the first fault.
-use Rattle.std.proofs.Common.{◌≡◌, ℕ, zero, suc, ◌+◌, ◌<◌, ◌≤◌, Bool, true, false, not, cond, if◌then◌else◌, ◌⊎◌, inl, inr, List, [], ◌∷◌, ◌++◌, length, slice_get, filter, Option, Some, None, Result, Ok, Err, IfSome, ℤ, refl, sym, ap, subst, ◌∙◌, arith, zero-add, add-zero, append_assoc, append-nil}
+use Rattle.std.proofs.Common.{◌≡◌, ℕ, ◌+◌, Bool, true, false, if◌then◌else◌, List, [], ◌∷◌, ◌++◌, Option, Some, None, Result, Ok, Err, IfSome, ℤ, refl, sym, ap, subst, ◌∙◌, arith}
 use Rattle.std.specs.Prelude.{pos, int_le, ◌≤ℤ◌}
-use Rattle.std.specs.List.{range_with_len}
-use Rattle.std.proofs.lemmas.Bool.{false≢true, cases_lt, cases_Bool, cases_order, not_from_false, false_from_ne_true}
+use Rattle.std.proofs.lemmas.Bool.{false≢true}
 use Rattle.std.proofs.lemmas.Int.{ints}
-use Rattle.dp_base.specs.Results.{◌>>=◌, each}
+use Rattle.dp_base.specs.Results.{◌>>=◌}
 use Rattle.dp_model.specs.Costs.{InRange, join, join_onto, order_word, ranged}
 use Rattle.dp_model.specs.StepTexts.{ground_of}
 use Rattle.dp_model.specs.declared.answers.FaultKind.{FaultKind}
@@ -13,10 +12,9 @@ use Rattle.dp_model.specs.declared.answers.Spot.TheVariants as spots
 use Rattle.dp_model.specs.declared.parts.Transition.{Transition}
 use Rattle.dp_model.specs.declared.parts.PlainState.{PlainState}
 use Rattle.dp_model.specs.declared.whole.Model.{Model}
-use Rattle.dp_steps.specs.States.{Base, Considered, Enabled, Inner, IsForced, Step, are_members, weight_of}
+use Rattle.dp_steps.specs.States.{Base, Inner, Step, are_members, weight_of}
 use Rattle.dp_steps.specs.Bounds.{IsFloor}
 use Rattle.dp_steps.specs.Faults.{MayStep, MeetsIn}
-use Rattle.dp_claims.specs.Enough.{Has}
 use Rattle.state_layout.specs.declared.node.Node.{Node}
 use Rattle.spot_eval.specs.Answers.{at_spot}
 use Rattle.spot_eval.specs.Looks.{all_at, looked_at}
@@ -26,7 +24,7 @@ use Rattle.spot_eval.specs.declared.ends.SpotFault.{SpotFault}
 use Rattle.spot_eval.specs.declared.looks.Look.{Look}
 use Rattle.spot_eval.specs.declared.looks.Look.TheVariants as looks
 use Rattle.successors.specs.Answers.{Met, after, here}
-use Rattle.successors.specs.Visits.{Visit, after_forced, empty_batch, expansion, is_pruned, with_look, with_named, with_number, with_tested}
+use Rattle.successors.specs.Visits.{Visit, is_pruned, with_look, with_named, with_number}
 use Rattle.successors.specs.declared.batch.Batch.{Batch}
 use Rattle.visit_laws.specs.Fates.{Fate, IsFate, IsFaultOf, IsOf, IsSuccessor, Prunes, is_on_arrival}
 use Rattle.visit_laws.specs.Looks.{is_looked}
@@ -96,9 +94,10 @@ Joins m v g cost next = (weight : Option ℤ) × Step m v.state g weight next ×
 -- a fault in the successor
 fault_after : (m : Model) (v : Visit) (g : ℕ) (cost : Option ℤ) (next : PlainState) (met : SpotFault) → Joins m v g cost next → is_on_arrival met.spot ≡ true → MeetsIn m v.prune cost next met.spot met.kind → IsFaultOf m v g (record { spot = met.spot; kind = met.kind; last = Some g })
 fault_after m v g cost next met joins on_arrival meets = record {
-    is_of = refl;
-    meets = (joins.0, next, joins.1, subst (λ (c : Option ℤ). IfSome c InRange) joins.2 joins.3, subst (λ (c : Option ℤ). MeetsIn m v.prune c next met.spot met.kind) joins.2 meets);
-    arrives = on_arrival }
+  is_of = refl;
+  meets = (joins.0, next, joins.1, subst (λ (c : Option ℤ). IfSome c InRange) joins.2 joins.3, subst (λ (c : Option ℤ). MeetsIn m v.prune c next met.spot met.kind) joins.2 meets);
+  arrives = on_arrival;
+}
 
 -- a fault in the visited state
 pub fault_here : (m : Model) (v : Visit) (g : ℕ) (met : SpotFault) → IsOf g None met.spot → MeetsIn m v.prune v.cost v.state met.spot met.kind → IsFaultOf m v g (record { spot = met.spot; kind = met.kind; last = None })

@@ -1,36 +1,21 @@
 -- What a visit makes of transitions in turn: their fates in order, or the first fault.
-use Rattle.std.proofs.Common.{◌≡◌, ℕ, zero, suc, ◌+◌, ◌<◌, ◌≤◌, Bool, true, false, not, cond, if◌then◌else◌, ◌⊎◌, inl, inr, List, [], ◌∷◌, ◌++◌, length, slice_get, filter, Option, Some, None, Result, Ok, Err, IfSome, ℤ, refl, sym, ap, subst, ◌∙◌, arith, zero-add, add-zero, append_assoc, append-nil}
-use Rattle.std.specs.Prelude.{pos, int_le, ◌≤ℤ◌}
+use Rattle.std.proofs.Common.{◌≡◌, ℕ, zero, suc, ◌+◌, ◌<◌, ◌≤◌, Bool, true, false, cond, if◌then◌else◌, ◌⊎◌, inl, inr, List, [], ◌∷◌, slice_get, filter, Some, None, Result, Ok, Err, IfSome, refl, sym, ap, subst, ◌∙◌, arith}
 use Rattle.std.specs.List.{range_with_len}
-use Rattle.std.proofs.lemmas.Bool.{false≢true, cases_lt, cases_Bool, cases_order, not_from_false, false_from_ne_true}
-use Rattle.std.proofs.lemmas.Int.{ints}
+use Rattle.std.proofs.lemmas.Bool.{false≢true, cases_lt}
 use Rattle.dp_base.specs.Results.{◌>>=◌, each}
-use Rattle.dp_model.specs.Costs.{InRange, join, join_onto, order_word, ranged}
-use Rattle.dp_model.specs.StepTexts.{ground_of}
-use Rattle.dp_model.specs.declared.answers.FaultKind.{FaultKind}
-use Rattle.dp_model.specs.declared.answers.Spot.TheVariants as spots
-use Rattle.dp_model.specs.declared.parts.Transition.{Transition}
-use Rattle.dp_model.specs.declared.parts.PlainState.{PlainState}
+use Rattle.dp_model.specs.Costs.{InRange}
 use Rattle.dp_model.specs.declared.whole.Model.{Model}
-use Rattle.dp_steps.specs.States.{Base, Considered, Enabled, Inner, IsForced, Step}
-use Rattle.dp_steps.specs.Bounds.{IsFloor}
-use Rattle.dp_steps.specs.Faults.{MayStep, MeetsIn}
+use Rattle.dp_steps.specs.States.{Considered, Enabled, Inner}
 use Rattle.dp_claims.specs.Enough.{Has}
-use Rattle.state_layout.specs.declared.node.Node.{Node}
-use Rattle.spot_eval.specs.Answers.{at_spot}
-use Rattle.spot_eval.specs.Looks.{looked_at}
-use Rattle.spot_eval.specs.Moves.{cost_at, first_enabled, forced_of, is_forced, next_at, number_enabled, others_of}
+use Rattle.spot_eval.specs.Moves.{number_enabled}
 use Rattle.spot_eval.specs.declared.ends.SpotFault.{SpotFault}
-use Rattle.spot_eval.specs.declared.looks.Look.{Look}
-use Rattle.spot_eval.specs.declared.looks.Look.TheVariants as looks
 use Rattle.successors.specs.Answers.{Met, after, here}
-use Rattle.successors.specs.Visits.{Visit, after_forced, empty_batch, expansion, is_pruned, with_look, with_named, with_number, with_tested}
+use Rattle.successors.specs.Visits.{Visit, empty_batch, with_number, with_tested}
 use Rattle.successors.specs.declared.batch.Batch.{Batch}
 use Rattle.visit_laws.specs.Fates.{Fate, IsFate, IsFaultOf, numbers_of}
 use Rattle.visit_laws.proofs.Transitions.{enabled_faults, enabled_found}
-use Rattle.visit_laws.proofs.Rising.{Rises, increasing, rises_sooner}
+use Rattle.visit_laws.proofs.Rising.{Rises, rises_sooner}
 use Rattle.visit_laws.proofs.Fates.{Made, add, enabled_is_of, fault_here, made}
-
 
 abbrev pub add_all : Batch → List (ℕ × Fate) → Batch
 add_all batch [] = batch

@@ -8,6 +8,7 @@ pub mod Looks
 pub mod Transitions
 pub mod Steps
 pub mod Rising
+pub mod Listed
 pub mod Fates
 pub mod InTurn
 pub mod Exact

@@ -1,5 +1,5 @@
 -- Where a visit finds a batch, no fault is passed over.
-use Rattle.std.proofs.Common.{◌≡◌, ℕ, ◌<◌, Bool, true, ◌⊎◌, inl, inr, length, Option, Some, None, IfSome, ℤ, refl, sym, subst}
+use Rattle.std.proofs.Common.{◌≡◌, ℕ, ◌<◌, Bool, true, ◌⊎◌, inl, inr, length, Option, Some, None, IfSome, ℤ, refl, subst}
 use Rattle.dp_model.specs.Costs.{InRange, join}
 use Rattle.dp_model.specs.declared.answers.FaultKind.{FaultKind}
 use Rattle.dp_model.specs.declared.answers.Spot.{Spot}
@@ -9,8 +9,6 @@ use Rattle.dp_model.specs.declared.whole.Model.{Model}
 use Rattle.dp_steps.specs.States.{Considered, Enabled, Inner, Step}
 use Rattle.dp_steps.specs.Bounds.{IsFloor}
 use Rattle.dp_steps.specs.Faults.{MeetsIn}
-use Rattle.spot_eval.specs.declared.looks.Look.TheVariants as looks
-use Rattle.successors.specs.Answers.{Met}
 use Rattle.successors.specs.Visits.{Visit}
 use Rattle.successors.specs.declared.batch.Batch.{Batch}
 use Rattle.visit_laws.specs.Fates.{IsOf, IsFaultOf, LeadsOut, is_on_arrival}
@@ -72,4 +70,5 @@ no_fault_passed m v batch floor inner range is e =
     let settled = all_settled m v batch inner range e in
     record {
       here = λ spot kind meets. none_here m v batch range accounted settled floor inner is spot kind meets;
-      after = λ g weight next step spot kind arrives meets. none_after m v batch range accounted settled g weight next step spot kind arrives meets }
+      after = λ g weight next step spot kind arrives meets. none_after m v batch range accounted settled g weight next step spot kind arrives meets;
+    }

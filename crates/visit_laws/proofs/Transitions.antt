@@ -16,7 +16,7 @@ use Rattle.spot_eval.specs.declared.ends.SpotFault.{SpotFault}
 use Rattle.spot_eval.specs.Looks.{all_at, spot_of}
 use Rattle.spot_eval.specs.Moves.{enabled_at, first_enabled, forced_of, goes_before, is_forced, may_step_at, named_enabled, named_forced, number_enabled}
 use Rattle.spot_eval.specs.declared.tests.Tests.TheVariants.{Preconditions}
-use Rattle.visit_laws.specs.Transitions.{AllConsidered, EnabledFaults, EnabledFound, ForcedAlone, ForcedFaults, ForcedFound, MayNotStep, MayStepFaults, MayStepFound, NoneForced, PreconditionMet}
+use Rattle.visit_laws.specs.Transitions.{AllConsidered, BeforeFaults, BeforeFound, BeforeNone, EnabledFaults, EnabledFound, ForcedAlone, ForcedFaults, ForcedFound, MayNotStep, MayStepFaults, MayStepFound, NoneForced, PreconditionMet, first_before}
 use Rattle.visit_laws.proofs.Spots.{without_spot, from_value, to_value}
 use Rattle.visit_laws.proofs.Tests.{all_values, first_fault, test_met}
 
@@ -309,3 +309,27 @@ pub forced_faults : ForcedFaults
 forced_faults m prune cost s met inner e =
     let first : Told m s (is_forced m) 0 (length m.dp_ground) (Err met) = subst (λ (v : Result (Option ℕ) SpotFault). Told m s (is_forced m) 0 (length m.dp_ground) v) e (forced_told m s) in
     enabled_faults m prune cost s first.0 met inner (forced_considered m s first.0 first.1) first.2
+
+-- ---- the forced transitions that are tested before another
+
+-- none of them is the transition itself
+not_itself : (m : Model) (g f : ℕ) → IsForced m f → (f < g) ⊎ (IsForced m g → ⊥) → f ≡ g → ⊥
+not_itself m g f forced (inl less) same = absurd (omega arith)
+not_itself m g f forced (inr free) same = free (subst (λ (k : ℕ). IsForced m k) same forced)
+
+pub before_found : BeforeFound
+before_found m s g f e =
+    let first : Told m s (is_before m g) 0 (length m.dp_ground) (Ok (Some f)) = subst (λ (v : Result (Option ℕ) SpotFault). Told m s (is_before m g) 0 (length m.dp_ground) v) e (before_told m s g) in
+    let parts = and_parts (is_forced m f) (goes_before m g f) first.0.passes in
+    let forced = forced_is m f parts.0 in
+    (forced, before_considered m s g f first.0, (enabled_found m s f).0 first.1, not_itself m g f forced (where_goes m g f parts.1))
+
+pub before_none : BeforeNone
+before_none m s g =
+    (λ e. considered_none m s g (subst (λ (v : Result (Option ℕ) SpotFault). Told m s (is_before m g) 0 (length m.dp_ground) v) e (before_told m s g)),
+     λ considered. none_told m s (is_before m g) (length m.dp_ground) (first_before m s g) (before_told m s g) (none_considered m s g considered))
+
+pub before_faults : BeforeFaults
+before_faults m prune cost s g met inner e =
+    let first : Told m s (is_before m g) 0 (length m.dp_ground) (Err met) = subst (λ (v : Result (Option ℕ) SpotFault). Told m s (is_before m g) 0 (length m.dp_ground) v) e (before_told m s g) in
+    enabled_faults m prune cost s first.0 met inner (before_considered m s g first.0 first.1) first.2

@@ -1,30 +1,15 @@
 -- What is found of a visit.
-use Rattle.std.proofs.Common.{◌≡◌, ℕ, zero, suc, ◌+◌, ◌<◌, ◌≤◌, Bool, true, false, not, cond, if◌then◌else◌, ◌⊎◌, inl, inr, List, [], ◌∷◌, ◌++◌, length, slice_get, filter, Option, Some, None, Result, Ok, Err, IfSome, ℤ, refl, sym, ap, subst, ◌∙◌, arith, zero-add, add-zero, append_assoc, append-nil}
-use Rattle.std.specs.Prelude.{pos, int_le, ◌≤ℤ◌}
-use Rattle.std.specs.List.{range_with_len}
-use Rattle.std.proofs.lemmas.Bool.{false≢true, cases_lt, cases_Bool, cases_order, not_from_false, false_from_ne_true}
-use Rattle.std.proofs.lemmas.Int.{ints}
+use Rattle.std.proofs.Common.{◌≡◌, ℕ, zero, suc, ◌+◌, ◌<◌, true, false, not, ◌⊎◌, inl, inr, List, [], ◌∷◌, ◌++◌, length, slice_get, Option, Some, None, Result, Ok, Err, IfSome, refl, sym, ap, subst, ◌∙◌, arith, zero-add, add-zero, append_assoc, append-nil}
+use Rattle.std.proofs.lemmas.Bool.{false≢true, cases_Bool, cases_order, not_from_false, false_from_ne_true}
 use Rattle.dp_base.specs.Results.{◌>>=◌, each}
-use Rattle.dp_model.specs.Costs.{InRange, join, join_onto, order_word, ranged}
-use Rattle.dp_model.specs.StepTexts.{ground_of}
-use Rattle.dp_model.specs.declared.answers.FaultKind.{FaultKind}
-use Rattle.dp_model.specs.declared.answers.Spot.TheVariants as spots
-use Rattle.dp_model.specs.declared.parts.Transition.{Transition}
+use Rattle.dp_model.specs.Costs.{InRange}
 use Rattle.dp_model.specs.declared.parts.PlainState.{PlainState}
 use Rattle.dp_model.specs.declared.whole.Model.{Model}
-use Rattle.dp_steps.specs.States.{Base, Considered, Enabled, Inner, IsForced, Step}
-use Rattle.dp_steps.specs.Bounds.{IsFloor}
-use Rattle.dp_steps.specs.Faults.{MayStep, MeetsIn}
-use Rattle.dp_claims.specs.Enough.{Has}
-use Rattle.state_layout.specs.declared.node.Node.{Node}
-use Rattle.spot_eval.specs.Answers.{at_spot}
-use Rattle.spot_eval.specs.Looks.{looked_at}
-use Rattle.spot_eval.specs.Moves.{cost_at, first_enabled, forced_of, is_forced, next_at, number_enabled, others_of}
+use Rattle.dp_steps.specs.States.{Considered, Enabled, Inner, IsForced}
+use Rattle.spot_eval.specs.Moves.{first_enabled, forced_of, is_forced, number_enabled, others_of}
 use Rattle.spot_eval.specs.declared.ends.SpotFault.{SpotFault}
-use Rattle.spot_eval.specs.declared.looks.Look.{Look}
-use Rattle.spot_eval.specs.declared.looks.Look.TheVariants as looks
-use Rattle.successors.specs.Answers.{Met, after, here}
-use Rattle.successors.specs.Visits.{Visit, after_forced, empty_batch, expansion, is_pruned, with_look, with_named, with_number, with_tested}
+use Rattle.successors.specs.Answers.{Met, here}
+use Rattle.successors.specs.Visits.{Visit, after_forced, empty_batch, expansion, with_number, with_tested}
 use Rattle.successors.specs.declared.batch.Batch.{Batch}
 use Rattle.visit_laws.specs.Fates.{AreFates, Fate, IsFate, IsFaultOf, batch_of, letters_of, numbers_of, offers_of, out_of, pruned_of}
 use Rattle.visit_laws.specs.Fates.Fate.{Out, Total, Letter, Pruned}
@@ -132,9 +117,11 @@ found_cases m v (Ok None) q range inner =
     (looped m v (λ g. not (is_forced m g)) range inner (λ g. all_considered m v.state g q) (length m.dp_ground) 0 (length m.dp_ground) (zero-add (length m.dp_ground)) empty_batch)
 found_cases m v (Err met) q range inner =
     let first = forced_fault m v.state met q in
-    let is = enabled_is_of m v.state first.0 met first.2.0 in
-    (first.0, fault_here m v first.0 met is (forced_faults m v.prune v.cost v.state met inner q),
-     λ h less considered. first_settled m v first.0 h less first.1 first.2.0 first.2.1 considered (cases_Bool (is_forced m h)))
+    let is = enabled_is_of m v.state first.0 met first.2.0 in (
+      first.0,
+      fault_here m v first.0 met is (forced_faults m v.prune v.cost v.state met inner q),
+      λ h less considered. first_settled m v first.0 h less first.1 first.2.0 first.2.1 considered (cases_Bool (is_forced m h)),
+    )
 
 pub found : (m : Model) (v : Visit) → IfSome v.cost InRange → Inner m v.state → Found m v (expansion m v)
 found m v range inner = found_cases m v (first_enabled m v.state (forced_of m)) refl range inner

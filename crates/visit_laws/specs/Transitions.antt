@@ -1,5 +1,7 @@
 -- Which transitions are found to be enabled and considered in a state.
-use Rattle.std.specs.Prelude.{◌≡◌, ◌↔◌, ℕ, Bool, true, false, List, Option, Some, None, Ok, Err, ℤ}
+use Rattle.std.specs.Prelude.{◌≡◌, ◌↔◌, ℕ, Bool, true, false, List, filter, Option, Some, None, Result, Ok, Err, ℤ}
+use Rattle.std.specs.List.Sorted.{IsStrictlyIncreasing}
+use Rattle.dp_claims.specs.Enough.{Has}
 use Rattle.dp_model.specs.declared.answers.FaultKind.{FaultKind}
 use Rattle.dp_model.specs.declared.answers.Spot.TheVariants as spots
 use Rattle.dp_model.specs.StepTexts.{ground_of}
@@ -9,7 +11,7 @@ use Rattle.dp_model.specs.declared.whole.Model.{Model}
 use Rattle.dp_steps.specs.States.{Considered, Enabled, Inner, IsForced, is_enabled}
 use Rattle.dp_steps.specs.Faults.{MeetsIn}
 use Rattle.spot_eval.specs.declared.ends.SpotFault.{SpotFault}
-use Rattle.spot_eval.specs.Moves.{first_enabled, forced_of, may_step_at, number_enabled}
+use Rattle.spot_eval.specs.Moves.{first_enabled, forced_of, goes_before, may_step_at, number_enabled, others_of}
 
 -- A transition may step, as is found, exactly where it is considered and enabled.
 abbrev pub MayStepFound : Type 0
@@ -38,6 +40,18 @@ PreconditionMet =
     (m : Model) (prune : Bool) (cost : Option ℤ) (s : PlainState) (g j : ℕ) (kind : FaultKind) → MeetsIn m prune cost s (spots.Precondition g j) kind
     → (number_enabled m s g ≡ Err (record { spot = spots.Precondition g j; kind = kind })) × (may_step_at m s g ≡ Err (record { spot = spots.Precondition g j; kind = kind }))
 
+-- a ground transition that is not forced
+abbrev pub IsOther : Model → ℕ → Type 0
+IsOther m g = (t : Transition × List ℕ) × (ground_of m g ≡ Some t) × (t.0.forced ≡ false)
+
+-- The list of the forced transitions has exactly these, in ascending order,
+abbrev pub ForcedListed : Type 0
+ForcedListed = (m : Model) → IsStrictlyIncreasing (forced_of m) × ((f : ℕ) → Has (forced_of m) f ↔ IsForced m f)
+
+-- and the list of the others has exactly those.
+abbrev pub OthersListed : Type 0
+OthersListed = (m : Model) → IsStrictlyIncreasing (others_of m) × ((g : ℕ) → Has (others_of m) g ↔ IsOther m g)
+
 -- The first enabled one of the forced transitions is considered and enabled.
 abbrev pub ForcedFound : Type 0
 ForcedFound = (m : Model) (s : PlainState) (f : ℕ) → first_enabled m s (forced_of m) ≡ Ok (Some f) → IsForced m f × Considered m s f × Enabled m s f
@@ -57,3 +71,19 @@ AllConsidered = (m : Model) (s : PlainState) (g : ℕ) → first_enabled m s (fo
 -- A fault of the forced transitions is met in an inner state, at the spot that is told.
 abbrev pub ForcedFaults : Type 0
 ForcedFaults = (m : Model) (prune : Bool) (cost : Option ℤ) (s : PlainState) (met : SpotFault) → Inner m s → first_enabled m s (forced_of m) ≡ Err met → MeetsIn m prune cost s met.spot met.kind
+
+-- the first enabled one of the forced transitions that are tested before a transition
+abbrev pub first_before : Model → PlainState → ℕ → Result (Option ℕ) SpotFault
+first_before m s g = first_enabled m s (filter (goes_before m g) (forced_of m))
+
+-- It is forced, considered and enabled, and another than the transition.
+abbrev pub BeforeFound : Type 0
+BeforeFound = (m : Model) (s : PlainState) (g f : ℕ) → first_before m s g ≡ Ok (Some f) → IsForced m f × Considered m s f × Enabled m s f × (f ≡ g → ⊥)
+
+-- There is none exactly where the transition is considered.
+abbrev pub BeforeNone : Type 0
+BeforeNone = (m : Model) (s : PlainState) (g : ℕ) → (first_before m s g ≡ Ok None) ↔ Considered m s g
+
+-- A fault of those before a transition is met in an inner state, at the spot that is told.
+abbrev pub BeforeFaults : Type 0
+BeforeFaults = (m : Model) (prune : Bool) (cost : Option ℤ) (s : PlainState) (g : ℕ) (met : SpotFault) → Inner m s → first_before m s g ≡ Err met → MeetsIn m prune cost s met.spot met.kind

@@ -5,7 +5,7 @@
 ghost use Rattle.visit_laws.specs.Constraints.{AllowedFound, ConstraintFaults, ConstraintMet, ForbiddenFound};
 ghost use Rattle.visit_laws.specs.BaseCases.{BaseCostMet, BaseFaults, BaseFound, ConditionMet, InnerFound};
 ghost use Rattle.visit_laws.specs.Looks.{BoundMet, FloorFaults, FloorFound, LookFaults, LookedBase, LookedForbidden, LookedOpen};
-ghost use Rattle.visit_laws.specs.Transitions.{AllConsidered, EnabledFaults, EnabledFound, ForcedAlone, ForcedFaults, ForcedFound, MayNotStep, MayStepFaults, MayStepFound, NoneForced, PreconditionMet};
+ghost use Rattle.visit_laws.specs.Transitions.{AllConsidered, BeforeFaults, BeforeFound, BeforeNone, EnabledFaults, EnabledFound, ForcedAlone, ForcedFaults, ForcedFound, ForcedListed, MayNotStep, MayStepFaults, MayStepFound, NoneForced, OthersListed, PreconditionMet};
 ghost use Rattle.visit_laws.specs.Steps.{CostFaults, CostFound, CostMet, EffectFaults, EffectMet, NextFound, StepFound, StepMade, WeightMet};
 ghost use Rattle.visit_laws.specs.Visits.{BatchFound, FatesExclude, FatesFound, FirstFound, NoFaultPassed, OneFault, VisitFaults};
 
@@ -55,6 +55,12 @@ pub fn law_transitions()
     ensures met { PreconditionMet }
 {}
 
+/// The lists of the forced transitions and of the others: each has exactly these, in ascending order.
+pub fn law_lists()
+    ensures forced { ForcedListed }
+    ensures others { OthersListed }
+{}
+
 /// What is found of the forced transitions in a state: the one that is considered alone, that there is none, or the first
 /// fault.
 pub fn law_forced()
@@ -63,6 +69,14 @@ pub fn law_forced()
     ensures none { NoneForced }
     ensures others { AllConsidered }
     ensures faults { ForcedFaults }
+{}
+
+/// What is found of the forced transitions that are tested before a transition: one that is considered and enabled, that
+/// there is none, so that the transition is considered, or the first fault.
+pub fn law_before()
+    ensures found { BeforeFound }
+    ensures none { BeforeNone }
+    ensures faults { BeforeFaults }
 {}
 
 /// What is found of the cost so far and of the state that a transition leads to: both make a step, or the first fault,
