@@ -1,0 +1,17 @@
+pub mod Spots
+pub mod Best
+pub mod Tests
+pub mod Constraints
+pub mod BaseCases
+pub mod Costs
+pub mod Looks
+pub mod Transitions
+pub mod Steps
+pub mod Rising
+pub mod Listed
+pub mod Fates
+pub mod InTurn
+pub mod Exact
+pub mod Visits
+pub mod Batches
+pub mod Passes
