@@ -1,5 +1,5 @@
 -- Lines of a text, and places in it.
-use Rattle.std.specs.Prelude.{ℕ, ◌+◌, Bool, true, false, not, ◌==◌, List, [], ◌∷◌, length, take, drop, nat_lt, Option, Some, None, if◌then◌else◌}
+use Rattle.std.specs.Prelude.{ℕ, ◌+◌, Bool, not, ◌==◌, List, length, take, nat_lt, Option, Some, None, if◌then◌else◌}
 use Rattle.std.specs.List.{list_all, suffix_len, count_by}
 use Rattle.std.specs.Str.Lossy.{utf8_valid_len}
 use Rattle.dp_base.specs.Bytes.{is_blank}
