@@ -1,0 +1,5 @@
+pub mod Rows
+pub mod Members
+pub mod Filing
+pub mod Adding
+pub mod Promises
