@@ -1,5 +1,5 @@
 -- What a store keeps while a node is added.
-use Rattle.std.proofs.Common.{◌≡◌, ℕ, ◌+◌, ◌-◌, ◌<◌, ◌≤◌, ◌⊎◌, Bool, true, false, List, [], ◌∷◌, ◌++◌, length, get_or, Option, Some, None, refl, sym, ap, ◌∙◌, subst, arith}
+use Rattle.std.proofs.Common.{◌≡◌, ℕ, ◌+◌, ◌-◌, ◌<◌, ◌≤◌, Bool, true, false, List, [], ◌∷◌, length, get_or, Option, Some, None, sym, ap, ◌∙◌, subst, arith}
 use Rattle.std.specs.List.{slice_get, list_any}
 use Rattle.std.proofs.lemmas.Option.{slice_get-get_or}
 use Rattle.dp_claims.specs.Enough.{Has}
@@ -9,7 +9,7 @@ use Rattle.state_layout.specs.declared.layout.Layout.{Layout}
 use Rattle.state_layout.specs.declared.node.Node.{Node}
 use Rattle.dom_store.specs.Covering.{covers, KeepsSignature}
 use Rattle.dom_store.specs.Contents.{AreApart, is_covered, with_node}
-use Rattle.dom_store.specs.Places.{nodes_of, row_of, passes, node_at, StandsAt, IsSpare, AreFiled, IsKept}
+use Rattle.dom_store.specs.Places.{nodes_of, row_of, passes, node_at, StandsAt, AreFiled, IsKept}
 use Rattle.dom_store.proofs.Rows.{any_in_row}
 use Rattle.dom_store.proofs.Members.{apart_with}
 use Rattle.dom_store.proofs.Filing.{filed_grown, filed_in_row}
@@ -49,7 +49,7 @@ module _ (prune minimize : Bool) (operator : JoinOp) (one : KeepsSignature prune
   row_answers list answer within read told =
       let there : slice_get rows row ≡ Some list = slice_get-get_or rows row list within ∙ ap Some (sym read) in
       told ∙ any_in_row (λ held. covers prune minimize operator layout held node) places list
-        (λ p n stands t. filed_in_row layout signatures rows places h row list (signature_of layout node.state) is there p n stands (one layout n node t))
+      (λ p n stands t. filed_in_row layout signatures rows places h row list (signature_of layout node.state) is there p n stands (one layout n node t))
 
 pub nodes_few : (places : List (Option Node)) → length (nodes_of places) ≤ length places
 nodes_few [] = omega arith

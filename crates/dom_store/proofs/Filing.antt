@@ -1,7 +1,6 @@
 -- How a store stays filed: signatures and rows grow, and a node is put at a new place.
-use Rattle.std.proofs.Common.{◌≡◌, ℕ, zero, suc, ◌+◌, ◌<◌, ◌⊎◌, inl, inr, Bool, true, false, not, List, [], ◌∷◌, ◌++◌, length, get_or, set, map, fold, Option, Some, None, refl, sym, ap, ◌∙◌, subst, arith}
+use Rattle.std.proofs.Common.{◌≡◌, ℕ, zero, suc, ◌<◌, ◌⊎◌, inl, inr, Bool, true, false, not, List, [], ◌∷◌, ◌++◌, length, get_or, set, map, fold, Option, Some, None, refl, sym, ap, ◌∙◌, subst, arith}
 use Rattle.std.specs.List.{slice_get, filter}
-use Rattle.std.specs.Option.{option_map}
 use Rattle.std.proofs.lemmas.List.{get_or-set_same}
 use Rattle.std.proofs.lemmas.Option.{slice_get_within, slice_get-get_or}
 use Rattle.std.proofs.Math.ListN.{length-set}
@@ -10,9 +9,8 @@ use Rattle.state_layout.specs.Conditions.{IsNodeFor}
 use Rattle.state_layout.specs.Signatures.{signature_of}
 use Rattle.state_layout.specs.declared.layout.Layout.{Layout}
 use Rattle.state_layout.specs.declared.node.Node.{Node}
-use Rattle.dom_store.specs.Contents.{with_node}
 use Rattle.dom_store.specs.Places.{nodes_of, row_of, without, cleared, StandsAt, IsSpare, IsFiled, AreFiled}
-use Rattle.dom_store.proofs.Members.{has_none, has_front, has_last}
+use Rattle.dom_store.proofs.Members.{has_front, has_last}
 use Rattle.dom_store.proofs.Rows.{all_cleared, nodes_without}
 
 -- a node's place stands in each row that is its signature's
@@ -59,7 +57,7 @@ put_last test (None ∷ places) node = put_last test places node
 put_last test (Some n ∷ places) node = by (test n) refl (put_last test places node)
   where
     by : (b : Bool) → test n ≡ b → nodes_of (set (map (without test) (places ++ None ∷ [])) (length places) (Some node)) ≡ nodes_of (map (without test) places) ++ node ∷ []
-       → nodes_of (without test (Some n) ∷ set (map (without test) (places ++ None ∷ [])) (length places) (Some node)) ≡ nodes_of (without test (Some n) ∷ map (without test) places) ++ node ∷ []
+        → nodes_of (without test (Some n) ∷ set (map (without test) (places ++ None ∷ [])) (length places) (Some node)) ≡ nodes_of (without test (Some n) ∷ map (without test) places) ++ node ∷ []
     by true e rest = rw e rest
     by false e rest = rw e (ap (λ (ns : List Node). n ∷ ns) rest)
 
@@ -159,11 +157,12 @@ filed_set layout signatures rows places places' h row at list list' node is know
     filed_at : (p : ℕ) (n : Node) → StandsAt places' p n → ((p ≡ at) × (node ≡ n)) ⊎ StandsAt places p n → IsFiled signatures (set rows row list') (signature_of layout n.state) p
     filed_at p n stands (inl e) =
         let same : row_of signatures (signature_of layout n.state) ≡ row = ap (λ (m : Node). row_of signatures (signature_of layout m.state)) (sym e.1) ∙ sym is in
-        let at_row = set_row_same rows row list' (slice_get_within rows row list there) in
-        (list',
-         subst (λ r. r < length signatures) (sym same) known,
-         ap (λ r. slice_get (set rows row list') r) same ∙ at_row,
-         has p n (subst (λ q. Has (list ++ at ∷ []) q) (sym e.0) (has_last list at)) stands)
+        let at_row = set_row_same rows row list' (slice_get_within rows row list there) in (
+          list',
+          subst (λ r. r < length signatures) (sym same) known,
+          ap (λ r. slice_get (set rows row list') r) same ∙ at_row,
+          has p n (subst (λ q. Has (list ++ at ∷ []) q) (sym e.0) (has_last list at)) stands,
+        )
     filed_at p n stands (inr s) =
         let f = h.filed p n s in
         let r = old_row p n stands (row_of signatures (signature_of layout n.state)) f.0 f.2 f.3 in
@@ -227,6 +226,6 @@ module _ (rows rows' : List (List ℕ)) (row : ℕ) (places places' : List (Opti
         → (signatures : List (List ℕ)) → AreFiled layout signatures rows places → row ≡ row_of signatures (signature_of layout node.state) → row < length signatures → AreFiled layout signatures (set rows' row list') new
     kept_filed layout list' fits has signatures h is known =
         let filed = filed_set layout signatures rows places new h row (length places) (get_or rows row []) list' node is known list_there fits
-              (λ p n stands. put_stands test places (get_or rows row [] ++ length places ∷ []) node p n (rw new_is at stands))
-              (λ p n there stands. has p n (rw (row_read, k.place_is) there) stands) in
+        (λ p n stands. put_stands test places (get_or rows row [] ++ length places ∷ []) node p n (rw new_is at stands))
+        (λ p n there stands. has p n (rw (row_read, k.place_is) there) stands) in
         rw (rows_set, set_twice rows row (get_or rows row [] ++ place ∷ []) list') filed

@@ -3,3 +3,6 @@ pub mod Members
 pub mod Filing
 pub mod Adding
 pub mod Promises
+pub mod Ranks
+pub mod Sorting
+pub mod Sharing

@@ -1,6 +1,6 @@
 -- What a store promises in each model with its layout and its law of costs: what was covered stays covered, and no node that
 -- is held covers another.
-use Rattle.std.proofs.Common.{◌≡◌, ℕ, Bool, true, false, not, ◌||◌, if◌then◌else◌, ◌⊎◌, inl, inr, ◌↔◌, List, [], ◌∷◌, ◌++◌, refl, sym, ap, ◌∙◌, subst}
+use Rattle.std.proofs.Common.{◌≡◌, Bool, true, false, not, ◌||◌, if◌then◌else◌, ◌↔◌, List, [], ◌∷◌, refl, sym, subst}
 use Rattle.std.specs.Bool.{IsTrue}
 use Rattle.std.specs.List.{list_any, filter}
 use Rattle.std.specs.Prelude.{Result, Ok, Err}
@@ -16,7 +16,7 @@ use Rattle.dom_store.specs.Covering.{covers, IsReflexive, IsTransitive}
 use Rattle.dom_store.specs.Laws.{covers_from}
 use Rattle.dom_store.specs.Contents.{is_covered, with_node, AreApart, CoversNode, IsCovered, Apart}
 use Rattle.dom_store.specs.declared.keeping.Added.{Added}
-use Rattle.dom_store.proofs.Members.{has_none, has_more, has_front, has_last, filter_has, not_true}
+use Rattle.dom_store.proofs.Members.{has_more, has_front, has_last, filter_has, not_true}
 
 some_passes : {A : Type 0} (f : A → Bool) (xs : List A) → list_any f xs ≡ true → (x : A) × Has xs x × (f x ≡ true)
 some_passes f [] h = absurd (cc)
@@ -41,10 +41,17 @@ module _ (prune minimize : Bool) (operator : JoinOp) (m : Model) (layout : Layou
   covered_with transitive nodes node n h = by (covers prune minimize operator layout node h.0) refl
     where
       by : (b : Bool) → covers prune minimize operator layout node h.0 ≡ b → IsCovered m prune (with_node (covers prune minimize operator layout) nodes node) n
-      by true e = (node, has_last (filter (λ held. not (covers prune minimize operator layout node held)) nodes) node,
-        (covers_in node n).0 (transitive layout node h.0 n e ((covers_in h.0 n).1 h.2)))
-      by false e = (h.0, has_front (filter (λ held. not (covers prune minimize operator layout node held)) nodes) (node ∷ []) h.0
-        (filter_has (λ held. not (covers prune minimize operator layout node held)) nodes h.0 h.1 (not_true (covers prune minimize operator layout node h.0) e)), h.2)
+      by true e = (
+        node,
+        has_last (filter (λ held. not (covers prune minimize operator layout node held)) nodes) node,
+        (covers_in node n).0 (transitive layout node h.0 n e ((covers_in h.0 n).1 h.2)),
+      )
+      by false e = (
+        h.0,
+        has_front (filter (λ held. not (covers prune minimize operator layout node held)) nodes) (node ∷ []) h.0
+            (filter_has (λ held. not (covers prune minimize operator layout node held)) nodes h.0 h.1 (not_true (covers prune minimize operator layout node h.0) e)),
+        h.2,
+      )
 
   -- what was covered is covered still
   pub stays_covered : IsTransitive prune minimize operator → (old new : List Node) (node : Node) (result : Result Added Node)

@@ -1,7 +1,7 @@
 -- Places of nodes and rows of places: what is read, cleared and filed.
-use Rattle.std.proofs.Common.{◌≡◌, ℕ, zero, suc, ◌+◌, ◌<◌, ◌≤◌, ◌⊎◌, inl, inr, Bool, true, false, not, ◌||◌, List, [], ◌∷◌, ◌++◌, length, get_or, set, map, fold, Option, Some, None, refl, sym, ap, ◌∙◌, subst, arith, rules}
-use Rattle.std.specs.List.{slice_get, list_any, filter, flat_map}
-use Rattle.std.specs.Option.{option_map, option_to_list}
+use Rattle.std.proofs.Common.{◌≡◌, ℕ, zero, suc, ◌+◌, ◌<◌, ◌⊎◌, inl, inr, Bool, true, false, not, ◌||◌, List, [], ◌∷◌, length, get_or, set, map, fold, Option, Some, None, refl, sym, ap, ◌∙◌, arith}
+use Rattle.std.specs.List.{slice_get, list_any, filter}
+use Rattle.std.specs.Option.{option_map}
 use Rattle.std.proofs.lemmas.Option.{slice_get-get_or, slice_get_within}
 use Rattle.state_layout.specs.declared.node.Node.{Node}
 use Rattle.dp_claims.specs.Enough.{Has}
@@ -150,10 +150,10 @@ same_answer false false f g = refl
 pub any_in_row : (test : Node → Bool) (places : List (Option Node)) (row : List ℕ) → ((p : ℕ) (n : Node) → slice_get places p ≡ Some (Some n) → test n ≡ true → Has row p) → list_any (λ p. passes test (node_at places p)) row ≡ list_any test (nodes_of places)
 any_in_row test places row complete =
     same_answer (list_any (λ p. passes test (node_at places p)) row) (list_any test (nodes_of places))
-      (λ h. out_of_row (λ p. passes test (node_at places p)) row (list_any test (nodes_of places) ≡ true) (λ p t. any_node test places p t) h)
-      (λ h. (let r = some_place test places h in
-             let there = complete r.0 r.1 r.2 r.3 in
-             in_row (λ p. passes test (node_at places p)) row r.0 there.0 there.1 (ap (passes test) (node_there places r.0 r.1 r.2) ∙ r.3)))
+    (λ h. out_of_row (λ p. passes test (node_at places p)) row (list_any test (nodes_of places) ≡ true) (λ p t. any_node test places p t) h)
+    (λ h. (let r = some_place test places h in
+    let there = complete r.0 r.1 r.2 r.3 in
+    in_row (λ p. passes test (node_at places p)) row r.0 there.0 there.1 (ap (passes test) (node_there places r.0 r.1 r.2) ∙ r.3)))
 
 -- ---- how many nodes are left where one place is cleared, and where one is filled
 

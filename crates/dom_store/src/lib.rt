@@ -7,7 +7,9 @@ mod order;
 mod places;
 mod signature;
 mod store;
+mod taking;
 
 pub use covers::{Covers, Dominating, Exact};
 pub use keeping::Added;
 pub use store::DomStore;
+pub use taking::Taken;

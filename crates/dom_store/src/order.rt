@@ -18,7 +18,8 @@ pub(crate) fn sort_places<L: CostLaw>(places: &mut Vec<Option<Node>>) -> Result<
     ensures stable { OnOk result (IsStableByKey (rank_of L.minimize L.operator) rank_cmp places.old.items places.new.items) }
     ensures err { OnErr result (places.new.items ≡ places.old.items) }
 {
-    places.sort_by_key(|place| rank::<L>(place))
+    places.sort_by_key(|place| rank::<L>(place))?;
+    Ok(())
 }
 
 fn rank<L: CostLaw>(place: &Option<Node>) -> (u64, u64)

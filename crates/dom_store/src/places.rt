@@ -79,12 +79,7 @@ pub(crate) fn has_covering<K: Covers>(
     false
 }
 
-fn covers_at<K: Covers>(
-    layout: &Layout,
-    places: &[Option<Node>],
-    place: usize,
-    node: &Node,
-) -> bool
+fn covers_at<K: Covers>(layout: &Layout, places: &[Option<Node>], place: usize, node: &Node) -> bool
     requires node { IsNodeFor layout.now node.now }
     requires nodes { (p : ℕ) (n : Node) → StandsAt places.now p n → IsNodeFor layout.now n }
     ensures { result ≡ passes (λ (held : Node). covers K.prune K.minimize K.operator layout.now held node.now) (node_at places.now place) }

@@ -1,8 +1,8 @@
-use Rattle.std.proofs.Common.{◌≡◌, ℕ, ◌+◌, ◌-◌, ◌<◌, ◌≤◌, List, Bool, true, false, length, Option, rules, arith, sym, ◌∙◌, ap}
+use Rattle.std.proofs.Common.{◌≡◌, ◌<◌, List, false, length, Option, arith, sym, ◌∙◌, ap}
 use Rattle.state_layout.specs.declared.node.Node.{Node}
 use Rattle.dom_store.specs.Covering.{covers}
 use Rattle.dom_store.specs.Contents.{is_covered}
-use Rattle.dom_store.specs.Places.{nodes_of, AreFiled, IsKept}
+use Rattle.dom_store.specs.Places.{nodes_of, IsKept}
 use Rattle.dom_store.proofs.Adding.{kept_grown, kept_spare, kept_with, complete, nodes_few}
 use Rattle.dom_store.proofs.keeping.add_node.Goals as goal
 

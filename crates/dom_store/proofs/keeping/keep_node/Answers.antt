@@ -1,7 +1,5 @@
-use Rattle.std.proofs.Common.{◌≡◌, ℕ, ◌<◌, List, Bool, length, get_or, Option, Some, None, rules, arith, refl, sym, ◌∙◌, ap}
-use Rattle.state_layout.specs.declared.node.Node.{Node}
+use Rattle.std.proofs.Common.{◌≡◌, ℕ, ◌<◌, List, length, get_or, rules, sym, ◌∙◌, ap}
 use Rattle.dom_store.specs.Covering.{covers}
-use Rattle.dom_store.specs.Places.{StandsAt, IsSpare}
 use Rattle.dom_store.proofs.Filing.{spare_filed, Opened, row_opened, opened_none, opened_stands, kept_nodes, kept_filed}
 use Rattle.dom_store.proofs.keeping.keep_node.Goals as goal
 

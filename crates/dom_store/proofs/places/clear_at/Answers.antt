@@ -1,4 +1,4 @@
-use Rattle.std.proofs.Common.{◌≡◌, ℕ, List, Option, set, None, rules, arith, ap, sym, ◌∙◌}
+use Rattle.std.proofs.Common.{List, Option, ap, sym, ◌∙◌}
 use Rattle.state_layout.specs.declared.node.Node.{Node}
 use Rattle.dom_store.specs.Covering.{covers}
 use Rattle.dom_store.specs.Places.{passes, node_at}

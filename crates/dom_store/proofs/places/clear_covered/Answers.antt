@@ -1,4 +1,4 @@
-use Rattle.std.proofs.Common.{rules, arith}
+use Rattle.std.proofs.Common.{arith}
 use Rattle.std.proofs.lemmas.List.Sums.{fold_more}
 use Rattle.dom_store.proofs.places.clear_covered.Goals as goal
 use Rattle.dom_store.proofs.places.clear_covered.Goals.{then-clear_at, else-clear_at}

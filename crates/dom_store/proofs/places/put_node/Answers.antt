@@ -1,4 +1,4 @@
-use Rattle.std.proofs.Common.{◌≡◌, ◌<◌, ℕ, Bool, List, Option, Some, length, fold, rules, arith, ap, ◌∙◌, sym}
+use Rattle.std.proofs.Common.{◌<◌, ℕ, Bool, List, length, fold, rules, ap, ◌∙◌}
 use Rattle.state_layout.specs.declared.node.Node.{Node}
 use Rattle.dom_store.specs.Covering.{covers}
 use Rattle.dom_store.specs.Places.{cleared}
@@ -18,10 +18,10 @@ pub returns-then-gone-gt0-clause-counted : goal.returns-then-gone-gt0-clause-cou
 returns-then-gone-gt0-clause-counted g c =
     let test : Node → Bool = covers g.K.Covers.prune g.K.Covers.minimize g.K.Covers.operator c.args.layout.now c.args.node in
     put_count test c.args.places.now.items c.clear_covered-gone.new.places.items c.args.row.now.items c.args.place c.clear_covered-gone.result c.args.node c.requires.place
-      (c.clear_covered-gone.ensures.places ∙ ap (λ (row : List ℕ). fold (cleared test) c.args.places.now.items row) c.deref.ensures.value) c.clear_covered-gone.ensures.counted
+    (c.clear_covered-gone.ensures.places ∙ ap (λ (row : List ℕ). fold (cleared test) c.args.places.now.items row) c.deref.ensures.value) c.clear_covered-gone.ensures.counted
 
 pub returns-else-gone-gt0-clause-counted : goal.returns-else-gone-gt0-clause-counted
 returns-else-gone-gt0-clause-counted g c =
     let test : Node → Bool = covers g.K.Covers.prune g.K.Covers.minimize g.K.Covers.operator c.args.layout.now c.args.node in
     put_count test c.args.places.now.items c.clear_covered-gone.new.places.items c.args.row.now.items c.args.place c.clear_covered-gone.result c.args.node c.requires.place
-      (c.clear_covered-gone.ensures.places ∙ ap (λ (row : List ℕ). fold (cleared test) c.args.places.now.items row) c.deref.ensures.value) c.clear_covered-gone.ensures.counted
+    (c.clear_covered-gone.ensures.places ∙ ap (λ (row : List ℕ). fold (cleared test) c.args.places.now.items row) c.deref.ensures.value) c.clear_covered-gone.ensures.counted

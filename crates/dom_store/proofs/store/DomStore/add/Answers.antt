@@ -1,4 +1,4 @@
-use Rattle.std.proofs.Common.{◌≡◌, List, rules, sym, ap, subst}
+use Rattle.std.proofs.Common.{List, sym, ap, subst}
 use Rattle.state_layout.specs.declared.node.Node.{Node}
 use Rattle.dom_store.specs.Contents.{Contents, IsCovered}
 use Rattle.dom_store.specs.Places.{nodes_of}
@@ -8,7 +8,7 @@ use Rattle.dom_store.proofs.store.DomStore.add.Goals as goal
 pub returns-clause-covered : goal.returns-clause-covered
 returns-clause-covered g c = λ m of_model law n h.
     stays_covered g.K.Covers.prune g.K.Covers.minimize g.K.Covers.operator m c.args.layout.now of_model law g.met.K.Covers.transitive (nodes_of c.self.inside.places.items) (nodes_of c.add_node.new.places.items) c.args.node c.add_node.result
-      c.add_node.ensures.nodes c.add_node.ensures.err n (subst (λ (ns : List Node). IsCovered m g.K.Covers.prune ns n) (sym (ap (λ (v : Contents). v.nodes) c.self.view_is)) h)
+    c.add_node.ensures.nodes c.add_node.ensures.err n (subst (λ (ns : List Node). IsCovered m g.K.Covers.prune ns n) (sym (ap (λ (v : Contents). v.nodes) c.self.view_is)) h)
 
 pub returns-clause-added : goal.returns-clause-added
 returns-clause-added g c = λ m of_model law.
