@@ -185,7 +185,7 @@ def number(form):
 
 
 def total(form):
-    if len(form.items) < 2:
+    if len(form.items) < 3:
         raise Refused(form.at, "WrongCount")
     name = form.items[1]
     k = table_named(name.word) if name.word else None

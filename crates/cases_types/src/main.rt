@@ -8,7 +8,7 @@ use case_files::{Entry, entries, escaped};
 use dp_base::FILE_LIMIT;
 use dypdl_expr::{Expr, read_expr};
 use dypdl_type::{Scope, type_cond, type_cost, type_elem, type_num, type_set};
-use names::scope;
+use names::{scope, tables, variables};
 use std::alloc::{AllocError, Global};
 use std::{fs, io};
 use trees::shown;
@@ -22,28 +22,28 @@ fn expression(alloc: Global, bytes: &[u8]) -> Option<Expr> {
     read_expr(alloc, text).ok()
 }
 
-fn as_number(alloc: Global, scope: &Scope, e: &Expr) -> Result<String, AllocError> {
+fn as_number(alloc: Global, scope: &Scope<'_>, e: &Expr) -> Result<String, AllocError> {
     shown(alloc, &type_num(alloc, scope, e))
 }
 
-fn as_element(alloc: Global, scope: &Scope, e: &Expr) -> Result<String, AllocError> {
+fn as_element(alloc: Global, scope: &Scope<'_>, e: &Expr) -> Result<String, AllocError> {
     shown(alloc, &type_elem(alloc, scope, e))
 }
 
-fn as_set(alloc: Global, scope: &Scope, object: u32, e: &Expr) -> Result<String, AllocError> {
+fn as_set(alloc: Global, scope: &Scope<'_>, object: u32, e: &Expr) -> Result<String, AllocError> {
     shown(alloc, &type_set(alloc, scope, object, e))
 }
 
-fn as_condition(alloc: Global, scope: &Scope, e: &Expr) -> Result<String, AllocError> {
+fn as_condition(alloc: Global, scope: &Scope<'_>, e: &Expr) -> Result<String, AllocError> {
     shown(alloc, &type_cond(alloc, scope, e))
 }
 
-fn as_cost(alloc: Global, scope: &Scope, e: &Expr) -> Result<String, AllocError> {
+fn as_cost(alloc: Global, scope: &Scope<'_>, e: &Expr) -> Result<String, AllocError> {
     shown(alloc, &type_cost(alloc, scope, e))
 }
 
 /// The tree of an expression where the key says, or what it is refused for.
-fn typed(alloc: Global, scope: &Scope, key: &str, e: &Expr) -> Result<String, AllocError> {
+fn typed(alloc: Global, scope: &Scope<'_>, key: &str, e: &Expr) -> Result<String, AllocError> {
     match key {
         "number" => as_number(alloc, scope, e),
         "element" => as_element(alloc, scope, e),
@@ -55,7 +55,7 @@ fn typed(alloc: Global, scope: &Scope, key: &str, e: &Expr) -> Result<String, Al
     }
 }
 
-fn answer(alloc: Global, scope: &Scope, case: &Entry) -> Result<String, AllocError> {
+fn answer(alloc: Global, scope: &Scope<'_>, case: &Entry) -> Result<String, AllocError> {
     match expression(alloc, &case.text) {
         Some(e) => typed(alloc, scope, case.key.as_str(), &e),
         None => String::from_str(alloc, "no expression"),
@@ -64,7 +64,8 @@ fn answer(alloc: Global, scope: &Scope, case: &Entry) -> Result<String, AllocErr
 
 fn main(rt: HostRuntime) -> io::Result<()> {
     let alloc = rt.alloc();
-    let scope = scope(alloc)?;
+    let (variables, tables) = (variables(alloc)?, tables(alloc)?);
+    let scope = scope(alloc, &variables, &tables)?;
     let file = fs::read_to_string(&rt, "types.txt")?;
     for (index, case) in entries(alloc, file.as_str())?.iter().enumerate() {
         let number = index.saturating_add(1);

@@ -62,7 +62,7 @@ fn objects(alloc: Global) -> Result<Seq<ObjectType>, AllocError> {
     Ok(Seq::of(objects))
 }
 
-fn variables(alloc: Global) -> Result<Seq<Variable>, AllocError> {
+pub(crate) fn variables(alloc: Global) -> Result<Seq<Variable>, AllocError> {
     let mut variables = Vec::new(alloc);
     for (name, kind) in VARIABLES.iter() {
         variables.push(Variable {
@@ -88,7 +88,7 @@ fn table(alloc: Global, name: &str, kind: CellKind, args: &[u32]) -> Result<Tabl
     })
 }
 
-fn tables(alloc: Global) -> Result<Seq<TableData>, AllocError> {
+pub(crate) fn tables(alloc: Global) -> Result<Seq<TableData>, AllocError> {
     let mut tables = Vec::new(alloc);
     for (name, kind, count, args) in TABLES.iter() {
         let args = args.get(..*count).unwrap_or(&[]);
@@ -98,8 +98,12 @@ fn tables(alloc: Global) -> Result<Seq<TableData>, AllocError> {
 }
 
 /// The scope of the cases. The parameters are `p`, `q`, which hides the variable, and another `p`, which hides the first.
-pub(crate) fn scope(alloc: Global) -> Result<Scope, AllocError> {
-    let mut scope = Scope::new(alloc, &objects(alloc)?, &variables(alloc)?, &tables(alloc)?)?;
+pub(crate) fn scope<'m>(
+    alloc: Global,
+    variables: &'m Seq<Variable>,
+    tables: &'m Seq<TableData>,
+) -> Result<Scope<'m>, AllocError> {
+    let mut scope = Scope::new(alloc, &objects(alloc)?, variables, tables)?;
     scope.push_param(alloc, &text(alloc, "p")?, Over::Object(0))?;
     scope.push_param(alloc, &text(alloc, "q")?, Over::Members(4))?;
     scope.push_param(alloc, &text(alloc, "p")?, Over::Object(1))?;

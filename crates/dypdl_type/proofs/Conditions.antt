@@ -10,22 +10,25 @@ use Rattle.dp_model.specs.declared.trees.Num.{Num}
 use Rattle.dp_model.specs.declared.trees.SetEx.{SetEx}
 use Rattle.dp_model.specs.declared.trees.Cond.{Cond}
 use Rattle.dp_model.specs.declared.trees.Cond.TheVariants as cond
-use Rattle.dypdl_type.specs.declared.ends.TypeEnd.{TypeEnd}
-use Rattle.dypdl_type.specs.declared.words.Operator.{Operator}
-use Rattle.dypdl_type.specs.declared.words.Operator.TheVariants as operators
-use Rattle.dypdl_type.specs.declared.words.Connective.{Connective}
-use Rattle.dypdl_type.specs.declared.words.Connective.TheVariants as connectives
-use Rattle.dypdl_type.specs.declared.words.SetTest.{SetTest}
-use Rattle.dypdl_type.specs.declared.words.SetTest.TheVariants as tests
+use Rattle.dypdl_words.specs.declared.ends.TypeEnd.{TypeEnd}
+use Rattle.dypdl_words.specs.declared.words.Operator.{Operator}
+use Rattle.dypdl_words.specs.declared.words.Operator.TheVariants as operators
+use Rattle.dypdl_words.specs.declared.words.Connective.{Connective}
+use Rattle.dypdl_words.specs.declared.words.Connective.TheVariants as connectives
+use Rattle.dypdl_words.specs.declared.words.SetTest.{SetTest}
+use Rattle.dypdl_words.specs.declared.words.SetTest.TheVariants as tests
 use Rattle.dp_base.specs.Results.{in_turn}
-use Rattle.dypdl_type.specs.Words.{Head}
-use Rattle.dypdl_type.specs.Words as words
-use Rattle.dypdl_type.specs.Typing.{Typing, are_truths as hold_truths, arguments, number_pair, set_pair, condition_pair, same_sets, tests_equality, comparison_of, comparison, connect, connected, connection, negation, set_test, condition_choice, condition_operator, condition_list}
+use Rattle.dypdl_words.specs.Words.{Head}
+use Rattle.dypdl_words.specs.Words as words
+use Rattle.dypdl_words.specs.Leaves.{are_truths as hold_truths}
+use Rattle.dypdl_words.specs.Folding.{connect, connected}
+use Rattle.dypdl_words.specs.Trees.{both}
+use Rattle.dypdl_type.specs.Typing.{Typing, arguments, set_pair, same_sets, tests_equality, comparison_of, comparison, connection, negation, set_test, condition_choice, condition_operator, condition_list}
 use Rattle.dypdl_type.proofs.Trees.{Each, IsSetOf, cond_cell, cond_numbers, cond_same, cond_other, cond_in, cond_subset, cond_empty, cond_not, cond_and, cond_or, cond_if}
 use Rattle.dypdl_type.proofs.Numbers.{FitNumbers, number_pair_fits}
 use Rattle.dypdl_type.proofs.Sets.{FitsPair, set_pair_fits}
 use Rattle.dypdl_type.proofs.Meanings.{either_way, HeadFits}
-use Rattle.dypdl_type.proofs.Sound.{and_then, if_allowed, in_turn_each, truth_cells, NumFits, SetFits, CondFits, Sound, conditions_fit, AreArguments, arguments_fit}
+use Rattle.dypdl_type.proofs.Sound.{and_then, both_fit, if_allowed, in_turn_each, truth_cells, NumFits, SetFits, CondFits, Sound, conditions_fit, AreArguments, arguments_fit}
 
 module _ (os : List ObjectType) (vs : List Variable) (ts : List TableData) (given : ℕ) where
   abbrev FitsNum : Num → Type 0
@@ -50,7 +53,7 @@ module _ (os : List ObjectType) (vs : List Variable) (ts : List TableData) (give
       either_way (λ (r : Result Cond TypeEnd). IfOk r FitsCond) (tests_equality op && a.holds_set) _ _
       (and_then (FitsPair os vs ts given None) FitsCond (set_pair None a b) _ (set_pair_fits os vs ts given None a b h.0 h.1.0)
       (λ s p. same_sets_fit op s.0 s.1.0 s.1.1 p.0.0 p.1))
-      (and_then (FitNumbers os vs ts given) FitsCond (number_pair a b) _ (number_pair_fits os vs ts given a b h.0 h.1.0)
+      (and_then (FitNumbers os vs ts given) FitsCond (both a.number b.number) _ (number_pair_fits os vs ts given a b h.0 h.1.0)
       (λ x p. cond_numbers os vs ts given op x.0 x.1 p.0 p.1))
   comparison_fits at op others h = tt
 
@@ -66,10 +69,10 @@ module _ (os : List ObjectType) (vs : List Variable) (ts : List TableData) (give
   connection_fits at op [] h = tt
   connection_fits at op (x ∷ xs) h =
       if_allowed FitsCond (nat_lt 0 (length xs)) _ _
-      (λ some. and_then FitsCond FitsCond x.condition _ h.0.condition
-      (λ c p. and_then (λ cs. (length cs ≡ length xs) × Each FitsCond cs) FitsCond (in_turn (λ (e : Typing). e.condition) xs) (λ cs. Ok (connected op c cs))
-      (in_turn_each FitsCond (λ (e : Typing). e.condition) xs (conditions_fit os vs ts given xs h.1))
-      (λ cs q. connected_fit op c cs p q.1)))
+      (λ some. and_then (λ (p : Cond × List Cond). FitsCond p.0 × ((length p.1 ≡ length xs) × Each FitsCond p.1)) FitsCond (both x.condition (in_turn (λ (e : Typing). e.condition) xs)) (λ p. Ok (connected op p.0 p.1))
+      (both_fit FitsCond (λ cs. (length cs ≡ length xs) × Each FitsCond cs) x.condition (in_turn (λ (e : Typing). e.condition) xs) h.0.condition
+      (in_turn_each FitsCond (λ (e : Typing). e.condition) xs (conditions_fit os vs ts given xs h.1)))
+      (λ p q. connected_fit op p.0 p.1 q.0 q.1.1))
 
   negation_fits : (at : ℕ) (xs : List Typing) → AreSound xs → IfOk (negation at xs) FitsCond
   negation_fits at (x ∷ []) h = and_then FitsCond FitsCond x.condition _ h.0.condition (λ c p. cond_not os vs ts given c p)
@@ -78,9 +81,9 @@ module _ (os : List ObjectType) (vs : List Variable) (ts : List TableData) (give
   set_test_fits : (at : ℕ) (test : SetTest) (xs : List Typing) → AreSound xs → IfOk (set_test at test xs) FitsCond
   unfolding set_test
   set_test_fits at tests.IsIn (x ∷ y ∷ []) h =
-      and_then FitsNum FitsCond x.number _ h.0.number
-      (λ n p. and_then (FitsSet None) FitsCond (y.members None) _ (h.1.0.members None)
-      (λ s q. cond_in os vs ts given s.0 n s.1 p q.0))
+      and_then (λ (p : Num × (ℕ × SetEx)). FitsNum p.0 × FitsSet None p.1) FitsCond (both x.number (y.members None)) _
+      (both_fit FitsNum (FitsSet None) x.number (y.members None) h.0.number (h.1.0.members None))
+      (λ p q. cond_in os vs ts given p.1.0 p.0 p.1.1 q.0 q.1.0)
   set_test_fits at tests.IsSubset (x ∷ y ∷ []) h =
       and_then (FitsPair os vs ts given None) FitsCond (set_pair None x y) _ (set_pair_fits os vs ts given None x y h.0 h.1.0)
       (λ s p. cond_subset os vs ts given s.0 s.1.0 s.1.1 p.0.0 p.1)
@@ -90,15 +93,11 @@ module _ (os : List ObjectType) (vs : List Variable) (ts : List TableData) (give
   abbrev FitConditions : Cond × Cond → Type 0
   FitConditions p = FitsCond p.0 × FitsCond p.1
 
-  condition_pair_fits : (a b : Typing) → Sound os vs ts given a → Sound os vs ts given b → IfOk (condition_pair a b) FitConditions
-  condition_pair_fits a b h k =
-      and_then FitsCond FitConditions a.condition _ h.condition (λ x p. and_then FitsCond FitConditions b.condition _ k.condition (λ y q. (p, q)))
-
   condition_choice_fits : (at : ℕ) (xs : List Typing) → AreSound xs → IfOk (condition_choice at xs) FitsCond
   condition_choice_fits at (c ∷ a ∷ b ∷ []) h =
-      and_then FitsCond FitsCond c.condition _ h.0.condition
-      (λ held p. and_then FitConditions FitsCond (condition_pair a b) _ (condition_pair_fits a b h.1.0 h.1.1.0)
-      (λ x q. cond_if os vs ts given held x.0 x.1 p q.0 q.1))
+      and_then (λ (p : Cond × (Cond × Cond)). FitsCond p.0 × FitConditions p.1) FitsCond (both c.condition (both a.condition b.condition)) _
+      (both_fit FitsCond FitConditions c.condition (both a.condition b.condition) h.0.condition (both_fit FitsCond FitsCond a.condition b.condition h.1.0.condition h.1.1.0.condition))
+      (λ p q. cond_if os vs ts given p.0 p.1.0 p.1.1 q.0 q.1.0 q.1.1)
   condition_choice_fits at others h = tt
 
   condition_operator_fits : (at : ℕ) (o : Operator) (xs : List Typing) → AreSound xs → IfOk (condition_operator at o xs) FitsCond

@@ -1,6 +1,5 @@
 pub mod Steps
 pub mod Trees
-pub mod Numerals
 pub mod Meanings
 pub mod Sound
 pub mod Numbers

@@ -1,4 +1,4 @@
--- What a word means fits the lists that its scope declares.
+-- What a word means fits the lists of its names.
 use Rattle.std.proofs.Common.{◌≡◌, ℕ, suc, ◌+◌, ◌<◌, Bool, true, false, not, if◌then◌else◌, nat_lt, List, [], ◌∷◌, length, Option, Some, None, IfSome, IsTrue, option_and_then, unwrap_or, slice_get, bytes_eq, codes, refl, sym, ap, ◌∙◌, subst, ℤ, arith}
 use Rattle.std.specs.Option.{option_or}
 use Rattle.std.specs.Str.{all_ascii_digits}
@@ -9,16 +9,15 @@ use Rattle.dp_model.specs.declared.parts.Variable.{Variable}
 use Rattle.dp_model.specs.declared.parts.Cells.{Cells}
 use Rattle.dp_model.specs.declared.parts.Cells.TheVariants as cells
 use Rattle.dp_model.specs.declared.parts.TableData.{TableData}
-use Rattle.dypdl_type.specs.declared.scope.CellKind.{CellKind}
-use Rattle.dypdl_type.specs.declared.scope.CellKind.TheVariants as kinds
-use Rattle.dypdl_type.specs.declared.scope.Named.{Named}
-use Rattle.dypdl_type.specs.declared.scope.Named.TheVariants as named
-use Rattle.dypdl_type.specs.declared.scope.Param.{Param}
-use Rattle.dypdl_type.specs.declared.scope.Scope.{Scope}
-use Rattle.dypdl_type.specs.declared.words.Operator.{Operator}
-use Rattle.dypdl_type.specs.Scopes.{cell_kind, shape_of, variable_named, table_named, name_in, Declares, params_in, innermost, param_in}
-use Rattle.dypdl_type.specs.Words.{Meaning, Head, begins_number, number_in_range, number_meaning, is_cost, name_meaning, meaning, operator_named, is_left_out, table_head, head_by, head_of}
-use Rattle.dypdl_type.specs.Words as words
+use Rattle.dypdl_words.specs.declared.scope.CellKind.{CellKind}
+use Rattle.dypdl_words.specs.declared.scope.CellKind.TheVariants as kinds
+use Rattle.dypdl_words.specs.declared.scope.Named.{Named}
+use Rattle.dypdl_words.specs.declared.scope.Named.TheVariants as named
+use Rattle.dypdl_words.specs.declared.scope.Param.{Param}
+use Rattle.dypdl_words.specs.declared.words.Operator.{Operator}
+use Rattle.dypdl_words.specs.Scopes.{Names, cell_kind, shape_of, variable_named, table_named, name_in, innermost, param_in}
+use Rattle.dypdl_words.specs.Words.{Meaning, Head, begins_number, number_in_range, number_meaning, is_cost, name_meaning, meaning, operator_named, is_left_out, table_head, head_by, head_of}
+use Rattle.dypdl_words.specs.Words as words
 
 -- ---- choices
 
@@ -97,10 +96,11 @@ table_stands vs all at (t ∷ ts) word left =
 left_all : {A : Type 0} (all : List A) → LeftFrom 0 all all
 left_all all k = let e : 0 + k ≡ k = omega arith in ap (slice_get all) e
 
-pub name_stands : (scope : Scope) (vs : List Variable) (ts : List TableData) → Declares scope vs ts → (word : List ℕ) → IfSome (name_in scope word) (Stands vs ts)
-name_stands scope vs ts declares word =
-    subst (λ (o : Option Named). IfSome o (Stands vs ts)) (sym (declares word))
-    (either_of (Stands vs ts) (variable_named 0 vs word) (table_named 0 ts word) (variable_stands vs ts 0 vs word (left_all vs)) (table_stands vs ts 0 ts word (left_all ts)))
+pub name_stands : (names : Names) (word : List ℕ) → IfSome (name_in names word) (Stands names.variables names.tables)
+name_stands names word =
+    let vs = names.variables in
+    let ts = names.tables in
+    either_of (Stands vs ts) (variable_named 0 vs word) (table_named 0 ts word) (variable_stands vs ts 0 vs word (left_all vs)) (table_stands vs ts 0 ts word (left_all ts))
 
 -- ---- parameters
 
@@ -111,11 +111,11 @@ innermost_below at (p ∷ ps) word =
     (some_weaker (λ (k : ℕ). k < suc at + length ps) (λ (k : ℕ). k < at + suc (length ps)) (innermost (suc at) ps word) (λ k below. omega arith) (innermost_below (suc at) ps word))
     (either_way (λ (o : Option ℕ). IfSome o (λ k. k < at + suc (length ps))) (bytes_eq p.name word) (Some at) None (omega arith) tt)
 
-param_below : (scope : Scope) (word : List ℕ) → IfSome (param_in scope word) (λ p. IsTrue (nat_lt p (length (params_in scope))))
-param_below scope word =
-    some_weaker (λ (p : ℕ). p < 0 + length (params_in scope)) (λ (p : ℕ). IsTrue (nat_lt p (length (params_in scope)))) (param_in scope word)
-    (λ p below. let h : p < length (params_in scope) = omega arith in lt-ltb p (length (params_in scope)) h)
-    (innermost_below 0 (params_in scope) word)
+param_below : (names : Names) (word : List ℕ) → IfSome (param_in names word) (λ p. IsTrue (nat_lt p (length names.params)))
+param_below names word =
+    some_weaker (λ (p : ℕ). p < 0 + length names.params) (λ (p : ℕ). IsTrue (nat_lt p (length names.params))) (param_in names word)
+    (λ p below. let h : p < length names.params = omega arith in lt-ltb p (length names.params) h)
+    (innermost_below 0 names.params word)
 
 -- ---- words
 
@@ -154,13 +154,16 @@ by_tests P false false true d number name h k t n = t true
 by_tests P false false false true number name h k t n = t false
 by_tests P false false false false number name h k t n = n
 
-pub meaning_fits : (scope : Scope) (vs : List Variable) (ts : List TableData) → Declares scope vs ts → (word : List ℕ) → MeaningFits vs ts (length (params_in scope)) (meaning scope word)
+pub meaning_fits : (names : Names) (word : List ℕ) → MeaningFits names.variables names.tables (length names.params) (meaning names word)
 unfolding meaning
-meaning_fits scope vs ts declares word =
-    by_tests (MeaningFits vs ts (length (params_in scope))) (begins_number word) (is_cost word) (bytes_eq word (codes "true")) (bytes_eq word (codes "false"))
-    (number_meaning word) (name_meaning (param_in scope word) (name_in scope word))
-    (number_fits vs ts (length (params_in scope)) word) tt (λ truth. tt)
-    (name_fits vs ts (length (params_in scope)) (param_in scope word) (name_in scope word) (param_below scope word) (name_stands scope vs ts declares word))
+meaning_fits names word =
+    let vs = names.variables in
+    let ts = names.tables in
+    let given = length names.params in
+    by_tests (MeaningFits vs ts given) (begins_number word) (is_cost word) (bytes_eq word (codes "true")) (bytes_eq word (codes "false"))
+    (number_meaning word) (name_meaning (param_in names word) (name_in names word))
+    (number_fits vs ts given word) tt (λ truth. tt)
+    (name_fits vs ts given (param_in names word) (name_in names word) (param_below names word) (name_stands names word))
 
 -- ---- heads
 
@@ -183,6 +186,6 @@ head_by_fits vs ts None word name h =
     either_way (HeadFits vs ts) (is_cost word) words.CostHead (if is_left_out word then words.LeftOut else table_head name) tt
     (either_way (HeadFits vs ts) (is_left_out word) words.LeftOut (table_head name) tt (table_head_fits vs ts name h))
 
-pub head_fits : (scope : Scope) (vs : List Variable) (ts : List TableData) → Declares scope vs ts → (word : List ℕ) → HeadFits vs ts (head_of scope word)
+pub head_fits : (names : Names) (word : List ℕ) → HeadFits names.variables names.tables (head_of names word)
 unfolding head_of
-head_fits scope vs ts declares word = head_by_fits vs ts (operator_named word) word (name_in scope word) (name_stands scope vs ts declares word)
+head_fits names word = head_by_fits names.variables names.tables (operator_named word) word (name_in names word) (name_stands names word)

@@ -10,21 +10,24 @@ use Rattle.dp_model.specs.declared.trees.Arg.{Arg}
 use Rattle.dp_model.specs.declared.trees.Num.{Num}
 use Rattle.dp_model.specs.declared.trees.Num.TheVariants as num
 use Rattle.dp_model.specs.declared.trees.Cond.{Cond}
-use Rattle.dypdl_type.specs.declared.ends.TypeEnd.{TypeEnd}
-use Rattle.dypdl_type.specs.declared.scope.CellKind.{CellKind}
-use Rattle.dypdl_type.specs.declared.scope.CellKind.TheVariants as cells
-use Rattle.dypdl_type.specs.declared.scope.Shape.{Shape}
-use Rattle.dypdl_type.specs.declared.scope.Named.TheVariants as named
-use Rattle.dypdl_type.specs.declared.scope.Scope.{Scope}
-use Rattle.dypdl_type.specs.declared.words.Operator.{Operator}
-use Rattle.dypdl_type.specs.declared.words.Operator.TheVariants as operators
+use Rattle.dypdl_words.specs.Scopes.{Names}
+use Rattle.dypdl_words.specs.declared.ends.TypeEnd.{TypeEnd}
+use Rattle.dypdl_words.specs.declared.scope.CellKind.{CellKind}
+use Rattle.dypdl_words.specs.declared.scope.CellKind.TheVariants as cells
+use Rattle.dypdl_words.specs.declared.scope.Shape.{Shape}
+use Rattle.dypdl_words.specs.declared.scope.Named.TheVariants as named
+use Rattle.dypdl_words.specs.declared.words.Operator.{Operator}
+use Rattle.dypdl_words.specs.declared.words.Operator.TheVariants as operators
 use Rattle.dp_base.specs.Results.{in_turn}
-use Rattle.dypdl_type.specs.Words.{Meaning, Head, meaning}
-use Rattle.dypdl_type.specs.Words as words
-use Rattle.dypdl_type.specs.Typing.{Typing, are_enough, are_whole, arguments, folded_numbers, number_operation, number_pair, number_choice, term, terms, summed_shape, summed_word, summed_table, sum_of, number_sum, number_operator, number_list}
+use Rattle.dypdl_words.specs.Words.{Meaning, Head, meaning}
+use Rattle.dypdl_words.specs.Words as words
+use Rattle.dypdl_words.specs.Leaves.{are_whole}
+use Rattle.dypdl_words.specs.Folding.{folded_numbers}
+use Rattle.dypdl_words.specs.Trees.{both}
+use Rattle.dypdl_type.specs.Typing.{Typing, are_enough, arguments, number_operation, number_choice, term, terms, summed_shape, summed_word, summed_table, sum_of, number_sum, number_operator, number_list}
 use Rattle.dypdl_type.proofs.Trees.{Each, is_arg, AreTerms, num_cell, num_sum, num_op, num_if, one_fits, many_fits}
 use Rattle.dypdl_type.proofs.Meanings.{either_way, IsPlain, MeaningFits, HeadFits}
-use Rattle.dypdl_type.proofs.Sound.{and_then, if_allowed, unless_refused, in_turn_each, whole_cells, NumFits, SetFits, CondFits, Sound, wanted_set, numbers_fit, AreArguments, arguments_fit}
+use Rattle.dypdl_type.proofs.Sound.{and_then, both_fit, if_allowed, unless_refused, in_turn_each, whole_cells, NumFits, SetFits, CondFits, Sound, wanted_set, numbers_fit, AreArguments, arguments_fit}
 
 module _ (os : List ObjectType) (vs : List Variable) (ts : List TableData) (given : ℕ) where
   abbrev FitsNum : Num → Type 0
@@ -44,23 +47,22 @@ module _ (os : List ObjectType) (vs : List Variable) (ts : List TableData) (give
   number_operation_fits at op [] h = tt
   number_operation_fits at op (x ∷ xs) h =
       if_allowed FitsNum (are_enough op (length xs)) _ _
-      (λ enough. and_then FitsNum FitsNum x.number _ h.0.number
-      (λ n p. and_then (λ ns. (length ns ≡ length xs) × Each FitsNum ns) FitsNum (in_turn (λ (e : Typing). e.number) xs) _
-      (in_turn_each FitsNum (λ (e : Typing). e.number) xs (numbers_fit os vs ts given xs h.1))
-      (λ ns q. folded_numbers_fit op n ns p q.1)))
+      (λ enough. and_then (λ (p : Num × List Num). FitsNum p.0 × ((length p.1 ≡ length xs) × Each FitsNum p.1)) FitsNum (both x.number (in_turn (λ (e : Typing). e.number) xs)) _
+      (both_fit FitsNum (λ ns. (length ns ≡ length xs) × Each FitsNum ns) x.number (in_turn (λ (e : Typing). e.number) xs) h.0.number
+      (in_turn_each FitsNum (λ (e : Typing). e.number) xs (numbers_fit os vs ts given xs h.1)))
+      (λ p q. folded_numbers_fit op p.0 p.1 q.0 q.1.1))
 
   abbrev pub FitNumbers : Num × Num → Type 0
   FitNumbers p = FitsNum p.0 × FitsNum p.1
 
-  pub number_pair_fits : (a b : Typing) → Sound os vs ts given a → Sound os vs ts given b → IfOk (number_pair a b) FitNumbers
-  number_pair_fits a b h k =
-      and_then FitsNum FitNumbers a.number _ h.number (λ x p. and_then FitsNum FitNumbers b.number _ k.number (λ y q. (p, q)))
+  pub number_pair_fits : (a b : Typing) → Sound os vs ts given a → Sound os vs ts given b → IfOk (both a.number b.number) FitNumbers
+  number_pair_fits a b h k = both_fit FitsNum FitsNum a.number b.number h.number k.number
 
   number_choice_fits : (at : ℕ) (xs : List Typing) → AreSound xs → IfOk (number_choice at xs) FitsNum
   number_choice_fits at (c ∷ a ∷ b ∷ []) h =
-      and_then FitsCond FitsNum c.condition _ h.0.condition
-      (λ held p. and_then FitNumbers FitsNum (number_pair a b) _ (number_pair_fits a b h.1.0 h.1.1.0)
-      (λ x q. num_if os vs ts given held x.0 x.1 p q.0 q.1))
+      and_then (λ (p : Cond × (Num × Num)). FitsCond p.0 × FitNumbers p.1) FitsNum (both c.condition (both a.number b.number)) _
+      (both_fit FitsCond FitNumbers c.condition (both a.number b.number) h.0.condition (number_pair_fits a b h.1.0 h.1.1.0))
+      (λ p q. num_if os vs ts given p.0 p.1.0 p.1.1 q.0 q.1.0 q.1.1)
   number_choice_fits at others h = tt
 
   -- ---- sums
@@ -108,32 +110,32 @@ module _ (os : List ObjectType) (vs : List Variable) (ts : List TableData) (give
   summed_word_fits at (words.Name (named.Table t shape)) h = summed_shape_fits at t shape shape.cells h.0 h.2
   summed_word_fits at other h = tt
 
-  module _ (scope : Scope) (known : (word : List ℕ) → MeaningFits vs ts given (meaning scope word)) where
-    summed_table_fits : (at : ℕ) (word : Option (List ℕ)) → IfOk (summed_table scope at word) IsSummed
+  module _ (names : Names) (known : (word : List ℕ) → MeaningFits vs ts given (meaning names word)) where
+    summed_table_fits : (at : ℕ) (word : Option (List ℕ)) → IfOk (summed_table names at word) IsSummed
     unfolding summed_table
-    summed_table_fits at (Some word) = summed_word_fits at (meaning scope word) (known word)
+    summed_table_fits at (Some word) = summed_word_fits at (meaning names word) (known word)
     summed_table_fits at None = tt
 
-    sum_fits : (at : ℕ) (t : Typing) (xs : List Typing) → AreSound xs → IfOk (sum_of scope at t xs) FitsNum
+    sum_fits : (at : ℕ) (t : Typing) (xs : List Typing) → AreSound xs → IfOk (sum_of names at t xs) FitsNum
     sum_fits at t xs h =
-        and_then IsSummed FitsNum (summed_table scope t.at t.word) _ (summed_table_fits t.at t.word)
+        and_then IsSummed FitsNum (summed_table names t.at t.word) _ (summed_table_fits t.at t.word)
         (λ table p. if_allowed FitsNum (length xs == length table.1) _ _
         (λ same. and_then (AreTerms os vs ts given table.1) FitsNum (terms table.1 xs) (λ ys. Ok (num.Sum table.0 ys))
         (terms_fit table.1 xs (eqb-true (length xs) (length table.1) same) h)
         (λ ys q. num_sum os vs ts given table.0 ys p.0 (subst (λ (objects : List ℕ). AreTerms os vs ts given objects ys) (sym p.1) q))))
 
-    number_sum_fits : (at : ℕ) (xs : List Typing) → AreSound xs → IfOk (number_sum scope at xs) FitsNum
+    number_sum_fits : (at : ℕ) (xs : List Typing) → AreSound xs → IfOk (number_sum names at xs) FitsNum
     number_sum_fits at [] h = tt
     number_sum_fits at (t ∷ xs) h = if_allowed FitsNum (nat_lt 0 (length xs)) _ _ (λ some. sum_fits at t xs h.1)
 
-    number_operator_fits : (at : ℕ) (o : Operator) (xs : List Typing) → AreSound xs → IfOk (number_operator scope at o xs) FitsNum
+    number_operator_fits : (at : ℕ) (o : Operator) (xs : List Typing) → AreSound xs → IfOk (number_operator names at o xs) FitsNum
     unfolding number_operator
     number_operator_fits at (operators.Number op) xs h = number_operation_fits at op xs h
     number_operator_fits at operators.If xs h = number_choice_fits at xs h
     number_operator_fits at operators.Sum xs h = number_sum_fits at xs h
     number_operator_fits at other xs h = tt
 
-    pub number_list_fits : (at : ℕ) (head : Head) (xs : List Typing) → HeadFits vs ts head → AreSound xs → IfOk (number_list scope at head xs) FitsNum
+    pub number_list_fits : (at : ℕ) (head : Head) (xs : List Typing) → HeadFits vs ts head → AreSound xs → IfOk (number_list names at head xs) FitsNum
     unfolding number_list
     number_list_fits at (words.Operation o) xs is h = number_operator_fits at o xs h
     number_list_fits at (words.Table t shape) xs is h =

@@ -9,20 +9,23 @@ use Rattle.dp_model.specs.declared.trees.Num.{Num}
 use Rattle.dp_model.specs.declared.trees.SetEx.{SetEx}
 use Rattle.dp_model.specs.declared.trees.SetEx.TheVariants as set
 use Rattle.dp_model.specs.declared.trees.Cond.{Cond}
-use Rattle.dypdl_type.specs.declared.scope.CellKind.{CellKind}
-use Rattle.dypdl_type.specs.declared.scope.CellKind.TheVariants as cells
-use Rattle.dypdl_type.specs.declared.scope.Shape.{Shape}
-use Rattle.dypdl_type.specs.declared.words.Operator.{Operator}
-use Rattle.dypdl_type.specs.declared.words.Operator.TheVariants as operators
-use Rattle.dypdl_type.specs.declared.words.Change.{Change}
-use Rattle.dypdl_type.specs.declared.words.Change.TheVariants as changes
+use Rattle.dypdl_words.specs.declared.scope.CellKind.{CellKind}
+use Rattle.dypdl_words.specs.declared.scope.CellKind.TheVariants as cells
+use Rattle.dypdl_words.specs.declared.scope.Shape.{Shape}
+use Rattle.dypdl_words.specs.declared.words.Operator.{Operator}
+use Rattle.dypdl_words.specs.declared.words.Operator.TheVariants as operators
+use Rattle.dypdl_words.specs.declared.words.Change.{Change}
+use Rattle.dypdl_words.specs.declared.words.Change.TheVariants as changes
 use Rattle.dp_base.specs.Results.{in_turn}
-use Rattle.dypdl_type.specs.Words.{Head}
-use Rattle.dypdl_type.specs.Words as words
-use Rattle.dypdl_type.specs.Typing.{Typing, fits, arguments, sets_are_enough, folded_sets, members_operation, members_complement, changed_set, members_change, set_pair, members_choice, members_operator, members_table, members_list}
+use Rattle.dypdl_words.specs.Words.{Head}
+use Rattle.dypdl_words.specs.Words as words
+use Rattle.dypdl_words.specs.Leaves.{fits}
+use Rattle.dypdl_words.specs.Folding.{folded_sets, changed_set}
+use Rattle.dypdl_words.specs.Trees.{both}
+use Rattle.dypdl_type.specs.Typing.{Typing, arguments, sets_are_enough, members_operation, members_complement, members_change, set_pair, members_choice, members_operator, members_table, members_list}
 use Rattle.dypdl_type.proofs.Trees.{Each, IsSetOf, set_cell, set_op, set_not, set_with, set_without, set_if}
 use Rattle.dypdl_type.proofs.Meanings.{AreCells, HeadFits}
-use Rattle.dypdl_type.proofs.Sound.{and_then, if_allowed, in_turn_each, NumFits, SetFits, CondFits, Sound, wanted_set, sets_fit, AreArguments, arguments_fit}
+use Rattle.dypdl_type.proofs.Sound.{and_then, both_fit, if_allowed, in_turn_each, NumFits, SetFits, CondFits, Sound, wanted_set, sets_fit, AreArguments, arguments_fit}
 
 module _ (os : List ObjectType) (vs : List Variable) (ts : List TableData) (given : ℕ) where
   abbrev FitsNum : Num → Type 0
@@ -62,9 +65,9 @@ module _ (os : List ObjectType) (vs : List Variable) (ts : List TableData) (give
 
   members_change_fits : (at : ℕ) (wanted : Option ℕ) (change : Change) (xs : List Typing) → AreSound xs → IfOk (members_change at wanted change xs) (FitsSet wanted)
   members_change_fits at wanted change (n ∷ x ∷ []) h =
-      and_then FitsNum (FitsSet wanted) n.number _ h.0.number
-      (λ z p. and_then (FitsSet wanted) (FitsSet wanted) (x.members wanted) _ (h.1.0.members wanted)
-      (λ s q. (changed_set_fits change s.0 z s.1 p q.0, q.1)))
+      and_then (λ (p : Num × (ℕ × SetEx)). FitsNum p.0 × FitsSet wanted p.1) (FitsSet wanted) (both n.number (x.members wanted)) _
+      (both_fit FitsNum (FitsSet wanted) n.number (x.members wanted) h.0.number (h.1.0.members wanted))
+      (λ p q. (changed_set_fits change p.1.0 p.0 p.1.1 q.0 q.1.0, q.1.1))
   members_change_fits at wanted change others h = tt
 
   abbrev pub FitsPair : Option ℕ → ℕ × (SetEx × SetEx) → Type 0
@@ -78,9 +81,9 @@ module _ (os : List ObjectType) (vs : List Variable) (ts : List TableData) (give
 
   members_choice_fits : (at : ℕ) (wanted : Option ℕ) (xs : List Typing) → AreSound xs → IfOk (members_choice at wanted xs) (FitsSet wanted)
   members_choice_fits at wanted (c ∷ a ∷ b ∷ []) h =
-      and_then FitsCond (FitsSet wanted) c.condition _ h.0.condition
-      (λ held p. and_then (FitsPair wanted) (FitsSet wanted) (set_pair wanted a b) _ (set_pair_fits wanted a b h.1.0 h.1.1.0)
-      (λ s q. (set_if os vs ts given held s.0 s.1.0 s.1.1 p q.0.0 q.1, q.0.1)))
+      and_then (λ (p : Cond × (ℕ × (SetEx × SetEx))). FitsCond p.0 × FitsPair wanted p.1) (FitsSet wanted) (both c.condition (set_pair wanted a b)) _
+      (both_fit FitsCond (FitsPair wanted) c.condition (set_pair wanted a b) h.0.condition (set_pair_fits wanted a b h.1.0 h.1.1.0))
+      (λ p q. (set_if os vs ts given p.0 p.1.0 p.1.1.0 p.1.1.1 q.0 q.1.0.0 q.1.1, q.1.0.1))
   members_choice_fits at wanted others h = tt
 
   members_operator_fits : (at : ℕ) (wanted : Option ℕ) (o : Operator) (xs : List Typing) → AreSound xs → IfOk (members_operator at wanted o xs) (FitsSet wanted)

@@ -14,16 +14,18 @@ use Rattle.dp_model.specs.declared.trees.SetEx.{SetEx}
 use Rattle.dp_model.specs.declared.trees.SetEx.TheVariants as set
 use Rattle.dp_model.specs.declared.trees.Cond.{Cond}
 use Rattle.dp_model.specs.declared.trees.Cond.TheVariants as cond
-use Rattle.dypdl_type.specs.declared.ends.TypeEnd.{TypeEnd}
-use Rattle.dypdl_type.specs.declared.scope.CellKind.{CellKind}
-use Rattle.dypdl_type.specs.declared.scope.CellKind.TheVariants as cells
-use Rattle.dypdl_type.specs.declared.scope.Shape.{Shape}
-use Rattle.dypdl_type.specs.declared.scope.Named.{Named}
-use Rattle.dypdl_type.specs.declared.scope.Named.TheVariants as named
+use Rattle.dypdl_words.specs.declared.ends.TypeEnd.{TypeEnd}
+use Rattle.dypdl_words.specs.declared.scope.CellKind.{CellKind}
+use Rattle.dypdl_words.specs.declared.scope.CellKind.TheVariants as cells
+use Rattle.dypdl_words.specs.declared.scope.Shape.{Shape}
+use Rattle.dypdl_words.specs.declared.scope.Named.{Named}
+use Rattle.dypdl_words.specs.declared.scope.Named.TheVariants as named
 use Rattle.dp_base.specs.Results.{◌>>=◌, in_turn}
-use Rattle.dypdl_type.specs.Words.{Meaning}
-use Rattle.dypdl_type.specs.Words as words
-use Rattle.dypdl_type.specs.Typing.{Typing, fits, are_whole, are_truths as hold_truths, named_alone, number_named, number_word, members_cells, members_named, members_word, condition_named, condition_word, arguments}
+use Rattle.dypdl_words.specs.Words.{Meaning}
+use Rattle.dypdl_words.specs.Words as words
+use Rattle.dypdl_words.specs.Leaves.{fits, are_whole, are_truths as hold_truths, named_alone, number_named, number_word, members_cells, members_named, members_word, condition_named, condition_word}
+use Rattle.dypdl_words.specs.Trees.{both}
+use Rattle.dypdl_type.specs.Typing.{Typing, arguments}
 use Rattle.dypdl_type.proofs.Trees.{Each, each_weaker, IsNum, IsSetOf, IsCond, num_fixed, num_var, num_param, num_cell, set_var, set_cell, cond_fixed, cond_cell}
 use Rattle.dypdl_type.proofs.Meanings.{AreCells, Stands, MeaningFits}
 
@@ -32,6 +34,11 @@ use Rattle.dypdl_type.proofs.Meanings.{AreCells, Stands, MeaningFits}
 pub and_then : {A B : Type 0} (P : A → Type 0) (Q : B → Type 0) (r : Result A TypeEnd) (f : A → Result B TypeEnd) → IfOk r P → ((x : A) → P x → IfOk (f x) Q) → IfOk (r >>= f) Q
 and_then P Q (Ok x) f h more = more x h
 and_then P Q (Err e) f h more = tt
+
+pub both_fit : {A B : Type 0} (P : A → Type 0) (Q : B → Type 0) (x : Result A TypeEnd) (y : Result B TypeEnd) → IfOk x P → IfOk y Q → IfOk (both x y) (λ p. P p.0 × Q p.1)
+both_fit P Q (Ok a) (Ok b) h k = (h, k)
+both_fit P Q (Ok a) (Err e) h k = tt
+both_fit P Q (Err e) y h k = tt
 
 -- what is refused unless a test holds
 pub if_allowed : {A : Type 0} (P : A → Type 0) (b : Bool) (r : Result A TypeEnd) (e : TypeEnd) → (b ≡ true → IfOk r P) → IfOk (if b then r else Err e) P

@@ -3,8 +3,8 @@ use Rattle.std.proofs.Common.{◌≡◌, ◌∙◌, ℕ, zero, suc, ◌+◌, ◌
 use Rattle.std.proofs.Math.Seq.{drop-cons}
 use Rattle.dp_model.specs.declared.trees.Arg.{Arg}
 use Rattle.dypdl_expr.specs.declared.expr.Expr.{Expr}
-use Rattle.dypdl_type.specs.declared.ends.TypeEnd.{TypeEnd}
-use Rattle.dypdl_type.specs.declared.scope.Scope.{Scope}
+use Rattle.dypdl_words.specs.Scopes.{Names}
+use Rattle.dypdl_words.specs.declared.ends.TypeEnd.{TypeEnd}
 use Rattle.dp_base.specs.Results.{◌>>=◌, in_turn}
 use Rattle.dypdl_type.specs.Forms.{typings}
 use Rattle.dypdl_type.specs.Typing.{Typing, typing, term, terms}
@@ -23,15 +23,15 @@ grown {B} left first rest all y before after step typed pushed given =
     ∙ ap (λ (r : Result (List B) TypeEnd). r >>= λ more. Ok (before ++ more)) (sym step)
     ∙ given
 
-pub one_more : {B : Type 0} (g : Typing → Result B TypeEnd) (scope : Scope) (es : List Expr) (i : ℕ) (e : Expr) (y : B) (before after : List B) (all : Result (List B) TypeEnd) → i < length es → e ≡ get_or es i e → g (typing scope e) ≡ Ok y → after ≡ before ++ y ∷ [] → (in_turn g (typings scope (drop i es)) >>= λ more. Ok (before ++ more)) ≡ all → (in_turn g (typings scope (drop (i + 1) es)) >>= λ more. Ok (after ++ more)) ≡ all
-one_more g scope es i e y before after all inside is typed pushed given =
-    let step : in_turn g (typings scope (drop i es)) ≡ (g (typing scope e) >>= λ z. in_turn g (typings scope (drop (i + 1) es)) >>= λ zs. Ok (z ∷ zs)) = rw (add-one, drop-cons es i e, ← is) refl in
-    grown (in_turn g (typings scope (drop i es))) (g (typing scope e)) (in_turn g (typings scope (drop (i + 1) es))) all y before after step typed pushed given
+pub one_more : {B : Type 0} (g : Typing → Result B TypeEnd) (names : Names) (es : List Expr) (i : ℕ) (e : Expr) (y : B) (before after : List B) (all : Result (List B) TypeEnd) → i < length es → e ≡ get_or es i e → g (typing names e) ≡ Ok y → after ≡ before ++ y ∷ [] → (in_turn g (typings names (drop i es)) >>= λ more. Ok (before ++ more)) ≡ all → (in_turn g (typings names (drop (i + 1) es)) >>= λ more. Ok (after ++ more)) ≡ all
+one_more g names es i e y before after all inside is typed pushed given =
+    let step : in_turn g (typings names (drop i es)) ≡ (g (typing names e) >>= λ z. in_turn g (typings names (drop (i + 1) es)) >>= λ zs. Ok (z ∷ zs)) = rw (add-one, drop-cons es i e, ← is) refl in
+    grown (in_turn g (typings names (drop i es))) (g (typing names e)) (in_turn g (typings names (drop (i + 1) es))) all y before after step typed pushed given
 
-pub one_more_term : (scope : Scope) (objects : List ℕ) (es : List Expr) (i object : ℕ) (e : Expr) (y : Arg) (before after : List Arg) (all : Result (List Arg) TypeEnd) → i < length objects → i < length es → object ≡ get_or objects i object → e ≡ get_or es i e → term object (typing scope e) ≡ Ok y → after ≡ before ++ y ∷ [] → (terms (drop i objects) (typings scope (drop i es)) >>= λ more. Ok (before ++ more)) ≡ all → (terms (drop (i + 1) objects) (typings scope (drop (i + 1) es)) >>= λ more. Ok (after ++ more)) ≡ all
-one_more_term scope objects es i object e y before after all h k is_object is typed pushed given =
-    let step : terms (drop i objects) (typings scope (drop i es)) ≡ (term object (typing scope e) >>= λ z. terms (drop (i + 1) objects) (typings scope (drop (i + 1) es)) >>= λ zs. Ok (z ∷ zs)) = rw (add-one, drop-cons objects i object, drop-cons es i e, ← is_object, ← is) refl in
-    grown (terms (drop i objects) (typings scope (drop i es))) (term object (typing scope e)) (terms (drop (i + 1) objects) (typings scope (drop (i + 1) es))) all y before after step typed pushed given
+pub one_more_term : (names : Names) (objects : List ℕ) (es : List Expr) (i object : ℕ) (e : Expr) (y : Arg) (before after : List Arg) (all : Result (List Arg) TypeEnd) → i < length objects → i < length es → object ≡ get_or objects i object → e ≡ get_or es i e → term object (typing names e) ≡ Ok y → after ≡ before ++ y ∷ [] → (terms (drop i objects) (typings names (drop i es)) >>= λ more. Ok (before ++ more)) ≡ all → (terms (drop (i + 1) objects) (typings names (drop (i + 1) es)) >>= λ more. Ok (after ++ more)) ≡ all
+one_more_term names objects es i object e y before after all h k is_object is typed pushed given =
+    let step : terms (drop i objects) (typings names (drop i es)) ≡ (term object (typing names e) >>= λ z. terms (drop (i + 1) objects) (typings names (drop (i + 1) es)) >>= λ zs. Ok (z ∷ zs)) = rw (add-one, drop-cons objects i object, drop-cons es i e, ← is_object, ← is) refl in
+    grown (terms (drop i objects) (typings names (drop i es))) (term object (typing names e)) (terms (drop (i + 1) objects) (typings names (drop (i + 1) es))) all y before after step typed pushed given
 
 -- an item that is there, whatever stands for a missing one
 pub same_item : (xs : List ℕ) (i d e : ℕ) → i < length xs → get_or xs i d ≡ get_or xs i e

@@ -2,16 +2,14 @@
 
 ghost use Rattle.std.specs.Prelude.{◌≡◌};
 ghost use Rattle.dp_base.specs.Results.{Answers};
-ghost use Rattle.dypdl_type.specs.Ends.{told};
+ghost use Rattle.dypdl_words.specs.Ends.{told};
 ghost use Rattle.dypdl_type.specs.Typing.{typing, join_named, word_is_cost, weight_of, cost_typing};
 
-use crate::ends::TypeEnd;
 use crate::levels::MOST_LEVELS;
-use crate::scope::Scope;
 use crate::typing::number;
-use crate::words::is_cost;
 use dp_model::{JoinOp, Num};
 use dypdl_expr::Expr;
+use dypdl_words::{Scope, TypeEnd, is_cost};
 use std::alloc::Global;
 
 /// How a transition changes the cost so far: not at all, or by joining its weight.
@@ -33,7 +31,7 @@ fn join_named(word: &str) -> Option<JoinOp>
 }
 
 #[tactic(auto, unfolding(crate::specs::Typing::typing))]
-fn is_cost_word(scope: &Scope, e: &Expr) -> bool
+fn is_cost_word(scope: &Scope<'_>, e: &Expr) -> bool
     ensures { result ≡ word_is_cost (typing scope.now e.now).word }
 {
     match e {
@@ -43,7 +41,7 @@ fn is_cost_word(scope: &Scope, e: &Expr) -> bool
 }
 
 /// The weight beside `cost`.
-fn weight(alloc: Global, scope: &Scope, a: &Expr, b: &Expr) -> Result<Num, TypeEnd>
+fn weight(alloc: Global, scope: &Scope<'_>, a: &Expr, b: &Expr) -> Result<Num, TypeEnd>
     ensures { Answers told result (weight_of (typing scope.now a.now) (typing scope.now b.now)) }
 {
     match (is_cost_word(scope, a), is_cost_word(scope, b)) {
@@ -55,7 +53,7 @@ fn weight(alloc: Global, scope: &Scope, a: &Expr, b: &Expr) -> Result<Num, TypeE
 
 /// The cost form of an expression.
 #[tactic(auto, unfolding(crate::specs::Typing::cost_typing, crate::specs::Typing::typing))]
-pub(crate) fn cost(alloc: Global, scope: &Scope, e: &Expr) -> Result<CostForm, TypeEnd>
+pub(crate) fn cost(alloc: Global, scope: &Scope<'_>, e: &Expr) -> Result<CostForm, TypeEnd>
     ensures { Answers told result (cost_typing scope.now e.now) }
 {
     let items = match e {

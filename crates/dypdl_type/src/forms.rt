@@ -3,19 +3,18 @@
 
 ghost use Rattle.std.specs.Prelude.{◌≡◌, IfOk};
 ghost use Rattle.dp_base.specs.Results.{AnswersBy};
-ghost use Rattle.dypdl_type.specs.Ends.{told};
-ghost use Rattle.dypdl_type.specs.Forms.{Finds, head_seen, typings, number_of, IsMatched, members_of_form, condition_of};
+ghost use Rattle.dypdl_words.specs.Ends.{told};
+ghost use Rattle.dypdl_words.specs.Seen.{head_seen};
+ghost use Rattle.dypdl_type.specs.Forms.{Finds, typings, number_of, IsMatched, members_of_form, condition_of};
 ghost use Rattle.dypdl_type.specs.Typing.{typing, are_enough, sets_are_enough, number_operator, number_list, members_operator, members_list, comparison_of, set_test, condition_operator, condition_list, sum_of, summed_table};
 
-use crate::ends::TypeEnd;
-use crate::leaves::{are_truths, are_whole, fits, head_refused, word_refused};
-use crate::scope::{CellKind, Named, Scope};
 use crate::set_kind::holds_set;
-use crate::words::{
-    Change, Connective, HeadForm, Operator, SetTest, WordForm, head_form, word_form,
-};
 use dp_model::{Compare, NumOp, SetOp};
 use dypdl_expr::Expr;
+use dypdl_words::{
+    CellKind, Change, Connective, HeadForm, Named, Operator, Scope, SetRelation, SetTest, TypeEnd,
+    WordForm, are_truths, are_whole, fits, head_form, head_refused, word_form, word_refused,
+};
 
 /// What an expression is where a number is wanted.
 #[derive(Clone, Copy)]
@@ -39,14 +38,6 @@ pub(crate) enum MembersForm<'e> {
     Change(Change, &'e Expr, &'e Expr),
     Choice(&'e Expr, &'e Expr, &'e Expr),
     Cell(u32, u32, &'e [Expr]),
-}
-
-/// How two sets of one object type are compared.
-#[derive(Debug, Clone, Copy)]
-pub(crate) enum SetRelation {
-    Same,
-    Other,
-    Within,
 }
 
 /// What an expression is where a condition is wanted.
@@ -85,7 +76,7 @@ fn sets_are_enough(op: SetOp, more: usize) -> bool
 
 /// The table of a `sum`: one of whole numbers, of no object type, with at least one argument.
 #[tactic(auto, unfolding(crate::specs::Typing::summed_table, crate::specs::Typing::typing))]
-fn summed_table<'e>(scope: &'e Scope, e: &Expr) -> Result<(u32, &'e [u32]), TypeEnd>
+fn summed_table<'e>(scope: &'e Scope<'_>, e: &Expr) -> Result<(u32, &'e [u32]), TypeEnd>
     ensures { AnswersBy told (λ x. (x.0, x.1.now)) result (summed_table scope.now (typing scope.now e.now).at (typing scope.now e.now).word) }
 {
     match e {
@@ -102,7 +93,7 @@ fn summed_table<'e>(scope: &'e Scope, e: &Expr) -> Result<(u32, &'e [u32]), Type
 
 /// A `sum` of a table over its arguments.
 fn sum_form<'e>(
-    scope: &'e Scope,
+    scope: &'e Scope<'_>,
     at: u32,
     table: &'e Expr,
     operands: &'e [Expr],
@@ -120,7 +111,7 @@ fn sum_form<'e>(
 /// An operator's list where a number is wanted.
 #[tactic(auto, unfolding(crate::specs::Typing::number_operator))]
 fn number_operator_form<'e>(
-    scope: &'e Scope,
+    scope: &'e Scope<'_>,
     at: u32,
     operator: Operator,
     operands: &'e [Expr],
@@ -142,7 +133,7 @@ fn number_operator_form<'e>(
 /// A list with this head where a number is wanted.
 #[tactic(auto, unfolding(crate::specs::Typing::number_list))]
 fn number_list_form<'e>(
-    scope: &'e Scope,
+    scope: &'e Scope<'_>,
     at: u32,
     head: HeadForm<'e>,
     operands: &'e [Expr],
@@ -164,7 +155,7 @@ fn number_list_form<'e>(
 
 /// What an expression is where a number is wanted.
 #[tactic(auto, unfolding(crate::specs::Typing::typing))]
-pub(crate) fn number_form<'e>(scope: &'e Scope, e: &'e Expr) -> Result<NumberForm<'e>, TypeEnd>
+pub(crate) fn number_form<'e>(scope: &'e Scope<'_>, e: &'e Expr) -> Result<NumberForm<'e>, TypeEnd>
     ensures found { Finds (number_of scope.now) result (typing scope.now e.now).number }
     ensures matched { IfOk result IsMatched }
 {
@@ -183,7 +174,7 @@ pub(crate) fn number_form<'e>(scope: &'e Scope, e: &'e Expr) -> Result<NumberFor
 /// An operator's list where a set is wanted.
 #[tactic(auto, unfolding(crate::specs::Typing::members_operator))]
 fn members_operator_form<'e>(
-    scope: &'e Scope,
+    scope: &'e Scope<'_>,
     at: u32,
     wanted: Option<u32>,
     operator: Operator,
@@ -208,7 +199,7 @@ fn members_operator_form<'e>(
 /// A list with this head where a set is wanted.
 #[tactic(auto, unfolding(crate::specs::Typing::members_list))]
 fn members_list_form<'e>(
-    scope: &'e Scope,
+    scope: &'e Scope<'_>,
     at: u32,
     wanted: Option<u32>,
     head: HeadForm<'e>,
@@ -236,7 +227,7 @@ fn members_list_form<'e>(
 /// What an expression is where a set is wanted, of this object type if any.
 #[tactic(auto, unfolding(crate::specs::Typing::typing))]
 pub(crate) fn members_form<'e>(
-    scope: &'e Scope,
+    scope: &'e Scope<'_>,
     wanted: Option<u32>,
     e: &'e Expr,
 ) -> Result<MembersForm<'e>, TypeEnd>
@@ -262,7 +253,12 @@ pub(crate) fn members_form<'e>(
 
 /// A comparison: of two sets where the first operand of `=` or `!=` is of set kind, and else of two numbers.
 #[tactic(auto, unfolding(crate::specs::Typing::comparison_of))]
-fn comparison_form<'e>(scope: &'e Scope, op: Compare, a: &'e Expr, b: &'e Expr) -> ConditionForm<'e>
+fn comparison_form<'e>(
+    scope: &'e Scope<'_>,
+    op: Compare,
+    a: &'e Expr,
+    b: &'e Expr,
+) -> ConditionForm<'e>
     ensures { condition_of scope.now result ≡ comparison_of op (typing scope.now a.now) (typing scope.now b.now) }
 {
     match op {
@@ -275,7 +271,7 @@ fn comparison_form<'e>(scope: &'e Scope, op: Compare, a: &'e Expr, b: &'e Expr) 
 /// What is asked of sets.
 #[tactic(auto, unfolding(crate::specs::Typing::set_test))]
 fn set_test_form<'e>(
-    scope: &'e Scope,
+    scope: &'e Scope<'_>,
     at: u32,
     test: SetTest,
     operands: &'e [Expr],
@@ -293,7 +289,7 @@ fn set_test_form<'e>(
 /// An operator's list where a condition is wanted.
 #[tactic(auto, unfolding(crate::specs::Typing::condition_operator))]
 fn condition_operator_form<'e>(
-    scope: &'e Scope,
+    scope: &'e Scope<'_>,
     at: u32,
     operator: Operator,
     operands: &'e [Expr],
@@ -318,7 +314,7 @@ fn condition_operator_form<'e>(
 /// A list with this head where a condition is wanted.
 #[tactic(auto, unfolding(crate::specs::Typing::condition_list))]
 fn condition_list_form<'e>(
-    scope: &'e Scope,
+    scope: &'e Scope<'_>,
     at: u32,
     head: HeadForm<'e>,
     operands: &'e [Expr],
@@ -340,7 +336,7 @@ fn condition_list_form<'e>(
 /// What an expression is where a condition is wanted.
 #[tactic(auto, unfolding(crate::specs::Typing::typing))]
 pub(crate) fn condition_form<'e>(
-    scope: &'e Scope,
+    scope: &'e Scope<'_>,
     e: &'e Expr,
 ) -> Result<ConditionForm<'e>, TypeEnd>
     ensures { Finds (condition_of scope.now) result (typing scope.now e.now).condition }

@@ -3,20 +3,12 @@
 #![tactic(auto)]
 
 mod cost;
-mod ends;
-mod folding;
 mod forms;
 mod kinds;
-mod leaves;
 mod levels;
-mod names;
-mod scope;
 mod set_kind;
 mod typing;
-mod words;
 
 pub use cost::CostForm;
-pub use ends::TypeEnd;
+pub use dypdl_words::{Scope, TypeEnd, begins_number, is_reserved};
 pub use kinds::{type_cond, type_cost, type_elem, type_num, type_set};
-pub use scope::Scope;
-pub use words::{begins_number, is_reserved};

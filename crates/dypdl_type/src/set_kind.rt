@@ -1,30 +1,17 @@
 //! Which operands of `=`, `!=` and `sum` are sets.
 
 ghost use Rattle.std.specs.Prelude.{◌≡◌};
-ghost use Rattle.dypdl_type.specs.Forms.{meaning_seen, head_seen, typings};
-ghost use Rattle.dypdl_type.specs.Typing.{typing, word_holds_set, list_holds_set};
+ghost use Rattle.dypdl_words.specs.Seen.{head_seen};
+ghost use Rattle.dypdl_type.specs.Forms.{typings};
+ghost use Rattle.dypdl_type.specs.Typing.{typing, list_holds_set};
 
-use crate::leaves::are_sets;
-use crate::scope::{Named, Scope};
-use crate::words::{HeadForm, Operator, WordForm, head_form, word_form};
-use dp_model::VarKind;
 use dypdl_expr::Expr;
-
-#[tactic(auto, unfolding(crate::specs::Typing::word_holds_set))]
-fn word_holds_set(form: WordForm<'_>) -> bool
-    ensures { result ≡ word_holds_set (meaning_seen form.entry) }
-{
-    match form {
-        WordForm::Name(Named::Variable(_, VarKind::Set(_))) => true,
-        WordForm::Name(Named::Table(_, shape)) => are_sets(shape.cells),
-        _ => false,
-    }
-}
+use dypdl_words::{HeadForm, Operator, Scope, are_sets, head_form, word_form, word_holds_set};
 
 /// Whether an expression is of set kind as an operand of `=`, `!=` and `sum`.
 #[cycle(holds_set)]
 #[tactic(auto, unfolding(crate::specs::Typing::typing))]
-pub(crate) fn holds_set(scope: &Scope, e: &Expr) -> bool
+pub(crate) fn holds_set(scope: &Scope<'_>, e: &Expr) -> bool
     ensures { result ≡ (typing scope.now e.now).holds_set }
 {
     match e {
@@ -42,7 +29,7 @@ pub(crate) fn holds_set(scope: &Scope, e: &Expr) -> bool
 /// Whether a list with this head is of set kind. An `if` is where its second operand is.
 #[cycle(holds_set)]
 #[tactic(auto, unfolding(crate::specs::Typing::list_holds_set))]
-fn list_holds_set(scope: &Scope, head: HeadForm<'_>, operands: &[Expr]) -> bool
+fn list_holds_set(scope: &Scope<'_>, head: HeadForm<'_>, operands: &[Expr]) -> bool
     ensures { result ≡ list_holds_set (head_seen head.entry) (typings scope.now operands.now) }
 {
     match head {

@@ -6,92 +6,35 @@ use Rattle.dypdl_type.proofs.typing.+typing.Given as goal
 
 -- how far a call is from the last level
 
-abbrev pub decreases-condition : goal.decreases-condition
-decreases-condition l = 4 * l.levels
+abbrev pub decreases-number : goal.decreases-number
+decreases-number l = 3 * l.levels
 
 abbrev pub decreases-members : goal.decreases-members
-decreases-members l = 4 * l.levels
+decreases-members l = 3 * l.levels
 
-abbrev pub decreases-number : goal.decreases-number
-decreases-number l = 4 * l.levels
-
-abbrev pub decreases-comparison : goal.decreases-comparison
-decreases-comparison l = 4 * l.levels + 2
-
-abbrev pub decreases-complement : goal.decreases-complement
-decreases-complement l = 4 * l.levels + 1
-
-abbrev pub decreases-condition_choice : goal.decreases-condition_choice
-decreases-condition_choice l = 4 * l.levels + 2
-
-abbrev pub decreases-conditions : goal.decreases-conditions
-decreases-conditions l = 4 * l.levels + 1
-
-abbrev pub decreases-emptiness : goal.decreases-emptiness
-decreases-emptiness l = 4 * l.levels + 1
-
-abbrev pub decreases-members_change : goal.decreases-members_change
-decreases-members_change l = 4 * l.levels + 1
-
-abbrev pub decreases-members_choice : goal.decreases-members_choice
-decreases-members_choice l = 4 * l.levels + 2
-
-abbrev pub decreases-membership : goal.decreases-membership
-decreases-membership l = 4 * l.levels + 1
-
-abbrev pub decreases-negation : goal.decreases-negation
-decreases-negation l = 4 * l.levels + 1
-
-abbrev pub decreases-number_choice : goal.decreases-number_choice
-decreases-number_choice l = 4 * l.levels + 2
-
-abbrev pub decreases-number_size : goal.decreases-number_size
-decreases-number_size l = 4 * l.levels + 1
+abbrev pub decreases-condition : goal.decreases-condition
+decreases-condition l = 3 * l.levels
 
 abbrev pub decreases-numbers : goal.decreases-numbers
-decreases-numbers l = 4 * l.levels + 1
-
-abbrev pub decreases-set_relation : goal.decreases-set_relation
-decreases-set_relation l = 4 * l.levels + 2
+decreases-numbers l = 3 * l.levels + 1
 
 abbrev pub decreases-sets : goal.decreases-sets
-decreases-sets l = 4 * l.levels + 1
+decreases-sets l = 3 * l.levels + 1
+
+abbrev pub decreases-conditions : goal.decreases-conditions
+decreases-conditions l = 3 * l.levels + 1
 
 abbrev pub decreases-term : goal.decreases-term
-decreases-term l = 4 * l.levels + 1
+decreases-term l = 3 * l.levels + 1
 
-abbrev pub decreases-condition_cell : goal.decreases-condition_cell
-decreases-condition_cell l = 4 * l.levels + 2
-
-abbrev pub decreases-connection : goal.decreases-connection
-decreases-connection l = 4 * l.levels + 2
-
-abbrev pub decreases-members_cell : goal.decreases-members_cell
-decreases-members_cell l = 4 * l.levels + 2
-
-abbrev pub decreases-number_cell : goal.decreases-number_cell
-decreases-number_cell l = 4 * l.levels + 2
-
-abbrev pub decreases-operation : goal.decreases-operation
-decreases-operation l = 4 * l.levels + 2
-
-abbrev pub decreases-set_operation : goal.decreases-set_operation
-decreases-set_operation l = 4 * l.levels + 2
+abbrev pub decreases-two_sets : goal.decreases-two_sets
+decreases-two_sets l = 3 * l.levels + 1
 
 abbrev pub decreases-terms : goal.decreases-terms
-decreases-terms l = 4 * l.levels + 2
+decreases-terms l = 3 * l.levels + 2
 
-abbrev pub decreases-sum : goal.decreases-sum
-decreases-sum l = 4 * l.levels + 3
-
-abbrev pub decreases-number_pair : goal.decreases-number_pair
-decreases-number_pair l = 4 * l.levels + 1
-
-abbrev pub decreases-set_pair : goal.decreases-set_pair
-decreases-set_pair l = 4 * l.levels + 1
-
-abbrev pub decreases-condition_pair : goal.decreases-condition_pair
-decreases-condition_pair l = 4 * l.levels + 1
+abbrev pub decreases-sets_joined : goal.decreases-sets_joined
+decreases-sets_joined l = 3 * l.levels + 2
 
 -- what was read, and then what is left, is the whole
 

@@ -1,7 +1,0 @@
-use Rattle.std.proofs.Common.{◌≡◌}
-use Rattle.dypdl_type.specs.Typing.{folded_sets}
-use Rattle.dypdl_type.proofs.folding.folded_sets.Given as goal
-
--- what is left decides the rest
-abbrev pub invariant-loop-set : goal.invariant-loop-set
-invariant-loop-set l = folded_sets l.op l.folded l.set-iterator.rest.items ≡ folded_sets l.fn.op l.fn.first l.fn.more.items

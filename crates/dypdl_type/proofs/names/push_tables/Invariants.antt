@@ -1,9 +1,0 @@
-use Rattle.std.proofs.Common.{◌≡◌, ℕ, List, drop}
-use Rattle.std.specs.HashMap.{get_by_text}
-use Rattle.std.specs.Option.{option_or}
-use Rattle.dypdl_type.specs.Scopes.{table_named}
-use Rattle.dypdl_type.proofs.names.push_tables.Given as goal
-
--- what is left decides the rest
-abbrev pub invariant-loop-at : goal.invariant-loop-at
-invariant-loop-at l = (word : List ℕ) → option_or (get_by_text l.names word) (table_named l.at (drop l.at l.tables) word) ≡ option_or (get_by_text l.fn.names word) (table_named 0 l.tables word)

@@ -1,0 +1,7 @@
+pub mod Ends
+pub mod Scopes
+pub mod Words
+pub mod Seen
+pub mod Leaves
+pub mod Folding
+pub mod Trees
