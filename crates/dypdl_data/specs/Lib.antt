@@ -1,0 +1,9 @@
+pub mod Names
+pub mod Objects
+pub mod Variables
+pub mod Tables
+pub mod Marks
+pub mod Sizes
+pub mod Cells
+pub mod Fillings
+pub mod Target

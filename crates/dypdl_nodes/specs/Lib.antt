@@ -1,0 +1,3 @@
+pub mod Reads
+pub mod Shapes
+pub mod Scalars
