@@ -273,9 +273,9 @@ impl<'a, L: CostLaw> Visitor<'a, L> {
         Ok(())
     }
 
-    #[tactic(auto, using(crate::proofs::Limits::few_others))]
     /// Fills an empty batch: with the successor by the first enabled forced transition, which is then the only one
     /// considered, or with those by the others.
+    #[tactic(auto, using(crate::proofs::Limits::few_others))]
     pub(crate) fn fill(
         &self,
         alloc: Global,
