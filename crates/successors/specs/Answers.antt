@@ -2,6 +2,8 @@
 use Rattle.std.specs.Prelude.{◌≡◌, ℕ, Option, Some, None, Result, Ok, Err}
 use Rattle.dp_model.specs.declared.answers.FaultKind.{FaultKind}
 use Rattle.dp_model.specs.declared.answers.Spot.{Spot}
+use Rattle.spot_eval.specs.declared.ends.SpotEnd.{SpotEnd}
+use Rattle.spot_eval.specs.declared.ends.SpotEnd.TheVariants as spots
 use Rattle.spot_eval.specs.declared.ends.SpotFault.{SpotFault}
 use Rattle.successors.specs.declared.ends.ExpandEnd.{ExpandEnd}
 use Rattle.successors.specs.declared.ends.ExpandEnd.TheVariants.{Fault, Memory}
@@ -22,6 +24,11 @@ here (Err met) = Err (record { spot = met.spot; kind = met.kind; last = None })
 abbrev pub after : {A : Type 0} → ℕ → Result A SpotFault → Result A Met
 after g (Ok x) = Ok x
 after g (Err met) = Err (record { spot = met.spot; kind = met.kind; last = Some g })
+
+-- what a call of the expander ends with, where a part of the model is evaluated in the state at hand
+abbrev pub ended : SpotEnd → ExpandEnd
+ended (spots.Fault met) = Fault met.spot met.kind None
+ended spots.Memory = Memory
 
 -- the answer stands for this value, or is this fault; `Memory` alone is free
 abbrev pub AnswersBy : {A B : Type 0} → (A → B) → Result A ExpandEnd → Result B Met → Type 0

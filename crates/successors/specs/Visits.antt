@@ -1,5 +1,5 @@
 -- What a visit makes of an inner node: its successors in order of definition, up to the first fault.
-use Rattle.std.specs.Prelude.{ℕ, ◌+◌, Bool, true, false, ◌&&◌, if◌then◌else◌, List, [], ◌∷◌, ◌++◌, filter, Option, Some, None, Result, Ok, ℤ, pos, int_le}
+use Rattle.std.specs.Prelude.{ℕ, ◌+◌, Bool, false, if◌then◌else◌, List, [], ◌∷◌, ◌++◌, Option, Some, None, Result, Ok, ℤ, pos, int_le}
 use Rattle.dp_base.specs.Results.{◌>>=◌, each}
 use Rattle.dp_model.specs.Costs.{join_onto, order_word, ranged}
 use Rattle.dp_model.specs.StepTexts.{ground_of}
@@ -7,7 +7,6 @@ use Rattle.dp_model.specs.declared.answers.Spot.TheVariants as spots
 use Rattle.dp_model.specs.declared.parts.Transition.{Transition}
 use Rattle.dp_model.specs.declared.parts.PlainState.{PlainState}
 use Rattle.dp_model.specs.declared.whole.Model.{Model}
-use Rattle.path_log.specs.declared.logs.StepId.{StepId}
 use Rattle.state_layout.specs.declared.node.Node.{Node}
 use Rattle.spot_eval.specs.Answers.{at_spot}
 use Rattle.spot_eval.specs.Looks.{looked_at}
@@ -16,18 +15,9 @@ use Rattle.spot_eval.specs.declared.ends.SpotFault.{SpotFault}
 use Rattle.spot_eval.specs.declared.looks.Look.{Look}
 use Rattle.spot_eval.specs.declared.looks.Look.TheVariants as looks
 use Rattle.successors.specs.Answers.{Met, after, here}
+use Rattle.successors.specs.Batches.{empty_batch}
+use Rattle.successors.specs.Searches.{Visit}
 use Rattle.successors.specs.declared.batch.Batch.{Batch}
-
--- what is visited, under which step, with which best word
-pub record Visit : Type 0 where
-  pub prune : Bool
-  pub state : PlainState
-  pub cost : Option ℤ
-  pub id : StepId
-  pub best : ℕ
-
-abbrev pub empty_batch : Batch
-empty_batch = record { letters = []; offers = []; pruned = []; not_allowed = 0 }
 
 -- a node with a floor is pruned where the word of its floor is not less than the best
 abbrev pub is_pruned : Model → (best : ℕ) → (floor : Option ℤ) → Bool
@@ -47,11 +37,17 @@ with_look m visit g cost next batch looks.NotAllowed = Ok (record batch { not_al
 with_look m visit g cost next batch (looks.Base base) = at_spot spots.Total (ranged (join_onto m.join cost base)) >>= λ total. Ok (record batch { offers = batch.offers ++ record { cost = total; transition = g } ∷ [] })
 with_look m visit g cost next batch (looks.Open floor) = Ok (with_node m visit (record { state = next; cost = cost; floor = floor; parent = Some visit.id; transition = g }) batch)
 
--- the successor that an enabled transition makes; what follows the effects is evaluated in the successor
-abbrev pub with_successor : Model → Visit → Batch → ℕ → Transition × List ℕ → Result Batch Met
-with_successor m visit batch g t =
-    here (cost_at m visit.state visit.cost g t) >>= λ cost. here (next_at m visit.state g t) >>= λ next.
-    after g (looked_at m visit.prune next cost >>= with_look m visit g cost next batch)
+-- a successor that is looked at, with its cost so far
+abbrev pub with_next : Model → Visit → (g : ℕ) → (cost : Option ℤ) → PlainState → Batch → Result Batch SpotFault
+with_next m visit g cost next batch = looked_at m visit.prune next cost >>= with_look m visit g cost next batch
+
+-- the same of the state that an enabled transition leads to: what is evaluated in it is told with the transition
+abbrev pub with_costed : Model → Visit → Batch → (g : ℕ) → Transition × List ℕ → (cost : Option ℤ) → Result Batch Met
+with_costed m visit batch g t cost = here (next_at m visit.state g t) >>= λ next. after g (with_next m visit g cost next batch)
+
+-- the successor that an enabled transition makes: its weight and the joined cost are evaluated before its effects
+abbrev pub with_successor : Model → Visit → Batch → (g : ℕ) → Transition × List ℕ → Result Batch Met
+with_successor m visit batch g t = here (cost_at m visit.state visit.cost g t) >>= with_costed m visit batch g t
 
 abbrev pub with_named : Model → Visit → Batch → ℕ → Option (Transition × List ℕ) → Result Batch Met
 with_named m visit batch g None = Ok batch

@@ -1,10 +1,11 @@
 //! What a visit makes of a node.
 
-ghost use Rattle.std.specs.Prelude.{◌≡◌, []};
+ghost use Rattle.std.specs.Prelude.{◌≡◌, ◌∷◌, ◌++◌, [], OnOk};
+ghost use Rattle.successors.specs.Batches.{empty_batch};
 
 use dp_model::Seq;
 use state_layout::Node;
-use std::alloc::Global;
+use std::alloc::{AllocError, Global};
 
 /// A base successor: the cost of the list that leads to it, and the ground transition that made it.
 #[derive(Clone, Copy, Debug, PartialEq, Eq)]
@@ -26,7 +27,7 @@ pub struct Batch {
 impl Batch {
     /// A batch without successors. It takes no memory.
     pub fn new(alloc: Global) -> Batch
-        ensures { result ≡ record { letters = []; offers = []; pruned = []; not_allowed = 0 } }
+        ensures { result ≡ empty_batch }
     {
         Batch {
             letters: Seq::of(Vec::new(alloc)),
@@ -34,5 +35,23 @@ impl Batch {
             pruned: Seq::of(Vec::new(alloc)),
             not_allowed: 0,
         }
+    }
+
+    /// Lets go of all successors. The batch keeps its room.
+    pub(crate) fn clear(&mut self)
+        ensures { self.new ≡ empty_batch }
+    {
+        self.letters.list_mut().clear();
+        self.offers.list_mut().clear();
+        self.pruned.list_mut().clear();
+        self.not_allowed = 0;
+    }
+
+    /// Adds an offer at the end.
+    pub(crate) fn push_offer(&mut self, offer: Offer) -> Result<(), AllocError>
+        ensures { OnOk result (self.new ≡ record self.old { offers = self.old.offers ++ offer ∷ [] }) }
+    {
+        self.offers.list_mut().push(offer)?;
+        Ok(())
     }
 }

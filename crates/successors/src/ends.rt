@@ -1,9 +1,11 @@
 //! Why a call of the expander gives no answer.
 
 ghost use Rattle.std.specs.Prelude.{◌≡◌};
+ghost use Rattle.successors.specs.Answers.{ended};
 ghost use Rattle.successors.specs.declared.ends.ExpandEnd.TheVariants.{Memory};
 
 use dp_model::{FaultKind, Spot};
+use spot_eval::SpotEnd;
 use std::alloc::{AllocError, AllocFailed};
 use thiserror::Error;
 
@@ -19,6 +21,21 @@ pub enum ExpandEnd {
     },
     #[error("out of memory")]
     Memory,
+}
+
+impl From<SpotEnd> for ExpandEnd {
+    ghost from_gives = { λ spot_end e. e ≡ ended spot_end };
+
+    fn from(spot_end: SpotEnd) -> ExpandEnd {
+        match spot_end {
+            SpotEnd::Fault(met) => ExpandEnd::Fault {
+                spot: met.spot,
+                kind: met.kind,
+                last: None,
+            },
+            SpotEnd::Memory => ExpandEnd::Memory,
+        }
+    }
 }
 
 impl From<AllocError> for ExpandEnd {

@@ -9,7 +9,7 @@ use Rattle.dp_steps.specs.Bounds.{IsFloor}
 use Rattle.dp_claims.specs.Enough.{Has}
 use Rattle.path_log.specs.declared.logs.StepId.{StepId}
 use Rattle.state_layout.specs.declared.node.Node.{Node}
-use Rattle.successors.specs.Visits.{Visit}
+use Rattle.successors.specs.Searches.{Visit}
 use Rattle.successors.specs.declared.batch.Batch.{Batch}
 use Rattle.successors.specs.declared.batch.Offer.{Offer}
 use Rattle.visit_laws.specs.Fates.{AreFates, Fate, IsFate, IsSuccessor, IsTotal, LeadsOut, batch_of, letters_of, numbers_of, offers_of, pruned_of, with_letter, with_offer, with_pruned}

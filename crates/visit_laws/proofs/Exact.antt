@@ -11,7 +11,9 @@ use Rattle.dp_model.specs.declared.whole.Model.{Model}
 use Rattle.dp_steps.specs.States.{Considered, Enabled, Step, weight_of}
 use Rattle.dp_steps.specs.Faults.{MeetsIn}
 use Rattle.successors.specs.Answers.{Met}
-use Rattle.successors.specs.Visits.{Visit, empty_batch, with_tested}
+use Rattle.successors.specs.Batches.{empty_batch}
+use Rattle.successors.specs.Searches.{Visit}
+use Rattle.successors.specs.Visits.{with_tested}
 use Rattle.successors.specs.declared.batch.Batch.{Batch}
 use Rattle.visit_laws.specs.Fates.{Arrives, IsFaultOf, IsOf, MeetsAfter, is_on_arrival}
 use Rattle.visit_laws.specs.Looks.{is_looked}

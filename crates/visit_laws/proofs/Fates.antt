@@ -24,7 +24,8 @@ use Rattle.spot_eval.specs.declared.ends.SpotFault.{SpotFault}
 use Rattle.spot_eval.specs.declared.looks.Look.{Look}
 use Rattle.spot_eval.specs.declared.looks.Look.TheVariants as looks
 use Rattle.successors.specs.Answers.{Met, after, here}
-use Rattle.successors.specs.Visits.{Visit, is_pruned, with_look, with_named, with_number}
+use Rattle.successors.specs.Searches.{Visit}
+use Rattle.successors.specs.Visits.{is_pruned, with_look, with_named, with_number}
 use Rattle.successors.specs.declared.batch.Batch.{Batch}
 use Rattle.visit_laws.specs.Fates.{Fate, IsFate, IsFaultOf, IsOf, IsSuccessor, Prunes, is_on_arrival}
 use Rattle.visit_laws.specs.Looks.{is_looked}

@@ -10,7 +10,9 @@ use Rattle.dp_claims.specs.Enough.{Has}
 use Rattle.spot_eval.specs.Moves.{number_enabled}
 use Rattle.spot_eval.specs.declared.ends.SpotFault.{SpotFault}
 use Rattle.successors.specs.Answers.{Met, after, here}
-use Rattle.successors.specs.Visits.{Visit, empty_batch, with_number, with_tested}
+use Rattle.successors.specs.Batches.{empty_batch}
+use Rattle.successors.specs.Searches.{Visit}
+use Rattle.successors.specs.Visits.{with_number, with_tested}
 use Rattle.successors.specs.declared.batch.Batch.{Batch}
 use Rattle.visit_laws.specs.Fates.{Fate, IsFate, IsFaultOf, numbers_of}
 use Rattle.visit_laws.proofs.Transitions.{enabled_faults, enabled_found}

@@ -15,3 +15,4 @@ pub mod Exact
 pub mod Visits
 pub mod Batches
 pub mod Passes
+pub mod Starts

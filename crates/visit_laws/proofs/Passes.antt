@@ -9,7 +9,7 @@ use Rattle.dp_model.specs.declared.whole.Model.{Model}
 use Rattle.dp_steps.specs.States.{Considered, Enabled, Inner, Step}
 use Rattle.dp_steps.specs.Bounds.{IsFloor}
 use Rattle.dp_steps.specs.Faults.{MeetsIn}
-use Rattle.successors.specs.Visits.{Visit}
+use Rattle.successors.specs.Searches.{Visit}
 use Rattle.successors.specs.declared.batch.Batch.{Batch}
 use Rattle.visit_laws.specs.Fates.{IsOf, IsFaultOf, LeadsOut, is_on_arrival}
 use Rattle.visit_laws.specs.Looks.{is_looked}

@@ -325,9 +325,10 @@ before_found m s g f e =
     (forced, before_considered m s g f first.0, (enabled_found m s f).0 first.1, not_itself m g f forced (where_goes m g f parts.1))
 
 pub before_none : BeforeNone
-before_none m s g =
-    (λ e. considered_none m s g (subst (λ (v : Result (Option ℕ) SpotFault). Told m s (is_before m g) 0 (length m.dp_ground) v) e (before_told m s g)),
-     λ considered. none_told m s (is_before m g) (length m.dp_ground) (first_before m s g) (before_told m s g) (none_considered m s g considered))
+before_none m s g = (
+  λ e. considered_none m s g (subst (λ (v : Result (Option ℕ) SpotFault). Told m s (is_before m g) 0 (length m.dp_ground) v) e (before_told m s g)),
+  λ considered. none_told m s (is_before m g) (length m.dp_ground) (first_before m s g) (before_told m s g) (none_considered m s g considered),
+)
 
 pub before_faults : BeforeFaults
 before_faults m prune cost s g met inner e =

@@ -9,7 +9,9 @@ use Rattle.dp_steps.specs.States.{Considered, Enabled, Inner, IsForced}
 use Rattle.spot_eval.specs.Moves.{first_enabled, forced_of, is_forced, number_enabled, others_of}
 use Rattle.spot_eval.specs.declared.ends.SpotFault.{SpotFault}
 use Rattle.successors.specs.Answers.{Met, here}
-use Rattle.successors.specs.Visits.{Visit, after_forced, empty_batch, expansion, with_number, with_tested}
+use Rattle.successors.specs.Batches.{empty_batch}
+use Rattle.successors.specs.Searches.{Visit}
+use Rattle.successors.specs.Visits.{after_forced, expansion, with_number, with_tested}
 use Rattle.successors.specs.declared.batch.Batch.{Batch}
 use Rattle.visit_laws.specs.Fates.{AreFates, Fate, IsFate, IsFaultOf, batch_of, letters_of, numbers_of, offers_of, out_of, pruned_of}
 use Rattle.visit_laws.specs.Fates.Fate.{Out, Total, Letter, Pruned}

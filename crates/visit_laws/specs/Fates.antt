@@ -13,7 +13,7 @@ use Rattle.dp_steps.specs.States.{Base, Considered, Enabled, Forbidden, Inner, S
 use Rattle.dp_claims.specs.Enough.{Has}
 use Rattle.state_layout.specs.declared.node.Node.{Node}
 use Rattle.successors.specs.Answers.{Met}
-use Rattle.successors.specs.Visits.{Visit}
+use Rattle.successors.specs.Searches.{Visit}
 use Rattle.successors.specs.declared.batch.Batch.{Batch}
 use Rattle.successors.specs.declared.batch.Offer.{Offer}
 use Rattle.visit_laws.specs.Looks.{is_looked}

@@ -5,3 +5,4 @@ pub mod Transitions
 pub mod Steps
 pub mod Fates
 pub mod Visits
+pub mod Starts

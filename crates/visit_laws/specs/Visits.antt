@@ -12,7 +12,8 @@ use Rattle.dp_steps.specs.Faults.{MeetsIn}
 use Rattle.dp_claims.specs.Enough.{Has}
 use Rattle.state_layout.specs.declared.node.Node.{Node}
 use Rattle.successors.specs.Answers.{Met}
-use Rattle.successors.specs.Visits.{Visit, expansion}
+use Rattle.successors.specs.Searches.{Visit}
+use Rattle.successors.specs.Visits.{expansion}
 use Rattle.successors.specs.declared.batch.Batch.{Batch}
 use Rattle.successors.specs.declared.batch.Offer.{Offer}
 use Rattle.visit_laws.specs.Fates.{AreFates, Fate, IsFaultOf, IsSuccessor, IsTotal, LeadsOut, MeetsAfter, Prunes, batch_of, is_on_arrival}

@@ -7,6 +7,7 @@ ghost use Rattle.visit_laws.specs.BaseCases.{BaseCostMet, BaseFaults, BaseFound,
 ghost use Rattle.visit_laws.specs.Looks.{BoundMet, FloorFaults, FloorFound, LookFaults, LookedBase, LookedForbidden, LookedOpen};
 ghost use Rattle.visit_laws.specs.Transitions.{AllConsidered, BeforeFaults, BeforeFound, BeforeNone, EnabledFaults, EnabledFound, ForcedAlone, ForcedFaults, ForcedFound, ForcedListed, MayNotStep, MayStepFaults, MayStepFound, NoneForced, OthersListed, PreconditionMet};
 ghost use Rattle.visit_laws.specs.Steps.{CostFaults, CostFound, CostMet, EffectFaults, EffectMet, NextFound, StepFound, StepMade, WeightMet};
+ghost use Rattle.visit_laws.specs.Starts.{StartBase, StartFaults, StartForbidden, StartOpen};
 ghost use Rattle.visit_laws.specs.Visits.{BatchFound, FatesExclude, FatesFound, FirstFound, NoFaultPassed, OneFault, VisitFaults};
 
 /// What is found of the constraints of a state: whether it is allowed, or the first fault, which is the one that is met
@@ -42,6 +43,15 @@ pub fn law_looks()
     ensures base { LookedBase }
     ensures open_inner { LookedOpen }
     ensures faults { LookFaults }
+{}
+
+/// What the target is found to be: forbidden, base with its cost, inner with its node, or the first fault, which is the one
+/// that is met there.
+pub fn law_starts()
+    ensures forbidden { StartForbidden }
+    ensures base { StartBase }
+    ensures open_inner { StartOpen }
+    ensures faults { StartFaults }
 {}
 
 /// What is found of a transition in a state: whether it is enabled, whether it is considered and enabled, or the first
