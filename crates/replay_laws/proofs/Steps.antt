@@ -1,5 +1,5 @@
 -- A step of a replay is a step of the model, and where the replay stops it has a cause in the model.
-use Rattle.std.proofs.Common.{◌≡◌, ℕ, Bool, true, false, ◌⊎◌, inl, inr, List, Option, Some, None, Result, Ok, Err, refl, sym, ap, subst, ◌∙◌}
+use Rattle.std.proofs.Common.{◌≡◌, ℕ, Bool, true, false, inl, inr, List, Option, Some, None, Result, Ok, Err, refl, sym, ap, subst, ◌∙◌}
 use Rattle.std.specs.Prelude.{ℤ, IfSome, filter}
 use Rattle.dp_base.specs.Results.{◌>>=◌}
 use Rattle.dp_model.specs.Costs.{InRange, join, join_onto, ranged}
@@ -12,7 +12,7 @@ use Rattle.dp_model.specs.declared.parts.Transition.{Transition}
 use Rattle.dp_model.specs.declared.parts.PlainState.{PlainState}
 use Rattle.dp_model.specs.declared.whole.Model.{Model}
 use Rattle.dp_steps.specs.Faults.{MeetsIn}
-use Rattle.dp_steps.specs.States.{Allowed, Base, Considered, Enabled, Forbidden, Inner, Step}
+use Rattle.dp_steps.specs.States.{Allowed, Base, Considered, Enabled, Inner, Step}
 use Rattle.spot_eval.specs.Answers.{at_spot}
 use Rattle.spot_eval.specs.Looks.{allowed_at, best_case}
 use Rattle.spot_eval.specs.Moves.{cost_at, first_enabled, forced_of, goes_before, next_at, number_enabled}

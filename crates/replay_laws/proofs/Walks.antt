@@ -1,11 +1,10 @@
 -- The walk of a replay is a path of the model, and a list that is replayed to its end is a legal list.
-use Rattle.std.proofs.Common.{◌≡◌, ℕ, zero, suc, ◌+◌, ◌<◌, ◌≤◌, Bool, false, ◌⊎◌, inl, inr, List, [], ◌∷◌, length, slice_get, take, Option, Some, None, Result, Ok, Err, refl, sym, ap, subst, ◌∙◌, arith}
-use Rattle.std.specs.Prelude.{ℤ, IfSome, fold}
+use Rattle.std.proofs.Common.{◌≡◌, ℕ, suc, ◌+◌, ◌<◌, ◌≤◌, false, inl, inr, List, [], ◌∷◌, length, slice_get, take, Option, Some, None, Result, Ok, Err, refl, sym, ap, subst, ◌∙◌, arith}
+use Rattle.std.specs.Prelude.{ℤ, IfSome}
 use Rattle.std.proofs.Math.Seq.{take-length}
 use Rattle.std.proofs.lemmas.Int.{ints, clamps}
 use Rattle.std.proofs.lemmas.Option.{slice_get_past}
-use Rattle.dp_base.specs.Results.{◌>>=◌}
-use Rattle.dp_model.specs.Costs.{InRange, better_of, join, join_onto, operation}
+use Rattle.dp_model.specs.Costs.{InRange, join, join_onto, operation}
 use Rattle.dp_model.specs.declared.answers.FaultKind.{FaultKind}
 use Rattle.dp_model.specs.declared.answers.Reason.{Reason}
 use Rattle.dp_model.specs.declared.answers.Spot.{Spot}
@@ -16,18 +15,17 @@ use Rattle.dp_model.specs.declared.whole.Model.{Model}
 use Rattle.dp_steps.specs.Faults.{Meets, MeetsIn}
 use Rattle.dp_steps.specs.Lists as lists
 use Rattle.dp_steps.specs.Lists.{Path, Completion, Solution}
-use Rattle.dp_steps.specs.States.{Base, Step, case_costs, next_state, weight_of}
+use Rattle.dp_steps.specs.States.{Base, Step, next_state, weight_of}
 use Rattle.spot_eval.specs.declared.ends.SpotFault.{SpotFault}
 use Rattle.replay_list.specs.Replays.{after, ended, start, stepped, stopped, totalled, told_of, walked}
 use Rattle.replay_list.specs.declared.replayed.Reached.{Reached}
-use Rattle.replay_list.specs.declared.replayed.Replayed.{Replayed}
 use Rattle.replay_list.specs.declared.replayed.Replayed.TheVariants.{Legal, Illegal, Faulted}
 use Rattle.replay_list.specs.declared.replayed.Stop.{Stop}
 use Rattle.replay_list.specs.declared.replayed.Stop.TheVariants as stops
 use Rattle.visit_laws.proofs.BaseCases.{base_best}
 use Rattle.replay_laws.specs.Replays.{Breaks, FaultMet, IllegalFound, IsIllegal, LegalFound}
 use Rattle.replay_laws.proofs.Ends.{bind_ok, bind_err, after_ok, after_err}
-use Rattle.replay_laws.proofs.Steps.{Cause, Leads, IsTotal, ended_total, total_ended, ended_stops, stepped_leads, stepped_stops, step_taken}
+use Rattle.replay_laws.proofs.Steps.{Cause, Leads, ended_total, total_ended, ended_stops, stepped_leads, stepped_stops, step_taken}
 
 -- ---- a walk and its path
 
