@@ -7,3 +7,4 @@ pub mod Sizes
 pub mod Cells
 pub mod Fillings
 pub mod Target
+pub mod Laws

@@ -67,7 +67,11 @@ fn is_element(kind: CellKind) -> bool
     }
 }
 
-fn blank_table(alloc: Global, objects: &Seq<ObjectType>, head: TableHead) -> Result<TableData, AllocError>
+fn blank_table(
+    alloc: Global,
+    objects: &Seq<ObjectType>,
+    head: TableHead,
+) -> Result<TableData, AllocError>
     ensures { IfOk result (λ t. t ≡ blank_table objects.now head) }
 {
     let TableHead {

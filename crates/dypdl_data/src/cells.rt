@@ -17,7 +17,11 @@ use std::alloc::{AllocError, Global};
 use std::mem;
 use yaml_tree::{Pair, Tree};
 
-fn arg_counts(alloc: Global, objects: &Seq<ObjectType>, args: &[u32]) -> Result<Vec<u32>, AllocError>
+fn arg_counts(
+    alloc: Global,
+    objects: &Seq<ObjectType>,
+    args: &[u32],
+) -> Result<Vec<u32>, AllocError>
     ensures { IfOk result (λ counts. counts.items ≡ map (type_count objects.now) args.now) }
 {
     let mut counts = Vec::with_capacity(alloc, args.len())?;
@@ -46,7 +50,11 @@ fn place_by(at: usize, counts: &[u32], items: &[Tree]) -> Result<usize, LoadEnd>
     let [item, items @ ..] = items else {
         return Ok(at);
     };
-    place_by(next_place(at, *count, index_of(*count, item)?)?, counts, items)
+    place_by(
+        next_place(at, *count, index_of(*count, item)?)?,
+        counts,
+        items,
+    )
 }
 
 /// The place of the cell that a key names in a table whose arguments have these counts.

@@ -119,7 +119,11 @@ fn take_arg(objects: &ObjectTypes<'_>, args: &mut Vec<u32>, item: &Tree) -> Resu
 }
 
 /// The object types of a table's arguments.
-fn args_of(alloc: Global, objects: &ObjectTypes<'_>, tree: Option<&Tree>) -> Result<Seq<u32>, LoadEnd>
+fn args_of(
+    alloc: Global,
+    objects: &ObjectTypes<'_>,
+    tree: Option<&Tree>,
+) -> Result<Seq<u32>, LoadEnd>
     ensures { Answers told result (args_of objects.now.list (option_map (λ t. t.now) tree.entry)) }
 {
     let mut args = Vec::new(alloc);

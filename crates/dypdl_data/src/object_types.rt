@@ -73,7 +73,11 @@ fn take_number(names: &Names<'_>, counts: &mut Vec<Option<u32>>, pair: &Pair) ->
     Ok(())
 }
 
-fn counts_of(alloc: Global, names: &Names<'_>, tree: Option<&Tree>) -> Result<Vec<Option<u32>>, LoadEnd>
+fn counts_of(
+    alloc: Global,
+    names: &Names<'_>,
+    tree: Option<&Tree>,
+) -> Result<Vec<Option<u32>>, LoadEnd>
     ensures counts { AnswersBy told (λ v. v.items) result (counts_of names.now (option_map (λ t. t.now) tree.entry)) }
     ensures len { IfOk result (λ v. length v.items ≡ length names.now) }
 {
@@ -113,14 +117,25 @@ fn count_at(counts: &[Option<u32>], number: usize) -> Option<u32>
 }
 
 /// The object types of these names, each with the count in its place.
-fn given(alloc: Global, at: Place, names: &Names<'_>, counts: &[Option<u32>]) -> Result<Vec<ObjectType>, LoadEnd>
+fn given(
+    alloc: Global,
+    at: Place,
+    names: &Names<'_>,
+    counts: &[Option<u32>],
+) -> Result<Vec<ObjectType>, LoadEnd>
     requires { length counts.now ≡ length names.now }
     ensures given { AnswersBy told (λ v. v.items) result (each (given_step at) [] (zip names.now counts.now)) }
     ensures named { IfOk result (λ v. object_names v.items ≡ names.now) }
 {
     let mut objects = Vec::new(alloc);
     for number in 0..names.len() {
-        take_given(alloc, at, &mut objects, names.word(number), count_at(counts, number))?;
+        take_given(
+            alloc,
+            at,
+            &mut objects,
+            names.word(number),
+            count_at(counts, number),
+        )?;
     }
     Ok(objects)
 }

@@ -31,7 +31,12 @@ pub fn object_at(objects: &ObjectTypes<'_>, at: Place, entries: &[Pair]) -> Resu
     objects.known(needed(at, entries, "object")?)
 }
 
-fn kind_of(objects: &ObjectTypes<'_>, at: Place, entries: &[Pair], tree: &Tree) -> Result<VarKind, LoadEnd>
+fn kind_of(
+    objects: &ObjectTypes<'_>,
+    at: Place,
+    entries: &[Pair],
+    tree: &Tree,
+) -> Result<VarKind, LoadEnd>
     ensures { Answers told result (kind_of objects.now.list at entries.now tree.now) }
 {
     match text_of(tree)? {
@@ -67,7 +72,11 @@ fn preference_of(kind: VarKind, tree: Option<&Tree>) -> Result<Preference, LoadE
 
 /// Takes a name that none of these and of the object types is.
 #[tactic(auto, using(crate::proofs::Texts::among_append))]
-fn new_name<'a>(objects: &Names<'_>, names: &mut Names<'a>, tree: &'a Tree) -> Result<&'a str, LoadEnd>
+fn new_name<'a>(
+    objects: &Names<'_>,
+    names: &mut Names<'a>,
+    tree: &'a Tree,
+) -> Result<&'a str, LoadEnd>
     ensures name { AnswersBy told (λ word. word.now) result (new_name (objects.now ++ names.old) tree.now) }
     ensures added { IfOk result (λ word. names.new ≡ names.old ++ word.now ∷ []) }
 {
@@ -118,7 +127,11 @@ fn take_variable<'a>(
 }
 
 /// The state variables that a domain declares, at most 1,024. Their names and those of the object types are different.
-pub fn variables<'a>(alloc: Global, objects: &ObjectTypes<'_>, tree: &'a Tree) -> Result<StateVariables<'a>, LoadEnd>
+pub fn variables<'a>(
+    alloc: Global,
+    objects: &ObjectTypes<'_>,
+    tree: &'a Tree,
+) -> Result<StateVariables<'a>, LoadEnd>
     ensures { AnswersBy told (λ v. v.list) result (variables_of objects.now.list tree.now) }
 {
     let items = few_items(1024, tree)?;

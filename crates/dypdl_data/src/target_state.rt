@@ -65,7 +65,11 @@ fn none_held(alloc: Global, count: usize) -> Result<Vec<Option<PlainValue>>, All
     Ok(held)
 }
 
-fn take_held(at: Place, values: &mut Vec<PlainValue>, held: Option<PlainValue>) -> Result<(), LoadEnd>
+fn take_held(
+    at: Place,
+    values: &mut Vec<PlainValue>,
+    held: Option<PlainValue>,
+) -> Result<(), LoadEnd>
     ensures { AnswersBy told (λ _. values.new.items) result (held_step at values.old.items held) }
 {
     match held {
@@ -75,7 +79,11 @@ fn take_held(at: Place, values: &mut Vec<PlainValue>, held: Option<PlainValue>) 
 }
 
 /// All of these values. `BAD_TARGET` where one is missing.
-fn all_held(alloc: Global, at: Place, held: Vec<Option<PlainValue>>) -> Result<Vec<PlainValue>, LoadEnd>
+fn all_held(
+    alloc: Global,
+    at: Place,
+    held: Vec<Option<PlainValue>>,
+) -> Result<Vec<PlainValue>, LoadEnd>
     ensures { AnswersBy told (λ values. values.items) result (each (held_step at) [] held.items) }
 {
     let mut values = Vec::with_capacity(alloc, held.len())?;
