@@ -4,9 +4,9 @@ import re
 
 
 def escaped(data):
-    """One line of printable ASCII, as `case_files::escaped` writes it."""
+    """One line of printable ASCII, as `case_files::escaped` writes it. A byte that is no UTF-8 is U+DC80 and more in a text."""
     if isinstance(data, str):
-        data = data.encode()
+        data = data.encode("utf-8", "surrogateescape")
     names = {10: "\\n", 13: "\\r", 9: "\\t", 92: "\\\\"}
     return "".join(names.get(b) or (chr(b) if 32 <= b < 127 else f"\\x{b:02x}") for b in data)
 

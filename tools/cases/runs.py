@@ -7,18 +7,35 @@ in small_runs.py, written by hand."""
 
 import json
 import sys
+from collections import Counter
 
 from case_lines import block, entry
-from small_runs import FIRST_FORM, RUNS
+from small_runs import ORDERS, RUNS
 
 CRATE = "crates/cases_runs"
-TABLES = [("one_variable", "first_form_one_variable"), ("first_form", "first_form")]
+TABLES = [("one_variable", "first_form_one_variable"), ("first_form", "first_form"), ("refusals", "refusals")]
+MOST_OF_ONE = 6
 TEXTS = ("domain", "problem", "list")
+
+
+def refusal(case):
+    """The number of the refusal that a run gives."""
+    return case["stdout"].split(" ")[2] if case["status"] == 3 else None
+
+
+def chosen(cases):
+    """The cases with their numbers, of each refusal the first few."""
+    seen = Counter()
+    for number, case in enumerate(cases, 1):
+        kind = refusal(case)
+        seen[kind] += 1
+        if kind is None or seen[kind] <= MOST_OF_ONE:
+            yield number, case
 
 
 def of_vectors(folder, name):
     with open(f"{folder}/{name}.json", encoding="utf-8") as file:
-        for number, case in enumerate(json.load(file), 1):
+        for number, case in chosen(json.load(file)):
             command = case.get("command", "solve")
             words = [command, "d", "p", *["l"] * ("list" in case), *case["words"]]
             texts = [(key, case[key]) for key in TEXTS if key in case]
@@ -47,7 +64,7 @@ def write(name, cases):
 def main(folder):
     out = [write(name, of_vectors(folder, vectors)) for name, vectors in TABLES]
     out.append(write("small", RUNS))
-    out.append(write("limits", FIRST_FORM))
+    out.append(write("orders", ORDERS))
     with open(f"{CRATE}/stdout", "w", encoding="utf-8") as file:
         file.writelines(out)
 

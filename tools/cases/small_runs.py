@@ -164,9 +164,9 @@ RUNS = [
             (words("solve d --prune --prune off"), "read fault problem\n", 4),
         ],
     ),
-    ("an empty domain", [("domain", "")], [(OFF, "refused domain:1:1 90 NotYet\n", 3)]),
-    ("an empty problem", [("domain", STAIRS), ("problem", "")], [(OFF, "refused problem:1:1 90 NotYet\n", 3)]),
-    ("a domain for a problem", [("problem", STAIRS)], [(OFF, "refused problem:1:1 90 NotYet\n", 3)]),
+    ("an empty domain", [("domain", "")], [(OFF, "refused domain:1:1 50 WrongShape\n", 3)]),
+    ("an empty problem", [("domain", STAIRS), ("problem", "")], [(OFF, "refused problem:1:1 50 WrongShape\n", 3)]),
+    ("a domain for a problem", [("problem", STAIRS)], [(OFF, "refused problem:2:1 41 UnknownKey\n", 3)]),
     (
         "the domain under the problem's name",
         [("domain", FROM_TWO), ("problem", STAIRS)],
@@ -189,144 +189,93 @@ RUNS = [
 ]
 
 
-# ---- what is read, and what is refused, while only the first form of a model is read
+# ---- what is refused, and which of two refusals is given
 
-CLIMB_FROM_0 = problem("a", "x", 0)
-
-THREE = """\
-domain: b
+# One step for each member of `o`, while x is below 3.
+GO = """\
+domain: a
+objects: [ o ]
 state_variables:
-  - name: x
-    type: integer
-  - name: y_2
-    type: integer
-  - name: z
-    type: integer
+  - { name: x, type: integer }
+  - { name: e, type: element, object: o }
 transitions:
   - name: go
-    preconditions:
-      - (< x 3)
-      - (= z -4)
-    effects:
-      z: (+ y_2 1)
-      x: 7
+    parameters: [ { name: p, object: o } ]
+    preconditions: [ (< x 3) ]
+    effects: { x: (+ x 1) }
     cost: (+ cost 2)
 base_cases:
-  - - (= z 3)
-    - (< y_2 9)
+  - [ (= x 3) ]
 """
 
-THREE_FROM = """\
-domain: b
-problem: three
-target:
-  x: 0
-  y_2: -5
-  z: 12
+GO_FROM = """\
+domain: a
+problem: one
+object_numbers: { o: 2 }
+target: { x: 0, e: 0 }
 """
 
-IN_DOMAIN = "refused domain:1:1 90 NotYet\n"
-IN_PROBLEM = "refused problem:1:1 90 NotYet\n"
-ALONE_OUT = "solution 5 1\njump\npass 1 share 1 visited 1 dropped 0\nverdict optimal 5\n"
+COST = "    cost: (+ cost 2)\n"
+BASE_CASES = "base_cases:\n  - [ (= x 3) ]\n"
+TWO_PARAMETERS = ("{ name: p, object: o }", "{ name: p, object: o }, { name: q, object: o }")
+TABLE = ("state_variables:", "tables: [ { name: t, type: integer, args: [ o ] } ]\nstate_variables:")
+MIXED = COST + "  - { name: up, cost: (max cost 1), effects: { x: (+ x 1) } }\n"
+TWO_NAMES = ("transitions:", "constraints: [ (< y 3) ]\ntransitions:")
 
-CLIMB_REFUSED = [
-    ("(= x 3)\n", "(= x 3)"),
-    ("(= x 3)\n", "(= x 3)\n\n"),
-    ("    type: integer\n", "    type: integer\n  - name: x\n    type: integer\n"),
-    ("(< x 3)", "(< x 1234567)"),
-    ("(< x 3)", "(< x +5)"),
-    ("(< x 3)", "(< x -)"),
-    ("(< x 3)", "(> x 3)"),
-    ("(< x 3)", "(< y 3)"),
-    ("(< x 3)", "(<\tx 3)"),
-    ("      x: 3", "      y: 3"),
-    ("      x: 3", "      x: (+ y 3)"),
-    ("      x: 3", "      x: 3\n      x: 4"),
-    ("name: inc", "name: jump"),
-    ("name: inc", "name: cost"),
-    ("name: inc", "name: a23456789012345678901"),
-    ("name: inc", "name: Inc"),
-    ("name: inc", "name: 1nc"),
-    ("domain: a", "domain: "),
-    ("  - - (= x 3)\n", ""),
-    ("      - (= x 0)\n", ""),
-    ("      x: 3\n", ""),
-    ("base_cases:", "base_cases: "),
-]
 
-CLIMB_READ = [
-    ("(< x 3)", "(< x -0)", ALONE_OUT),
-    ("(< x 3)", "(< x 007)", JUMP_OUT),
-    ("(< x 3)", "(< x -999999)", ALONE_OUT),
-    ("name: inc", "name: a2345678901234567890", JUMP_OUT),
-    ("name: inc", "name: costs_1", JUMP_OUT),
-    ("(= x 3)\n", "(= x 3)\n    - (< x 9)\n", JUMP_OUT),
-]
+def changed(text, *parts):
+    for old, new in parts:
+        assert text.count(old) == 1, (text, old)
+        text = text.replace(old, new)
+    return text
 
-FROM_0_REFUSED = [
-    ("x: 0\n", "x: 0"),
-    ("x: 0\n", "x: 0\n  x: 0\n"),
-    ("  x: 0\n", ""),
-    ("x: 0", "y: 0"),
-    ("x: 0", "x: 00000000"),
-    ("problem: one", "problem: max"),
-    ("problem: one", "problem:\tone"),
-]
 
-THREE_REFUSED = [
-    ("transitions:", "  - name: y_2\n    type: integer\ntransitions:"),
-    ("      x: 7\n", "      x: 7\n      z: 1\n"),
-    ("      x: 7\n", "      x: 7\n      x: 7\n"),
-    ("(+ y_2 1)", "(+ y 1)"),
-    ("(< y_2 9)", "(< y_23 9)"),
-    ("  - name: y_2\n", "  - name: y_2\n\n"),
-]
+def values(text):
+    return ("target:", f"table_values: {text}\ntarget:")
 
-THREE_FROM_REFUSED = [
-    ("  x: 0\n  y_2: -5\n", "  y_2: -5\n  x: 0\n"),
-    ("  y_2: -5\n  z: 12\n", "  z: 12\n  y_2: -5\n"),
-    ("  x: 0\n", ""),
-    ("  y_2: -5\n", ""),
-    ("  z: 12\n", ""),
-    ("  y_2: -5\n", "  x: -5\n"),
-    ("  z: 12\n", "  z: 12\n  z: 12\n"),
+
+# What is changed in the domain and in the problem, and the refusal.
+REFUSED = [
+    ("a model that no search takes yet", [], [], "domain:1:1 90 NotYet"),
+    ("a quote before the problem's tab", [("domain: a", "domain: 'a")], [("target", "\ttarget")], "domain:1:9 13 BadQuote"),
+    ("a tab before an earlier quote", [("domain: a", "domain: 'a"), ("  - [", "\t- [")], [], "domain:13:1 11 TabIndent"),
+    ("no character before an earlier quote", [("domain: a", "domain: 'a"), ("(= x 3) ]\n", "(= x 3) ]\n# \udcff\n")], [], "domain:14:3 10 NotUtf8"),
+    ("64 lists inside a map", [("domain: a", "domain: " + 64 * "[" + 64 * "]")], [], "domain:1:72 16 TooDeep"),
+    ("the problem's text before the domain's base cases", [(BASE_CASES, "")], [(" }\ntarget: { x: 0, e: 0 }", " }\ntarget: { x: 0, e: 0")], "problem:4:21 14 Unread"),
+    ("an unknown key before a missing one", [("state_variables", "state_variable")], [], "domain:3:1 41 UnknownKey"),
+    ("base states", [("base_cases", "base_states")], [], "domain:12:1 52 LeftOut"),
+    ("no target before the type of costs", [("objects", "cost_type: continuous\nobjects")], [("target: { x: 0, e: 0 }\n", "")], "problem:1:1 40 MissingKey"),
+    ("the type of costs before what is better", [("objects", "cost_type: continuous\nreduce: least\nobjects")], [], "domain:2:12 34 Continuous"),
+    ("what is better in the domain first", [("objects", "reduce: least\nobjects")], [("problem", "reduce: sum\nproblem")], "domain:2:9 50 WrongShape"),
+    ("the sum over all lists", [], [("problem", "reduce: sum\nproblem")], "problem:2:9 52 LeftOut"),
+    ("an object type twice before a variable's name", [("[ o ]", "[ o, o ]"), ("{ name: x,", "{ name: 1x,")], [], "domain:2:15 43 TwiceName"),
+    ("the number of an unknown object type before a missing one", [], [("{ o: 2 }", "{ q: 2 }")], "problem:3:19 30 UnknownName"),
+    ("no numbers", [], [("object_numbers: { o: 2 }\n", "")], "problem:1:1 40 MissingKey"),
+    ("1,025 members", [], [("o: 2", "o: 1025")], "problem:3:22 49 TooMany"),
+    ("a variable's name before its type", [("{ name: x, type: integer }", "{ name: x y, type: whole }")], [], "domain:4:13 51 BadName"),
+    ("no object type of an element", [("element, object: o", "element")], [], "domain:5:5 40 MissingKey"),
+    ("a cell twice before its value", [TABLE], [values("{ t: { 0: 1, [0]: x } }")], "problem:4:28 43 TwiceName"),
+    ("an index before the cell", [TABLE], [values("{ t: { 2: x } }")], "problem:4:22 44 BadIndex"),
+    ("an unknown variable before a missing one", [], [("{ x: 0, e: 0 }", "{ y: 0 }")], "problem:4:11 45 BadTarget"),
+    ("a missing variable", [], [("{ x: 0, e: 0 }", "{ x: 0 }")], "problem:4:9 45 BadTarget"),
+    ("a negative element", [], [("e: 0", "e: -1")], "problem:4:20 42 BadNumber"),
+    ("a parameter with the name of an object type", [("{ name: p,", "{ name: o,")], [], "domain:8:27 43 TwiceName"),
+    ("preconditions before effects", [("(< x 3)", "(< y 3)"), ("{ x: (", "{ z: (")], [], "domain:9:22+3 30 UnknownName"),
+    ("201 forms", [("(< x 3)", 200 * "(not " + "(= x 3)" + 200 * ")")], [], "domain:9:22+1000 24 TooNested"),
+    ("backward", [(COST, COST + "    direction: backward\n")], [], "domain:12:16 52 LeftOut"),
+    ("two operators of costs before a constraint", [(COST, MIXED), TWO_NAMES], [], "domain:13:23 46 MixedCost"),
+    ("a later name before two operators", [(COST, MIXED + "  - { name: ' up' }\n")], [], "domain:13:13 51 BadName"),
+    ("no base case before too many ground transitions", [TWO_PARAMETERS, (BASE_CASES, "")], [("o: 2", "o: 300")], "domain:1:1 48 NoBase"),
+    ("90,000 ground transitions", [TWO_PARAMETERS], [("o: 2", "o: 300")], "domain:7:5 35 TooMany"),
+    ("too many ground transitions before two equal steps", [TWO_PARAMETERS, (COST, COST + "  - { name: go 0 0 }\n")], [("o: 2", "o: 300")], "domain:7:5 35 TooMany"),
+    ("two equal steps", [(COST, COST + "  - { name: go 1 }\n")], [], "domain:12:5 43 TwiceName"),
 ]
 
 
-def changed(key, text, old, new, stdout, status):
-    """A case of a text with one part changed, and with the run's answer."""
-    title = f"{key}: {old!r} becomes {new!r}".replace("\\t", " (tab)").replace("\\n", " / ")
-    return (title, [(key, text.replace(old, new))], [(OFF, stdout, status)])
+def refused(title, domain, problem, refusal):
+    """A case of both texts changed, and with the run's refusal."""
+    texts = [("domain", changed(GO, *domain)), ("problem", changed(GO_FROM, *problem))]
+    return (title, texts, [(OFF, f"refused {refusal}\n", 3)])
 
 
-def many(count):
-    """A model of so many variables, and its problem."""
-    names = [f"v{i}" for i in range(count)]
-    domain = "domain: c\nstate_variables:\n" + "".join(f"  - name: {name}\n    type: integer\n" for name in names)
-    domain += "transitions:\n  - name: go\n    preconditions:\n      - (< v0 3)\n    effects:\n      v0: 3\n    cost: (+ cost 1)\n"
-    domain += "base_cases:\n  - - (= v0 3)\n"
-    target = "".join(f"  {name}: {i}\n" for i, name in enumerate(names))
-    return [("domain", domain), ("problem", "domain: c\nproblem: many\ntarget:\n" + target)]
-
-
-GO_OUT = "solution 1 1\ngo\npass 1 share 1 visited 1 dropped 0\nverdict optimal 1\n"
-
-FIRST_FORM = [
-    ("the climb", [("problem", CLIMB_FROM_0), ("domain", CLIMB)], [(OFF, JUMP_OUT, 0)]),
-    *(changed("domain", CLIMB, *parts, IN_DOMAIN, 3) for parts in CLIMB_REFUSED),
-    *(changed("domain", CLIMB, old, new, stdout, 0) for old, new, stdout in CLIMB_READ),
-    ("the climb again", [("domain", CLIMB)], []),
-    *(changed("problem", CLIMB_FROM_0, *parts, IN_PROBLEM, 3) for parts in FROM_0_REFUSED),
-    (
-        "three variables",
-        [("domain", THREE), ("problem", THREE_FROM)],
-        [(OFF, "pass 1 share 1 visited 1 dropped 0\nverdict infeasible\n", 10)],
-    ),
-    *(changed("domain", THREE, *parts, IN_DOMAIN, 3) for parts in THREE_REFUSED),
-    ("three variables again", [("domain", THREE)], []),
-    *(changed("problem", THREE_FROM, *parts, IN_PROBLEM, 3) for parts in THREE_FROM_REFUSED),
-    ("1 variable", many(1), [(OFF, GO_OUT, 0)]),
-    ("1,024 variables", many(1024), [(OFF, GO_OUT, 0)]),
-    ("1,025 variables", many(1025), [(OFF, IN_DOMAIN, 3)]),
-    ("no variables", many(0), [(OFF, IN_DOMAIN, 3)]),
-]
+ORDERS = [refused(*case) for case in REFUSED]

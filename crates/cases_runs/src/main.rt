@@ -12,11 +12,12 @@ use std::thread::Threads;
 use std::{fs, io};
 
 /// The files of cases, in the order in which they are run.
-const FILES: [&str; 4] = [
+const FILES: [&str; 5] = [
     "one_variable.txt",
     "first_form.txt",
+    "refusals.txt",
     "small.txt",
-    "limits.txt",
+    "orders.txt",
 ];
 
 /// The texts that the runs read, under the names `d`, `p` and `l`.

@@ -1,5 +1,5 @@
-pub mod FirstForm
+pub mod Settings
+pub mod Together
 pub mod Meaning
-pub mod Reading
-pub mod ReadFirst
-pub mod Parts
+pub mod Facts
+pub mod Seen

@@ -1,14 +1,11 @@
-//! From the texts of a domain and a problem to a model. Today it reads the first form: integer models whose
-//! lines are fixed, byte for byte.
+//! From the trees of a domain and a problem to the model that they mean, or to what is refused first.
 #![tactic(auto)]
 
-mod assembly;
-mod conditions;
-mod domain;
-mod first_form;
-mod problem;
-mod scan;
-mod stop;
-mod transitions;
+mod laws;
+mod settings;
+mod together;
+mod whole;
 
-pub use first_form::{FirstEnd, load_first, one_meaning};
+pub use dypdl_nodes::LoadEnd;
+pub use laws::{all_choices, one_model, one_reading, steps_differ};
+pub use whole::load;

@@ -1,3 +1,4 @@
+pub mod Digits
 pub mod WordsLists
 pub mod Values
 pub mod Layers
@@ -7,6 +8,8 @@ pub mod Expanding
 pub mod Exhausting
 pub mod Passing
 pub mod AtTarget
-pub mod Loaded
+pub mod PlainModels
+pub mod TextCauses
+pub mod OneMeaning
 pub mod Programs
 pub mod Concluding

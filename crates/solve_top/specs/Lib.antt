@@ -1,6 +1,8 @@
 pub mod Words
 pub mod Statuses
 pub mod Records
+pub mod Texts
+pub mod PlainTest
 pub mod Outcomes
 pub mod Jobs
 pub mod Plain

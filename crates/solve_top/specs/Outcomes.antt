@@ -1,5 +1,5 @@
 -- What a run of the program may come to: the text that it prints, its status, and when it may come.
-use Rattle.std.specs.Prelude.{◌≡◌, ℕ, ◌≤◌, ◌<◌, ◌⊎◌, List, ◌++◌, length, Option, None, IfSome, codes, ℤ}
+use Rattle.std.specs.Prelude.{◌≡◌, ℕ, ◌≤◌, ◌<◌, false, ◌⊎◌, List, ◌++◌, length, Option, None, IfSome, codes, ℤ}
 use Rattle.dp_outside.specs.Outside.{Takes, TakesFront}
 use Rattle.dp_base.specs.declared.place.Place.{Place}
 use Rattle.dp_model.specs.declared.answers.Options.{Options}
@@ -12,8 +12,10 @@ use Rattle.solve_report.specs.Lines.{file_name, refusal_text}
 use Rattle.solve_top.specs.declared.status.Status.{Status}
 use Rattle.solve_top.specs.declared.status.Status.TheVariants as statuses
 use Rattle.dp_model.specs.declared.answers.Verdict.TheVariants as verdicts
-use Rattle.dypdl_load.specs.Meaning.{Means, IsRefusedAt}
+use Rattle.dypdl_nodes.specs.Reads.{Refusal}
 use Rattle.solve_top.specs.Words.{SolveJob, Asks}
+use Rattle.solve_top.specs.Texts.{Means, IsRefused}
+use Rattle.solve_top.specs.PlainTest.{is_plain}
 
 pub data Outcome : Type 0 where
   -- the words have no meaning
@@ -22,18 +24,25 @@ pub data Outcome : Type 0 where
   ReadFault : (file : ℕ) → Outcome
   -- that file has more bytes than are read
   TooLong : (file : ℕ) → Outcome
-  -- a text is not of a form that is read yet
-  NotYet : (place : Place) → Outcome
+  -- a text, or what both mean, is refused
+  Refused : (refusal : Refusal) → Outcome
+  -- the model is one that no search takes yet
+  NotYet : (model : Model) → Outcome
   -- memory ran out before a model was loaded
   NoMemory : Outcome
   -- the model was searched
   Solving : (model : Model) (options : Options) (run : Record) → Outcome
 
+-- where a domain begins
+abbrev pub domain_start : Place
+domain_start = record { file = 1; line = 1; column = 1 }
+
 abbrev pub outcome_text : Outcome → List ℕ
 outcome_text NoMeaning = line (codes "usage: solve DOMAIN PROBLEM; replay DOMAIN PROBLEM LIST; show DOMAIN PROBLEM; gen KIND SIZE SEED")
 outcome_text (ReadFault file) = line (codes "read fault " ++ file_name file)
 outcome_text (TooLong file) = line (codes "too long " ++ file_name file)
-outcome_text (NotYet place) = refusal_text place None 90
+outcome_text (Refused r) = refusal_text r.place r.offset r.number
+outcome_text (NotYet model) = refusal_text domain_start None 90
 outcome_text NoMemory = line (codes "memory")
 outcome_text (Solving model options run) = record_text model run
 
@@ -41,7 +50,8 @@ abbrev pub outcome_status : Outcome → Status
 outcome_status NoMeaning = statuses.Usage
 outcome_status (ReadFault file) = statuses.ReadFault
 outcome_status (TooLong file) = statuses.TooLong
-outcome_status (NotYet place) = statuses.Refused
+outcome_status (Refused r) = statuses.Refused
+outcome_status (NotYet model) = statuses.Refused
 outcome_status NoMemory = statuses.Memory
 outcome_status (Solving model options run) = ending_status run.ending
 
@@ -80,7 +90,8 @@ abbrev pub ComesOf : List (List ℕ) → (List ℕ → Option (List ℕ)) → Ou
 ComesOf words files NoMeaning = (job : SolveJob) → Asks words job → ⊥
 ComesOf words files (ReadFault file) = (job : SolveJob) × Asks words job × ((file ≡ 1) ⊎ ((file ≡ 2) × IfSome (files job.domain) IsShort))
 ComesOf words files (TooLong file) = (job : SolveJob) × Asks words job × IsFirstLong files job file
-ComesOf words files (NotYet place) = (job : SolveJob) × Asks words job × OfTexts files job (λ d p. IsRefusedAt d p place)
+ComesOf words files (Refused r) = (job : SolveJob) × Asks words job × OfTexts files job (λ d p. IsRefused d p r)
+ComesOf words files (NotYet model) = (job : SolveJob) × Asks words job × OfTexts files job (λ d p. Means d p model) × (is_plain model ≡ false)
 ComesOf words files NoMemory = Unit {0}
 ComesOf words files (Solving model options run) =
     (job : SolveJob) × Asks words job × (options ≡ job.options) × OfTexts files job (λ d p. Means d p model) × Right model options run × KeepsWord model run.ending

@@ -1,15 +1,18 @@
 -- What the words of the command line ask for.
-use Rattle.std.specs.Prelude.{◌≡◌, ℕ, ◌≤◌, false, IsTrue, List, [], ◌∷◌, length, codes}
-use Rattle.std.specs.List.{list_all}
+use Rattle.std.specs.Prelude.{◌≡◌, ℕ, ◌+◌, ◌*◌, ◌-◌, ◌≤◌, false, IsTrue, List, [], ◌∷◌, length, codes}
+use Rattle.std.specs.List.{fold, list_all}
 use Rattle.dp_model.specs.declared.answers.Options.{Options}
 use Rattle.dp_base.specs.Bytes.{is_digit}
-use Rattle.dypdl_load.specs.Meaning.{digits_value}
 
 -- to solve the model in these files with these options
 pub record SolveJob : Type 0 where
   pub domain : List ℕ
   pub problem : List ℕ
   pub options : Options
+
+-- the number that decimal digits stand for
+abbrev pub digits_value : List ℕ → ℕ
+digits_value digits = fold (λ n b. n * 10 + (b - 48)) 0 digits
 
 -- a budget of visits: one to eight digits that stand for 1 to 10,000,000
 pub record IsBudget (word : List ℕ) (budget : ℕ) : Type 0 where

@@ -1,8 +1,7 @@
 //! The top call: what the program does with its words.
 
-ghost use Rattle.std.specs.Prelude.{◌≡◌, ◌≤◌, ◌⊎◌, ◌++◌, ℕ, List, map, string_bytes, length, IfOk, IfErr, IfSome};
+ghost use Rattle.std.specs.Prelude.{◌≡◌, ◌≤◌, ◌⊎◌, ◌++◌, true, false, ℕ, List, map, string_bytes, length, IfOk, IfErr, IfSome};
 ghost use Rattle.dp_outside.specs.Outside.{Rose};
-ghost use Rattle.dypdl_load.specs.Meaning.{Means};
 ghost use Rattle.solve_top.specs.Words.{Asks};
 ghost use Rattle.solve_top.specs.Jobs.{job_of};
 ghost use Rattle.solve_report.specs.Lines.{file_name as name_of_file};
@@ -10,30 +9,29 @@ ghost use Rattle.solve_report.specs.Puts.{Puts};
 ghost use Rattle.dp_base.specs.Bytes.{line};
 ghost use Rattle.solve_top.specs.Statuses.{code_of};
 ghost use Rattle.solve_top.specs.declared.status.Status.{Status};
-ghost use Rattle.solve_top.specs.Outcomes.{Outcome, NoMeaning, IsText, IsLong, OfTexts, ComesOf, Printed};
+ghost use Rattle.solve_top.specs.Outcomes.{Outcome, NoMeaning, NotYet, IsText, IsLong, OfTexts, ComesOf, Printed};
 ghost use Rattle.solve_top.specs.Runs.{outcome_of};
-ghost use Rattle.solve_top.specs.declared.program.NoModel.TheVariants as causes;
+ghost use Rattle.solve_top.specs.declared.causes.NoModel.TheVariants as causes;
+ghost use Rattle.solve_top.specs.Texts.{Means};
+ghost use Rattle.solve_top.specs.PlainTest.{is_plain as plain_test};
+ghost use Rattle.solve_top.specs.Solving.{Concluded};
 
+use crate::causes::NoModel;
+use crate::plain::is_plain;
 use crate::solving::{run_out, solve};
 use crate::status::{Status, status_after};
+use crate::texts::model_of;
 use crate::words::{Job, read_words};
 use dp_base::{FILE_LIMIT, Place};
-use dp_model::Model;
+use dp_model::{Model, Options};
 use dp_outside::{Failed, Gate, ReadEnd, Shelf, Sink, read_all};
-use dypdl_load::{FirstEnd, load_first};
 use solve_report::{Piece, file_name, put_line, put_pieces, put_refusal};
 use std::alloc::Global;
 use std::sync::Wait;
 use std::thread::Threads;
 
-/// Why there is no model to search. File 1 is the domain, and 2 the problem.
-#[derive(Debug, Drop)]
-enum NoModel {
-    ReadFault(u8),
-    TooLong(u8),
-    NotYet(Place),
-    Memory,
-}
+/// What is told of a model that no search takes yet.
+const NOT_YET: u8 = 90;
 
 fn read_file<F: Shelf>(
     alloc: Global,
@@ -65,11 +63,7 @@ fn load<F: Shelf>(alloc: Global, shelf: &mut F, job: &Job<'_>) -> Result<Model, 
 {
     let domain = read_file(alloc, shelf, job.domain, 1)?;
     let problem = read_file(alloc, shelf, job.problem, 2)?;
-    match load_first(alloc, &domain, &problem) {
-        Ok(model) => Ok(model),
-        Err(FirstEnd::NotYet(place)) => Err(NoModel::NotYet(place)),
-        Err(FirstEnd::Memory) => Err(NoModel::Memory),
-    }
+    model_of(alloc, &domain, &problem)
 }
 
 /// Prints a line of words and the name of a file.
@@ -93,7 +87,14 @@ fn put_cause<S: Sink>(out: &mut S, cause: &NoModel) -> Status
         NoModel::TooLong(file) => {
             status_after(put_file_line(out, "too long ", *file), Status::TooLong)
         }
-        NoModel::NotYet(place) => status_after(put_refusal(out, *place, None, 90), Status::Refused),
+        NoModel::Refused {
+            number,
+            place,
+            offset,
+        } => status_after(
+            put_refusal(out, *place, *offset, *number),
+            Status::Refused,
+        ),
         NoModel::Memory => run_out(out),
     }
 }
@@ -109,6 +110,35 @@ fn put_usage<S: Sink>(out: &mut S) -> Status
         "usage: solve DOMAIN PROBLEM; replay DOMAIN PROBLEM LIST; show DOMAIN PROBLEM; gen KIND SIZE SEED",
     );
     status_after(written, Status::Usage)
+}
+
+/// Prints that no search takes the model yet, where the domain begins, and answers the status.
+fn put_not_yet<S: Sink>(out: &mut S) -> Status
+    ensures printed { (model : Model) → Printed (S.taken out.old) (S.taken out.new) (NotYet model) result }
+    ensures read_fault { result ≡ Status.ReadFault → ⊥ }
+    ensures failed { result ≡ Status.WriteFault → Rose (S.faults out.old) (S.faults out.new) }
+{
+    let start = Place {
+        file: 1,
+        line: 1,
+        column: 1,
+    };
+    status_after(put_refusal(out, start, None, NOT_YET), Status::Refused)
+}
+
+/// Solves a model that the plain search takes.
+fn try_search<S: Sink>(alloc: Global, out: &mut S, model: &Model, options: &Options) -> Status
+    requires { options.now.budget ≤ 1000000000 }
+    ensures plain { plain_test model.now ≡ true → Concluded model.now options.now (S.taken out.old) (S.taken out.new) result }
+    ensures not_yet { plain_test model.now ≡ false → Printed (S.taken out.old) (S.taken out.new) (NotYet model.now) result }
+    ensures read_fault { result ≡ Status.ReadFault → ⊥ }
+    ensures failed { result ≡ Status.WriteFault → Rose (S.faults out.old) (S.faults out.new) }
+{
+    if is_plain(model) {
+        solve(alloc, out, model, options)
+    } else {
+        put_not_yet(out)
+    }
 }
 
 /// Does what the words ask for.
@@ -127,7 +157,7 @@ fn perform<F: Shelf, S: Sink>(
         return put_usage(out);
     };
     match load(alloc, shelf, &job) {
-        Ok(model) => solve(alloc, out, &model, &job.options),
+        Ok(model) => try_search(alloc, out, &model, &job.options),
         Err(cause) => put_cause(out, &cause),
     }
 }

@@ -3,8 +3,7 @@
 ghost use Rattle.std.specs.Prelude.{◌≡◌, ◌≤◌, ◌∷◌, [], List, ℕ, IsTrue, codes, length, map, string_bytes, IfSome, IfNone};
 ghost use Rattle.std.specs.List.{list_all};
 ghost use Rattle.dp_base.specs.Bytes.{is_digit as digit_test};
-ghost use Rattle.dypdl_load.specs.Meaning.{digits_value};
-ghost use Rattle.solve_top.specs.Words.{SolveJob, Asks, HasBudget, IsBudget, plain_options};
+ghost use Rattle.solve_top.specs.Words.{SolveJob, Asks, HasBudget, IsBudget, digits_value, plain_options};
 ghost use Rattle.solve_top.specs.Jobs.{job_of};
 
 use dp_base::is_digit;

@@ -1,17 +1,12 @@
 //! The printed lines, as they are read by others.
 
-use crate::texts::{FROM_ZERO, TWO_WAYS};
+use crate::texts::two_ways;
 use dp_base::{Place, Seq};
-use dp_model::{FaultAt, FaultKind, Found, Model, Reason, Spot, Verdict};
+use dp_model::{FaultAt, FaultKind, Found, Reason, Spot, Verdict};
 use dp_outside::FineSink;
-use dypdl_load::{FirstEnd, load_first};
 use solve_report::{put_pass, put_refusal, put_solution, put_verdict};
 use std::alloc::{AllocError, Global};
 use std::test::Fail;
-
-fn two_ways(alloc: Global) -> Result<Model, FirstEnd> {
-    load_first(alloc, TWO_WAYS.as_bytes(), FROM_ZERO.as_bytes())
-}
 
 /// What a fault is, where it stands, and how its verdict reads up to the steps.
 static FAULTS: [(FaultKind, Spot, &str); 10] = [

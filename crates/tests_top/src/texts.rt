@@ -1,9 +1,11 @@
 //! Calls that take memory, each where it lasts, and the model that the other tests run on.
 
 use dp_base::{Boxed, Seq, Text};
-use dp_model::{Found, Num, step_text};
-use dypdl_load::load_first;
+use dp_model::{Found, Model, Num, step_text};
+use dypdl_load::load;
+use std::alloc::Global;
 use std::test::Fail;
+use yaml_tree::read;
 
 /// Two ways, of which the first that is found costs more.
 pub(crate) const TWO_WAYS: &str = concat!(
@@ -17,10 +19,17 @@ pub(crate) const TWO_WAYS: &str = concat!(
 
 pub(crate) const FROM_ZERO: &str = "domain: b\nproblem: one\ntarget:\n  a: 0\n";
 
+/// The model of two ways.
+pub(crate) fn two_ways(alloc: Global) -> Result<Model, Fail> {
+    let domain = read(alloc, 1, TWO_WAYS.as_bytes())?;
+    let problem = read(alloc, 2, FROM_ZERO.as_bytes())?;
+    Ok(load(alloc, &domain, &problem)?)
+}
+
 #[test]
 fn texts_and_lists_grow(rt: HostRuntime) -> Result<(), Fail> {
     let alloc = rt.alloc();
-    let model = load_first(alloc, TWO_WAYS.as_bytes(), FROM_ZERO.as_bytes())?;
+    let model = two_ways(alloc)?;
     let mut text = Text::of(String::from_str(alloc, "steps ")?);
     text.push_text("are ")?;
     for number in [2u32, 9, 0] {

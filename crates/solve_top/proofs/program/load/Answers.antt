@@ -1,13 +1,12 @@
 use Rattle.std.proofs.Common.{◌≡◌, ℕ, List, Option, Err, ◌⊎◌, ap, ◌∙◌, subst}
 use Rattle.std.specs.Prelude.{IfSome}
-use Rattle.dypdl_load.specs.Meaning.{IsRefusedAt}
 use Rattle.solve_top.specs.Words.{Asks}
 use Rattle.solve_top.specs.Jobs.{job_of}
 use Rattle.solve_top.specs.Outcomes.{ComesOf, IsText, IsLong}
 use Rattle.solve_top.specs.Runs.{outcome_of}
-use Rattle.solve_top.specs.declared.program.NoModel.{NoModel}
-use Rattle.solve_top.specs.declared.program.NoModel.TheVariants as causes
-use Rattle.solve_top.proofs.Programs.{first_cause, second_cause, short_file, passed_on}
+use Rattle.solve_top.specs.declared.causes.NoModel.{NoModel}
+use Rattle.solve_top.specs.declared.causes.NoModel.TheVariants as causes
+use Rattle.solve_top.proofs.Programs.{first_cause, second_cause, short_file, passed_on, loaded_cause}
 use Rattle.solve_top.proofs.program.load.Goals as goal
 
 pub returns-in_err-domain-clause-cause : goal.returns-in_err-domain-clause-cause
@@ -29,21 +28,10 @@ returns-in_err-problem-clause-cause g c =
     c.from_residual-in_err-problem.ensures.1
     (λ words asks. second_cause words files job e (short_file (files job.domain) c.in_ok-domain.domain.items c.in_ok-domain.ensures.text c.in_ok-domain.ensures.short) cause asks)
 
-pub returns-in-Err-NotYet-clause-cause : goal.returns-in-Err-NotYet-clause-cause
-returns-in-Err-NotYet-clause-cause g c = λ words asks.
-    let d = c.in_ok-domain.domain.items in
+pub returns-clause-cause : goal.returns-clause-cause
+returns-clause-cause g c =
     let p = c.in_ok-problem.problem.items in
-    let place = c.in-Err-NotYet.place in
-    let refused : IsRefusedAt d p place = rw (c.deref.ensures.value, c.deref-2.ensures.value) at (c.load_first.ensures.refused place (c.in-Err-NotYet.is ∙ ap Err c.in-Err-NotYet.field-0-is)) in (
-      job_of c.args.job.now,
-      asks,
-      (
-        d,
-        p,
-        c.in_ok-domain.ensures.text,
-        subst (λ (told : Option (List ℕ)). IsText told p) (c.in_ok-domain.ensures.telling c.args.job.now.problem.now) c.in_ok-problem.ensures.text,
-        c.in_ok-domain.ensures.short,
-        c.in_ok-problem.ensures.short,
-        refused,
-      ),
-    )
+    loaded_cause (g.F.Shelf.bytes_under c.args.shelf.now) (job_of c.args.job.now) c.in_ok-domain.domain.items p c.in_ok-domain.ensures.text
+    (subst (λ (told : Option (List ℕ)). IsText told p) (c.in_ok-domain.ensures.telling c.args.job.now.problem.now) c.in_ok-problem.ensures.text)
+    c.in_ok-domain.ensures.short c.in_ok-problem.ensures.short c.model_of.result
+    (rw (c.deref.ensures.value, c.deref-2.ensures.value) at c.model_of.ensures.cause)

@@ -1,4 +1,4 @@
-use Rattle.dypdl_load.proofs.Digits.{SoFar}
+use Rattle.solve_top.proofs.Digits.{SoFar}
 use Rattle.solve_top.proofs.words.value_of.Given as goal
 
 abbrev pub invariant-loop-digit : goal.invariant-loop-digit

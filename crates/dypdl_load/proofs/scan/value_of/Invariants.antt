@@ -1,5 +1,0 @@
-use Rattle.dypdl_load.proofs.Digits.{SoFar}
-use Rattle.dypdl_load.proofs.scan.value_of.Given as goal
-
-abbrev pub invariant-loop-digit : goal.invariant-loop-digit
-invariant-loop-digit l = SoFar l.digits l.digit-index l.value

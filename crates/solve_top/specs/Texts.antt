@@ -1,0 +1,62 @@
+-- What the texts of a domain and a problem mean, or what is refused of them first.
+use Rattle.std.specs.Prelude.{◌≡◌, ℕ, ◌⊎◌, List, Option, None, Some, Ok, Err}
+use Rattle.dp_base.specs.declared.place.Place.{Place}
+use Rattle.dp_model.specs.declared.whole.Model.{Model}
+use Rattle.yaml_scan.specs.declared.line.ScanEnd.{ScanEnd}
+use Rattle.yaml_scan.specs.declared.line.ScanEnd.TheVariants as lines
+use Rattle.yaml_tree.specs.declared.tree.Tree.{Tree}
+use Rattle.yaml_tree.specs.declared.tree.YamlEnd.{YamlEnd}
+use Rattle.yaml_tree.specs.declared.tree.YamlEnd.TheVariants as trees
+use Rattle.yaml_tree.specs.Texts.{Spells, Refused as IsUnread}
+use Rattle.dypdl_nodes.specs.Reads.{Refusal}
+use Rattle.dypdl_rules.specs.Expressions.{Reading, IsReading}
+use Rattle.dypdl_load.specs.Meaning.{meaning, parts_of}
+
+-- ---- texts without a tree
+
+abbrev pub refusal_at : ℕ → Place → Option Refusal
+refusal_at number at = Some (record { number = number; place = at; offset = None })
+
+abbrev pub lines_refusal : ScanEnd → Option Refusal
+lines_refusal (lines.NotUtf8 at) = refusal_at 10 at
+lines_refusal (lines.TabIndent at) = refusal_at 11 at
+lines_refusal lines.Memory = None
+
+-- what a text is refused as that has no tree: want of memory is no refusal
+abbrev pub tree_refusal : YamlEnd → Option Refusal
+tree_refusal (trees.Scan end) = lines_refusal end
+tree_refusal (trees.BadQuote at) = refusal_at 13 at
+tree_refusal (trees.Unread at) = refusal_at 14 at
+tree_refusal (trees.TwiceKey at) = refusal_at 15 at
+tree_refusal (trees.TooDeep at) = refusal_at 16 at
+tree_refusal (trees.OutOfProfile at feature) = refusal_at 17 at
+tree_refusal trees.Memory = None
+
+-- the text of this file has no tree, and this is refused first
+pub record IsUnreadAs (file : ℕ) (bytes : List ℕ) (r : Refusal) : Type 0 where
+  pub end : YamlEnd
+  pub first : IsUnread file bytes end
+  pub refusal : tree_refusal end ≡ Some r
+
+-- ---- both texts: the domain is file 1, and the problem is file 2
+
+-- the trees of both texts, and the reading of the expressions in them
+pub record Read (domain problem : List ℕ) : Type 0 where
+  pub domain_tree : Tree
+  pub problem_tree : Tree
+  pub read : Reading
+  pub domain_spells : Spells 1 domain domain_tree
+  pub problem_spells : Spells 2 problem problem_tree
+  pub reads : IsReading read
+
+-- the two texts mean this model
+abbrev pub Means : (domain problem : List ℕ) → Model → Type 0
+Means domain problem model = (both : Read domain problem) × (meaning both.read both.domain_tree both.problem_tree ≡ Ok (parts_of model))
+
+-- The two texts mean no model, and this is refused first: of the domain's text, or else of the problem's text, or else of
+-- what both trees mean.
+abbrev pub IsRefused : (domain problem : List ℕ) → Refusal → Type 0
+IsRefused domain problem r =
+    IsUnreadAs 1 domain r
+    ⊎ (((tree : Tree) × Spells 1 domain tree × IsUnreadAs 2 problem r)
+    ⊎ ((both : Read domain problem) × (meaning both.read both.domain_tree both.problem_tree ≡ Err r)))

@@ -1,0 +1,17 @@
+//! Why there is no model to search.
+
+use dp_base::Place;
+
+/// Why there is no model to search. File 1 is the domain, and 2 the problem.
+#[derive(Debug, Drop)]
+pub enum NoModel {
+    ReadFault(u8),
+    TooLong(u8),
+    /// The number of the rule that a text breaks, and where; in an expression `offset` is the byte in it.
+    Refused {
+        number: u8,
+        place: Place,
+        offset: Option<u32>,
+    },
+    Memory,
+}

@@ -1,0 +1,113 @@
+//! The model that the texts of a domain and a problem mean.
+
+ghost use Rattle.std.specs.Prelude.{◌≡◌, ◌≤◌, length, None, Ok, Err, IfOk, IfErr};
+ghost use Rattle.yaml_tree.specs.Texts.{Spells};
+ghost use Rattle.dypdl_rules.specs.Expressions.{Reading, IsReading};
+ghost use Rattle.dypdl_load.specs.Meaning.{meaning, parts_of};
+ghost use Rattle.solve_top.specs.Texts.{IsUnreadAs, Means, IsRefused, lines_refusal};
+ghost use Rattle.solve_top.specs.Runs.{cause_of, unread_as, RefusedBy};
+ghost use Rattle.solve_top.specs.declared.causes.NoModel.TheVariants as causes;
+
+use crate::causes::NoModel;
+use dp_base::Place;
+use dp_model::Model;
+use dypdl_load::{LoadEnd, load};
+use std::alloc::Global;
+use yaml_scan::ScanEnd;
+use yaml_tree::{Tree, YamlEnd};
+
+/// A byte that begins no character of UTF-8.
+const NOT_UTF8: u8 = 10;
+/// A tab as indent.
+const TAB_INDENT: u8 = 11;
+/// A quote that is not closed on its line.
+const BAD_QUOTE: u8 = 13;
+/// Where no form goes on.
+const UNREAD: u8 = 14;
+/// A key that was there before in its map.
+const TWICE_KEY: u8 = 15;
+/// A node inside too many others.
+const TOO_DEEP: u8 = 16;
+/// A form of YAML that models do not use.
+const OUT_OF_PROFILE: u8 = 17;
+
+fn refused(number: u8, place: Place) -> NoModel
+    ensures { result ≡ causes.Refused number place None }
+{
+    NoModel::Refused {
+        number,
+        place,
+        offset: None,
+    }
+}
+
+/// Why a file has no lines.
+fn no_lines(end: ScanEnd) -> NoModel
+    ensures { result ≡ cause_of (lines_refusal end) }
+{
+    match end {
+        ScanEnd::NotUtf8(place) => refused(NOT_UTF8, place),
+        ScanEnd::TabIndent(place) => refused(TAB_INDENT, place),
+        ScanEnd::Memory => NoModel::Memory,
+    }
+}
+
+/// Why a text has no tree.
+fn no_tree(end: YamlEnd) -> NoModel
+    ensures { result ≡ unread_as end }
+{
+    match end {
+        YamlEnd::Scan(end) => no_lines(end),
+        YamlEnd::BadQuote(place) => refused(BAD_QUOTE, place),
+        YamlEnd::Unread(place) => refused(UNREAD, place),
+        YamlEnd::TwiceKey(place) => refused(TWICE_KEY, place),
+        YamlEnd::TooDeep(place) => refused(TOO_DEEP, place),
+        YamlEnd::OutOfProfile(place, _) => refused(OUT_OF_PROFILE, place),
+        YamlEnd::Memory => NoModel::Memory,
+    }
+}
+
+/// The tree that the text of a file spells.
+#[tactic(auto, using(crate::proofs::TextCauses::unread_by))]
+fn read_tree(alloc: Global, file: u8, bytes: &[u8]) -> Result<Tree, NoModel>
+    requires { length bytes.now ≤ 16777216 }
+    ensures tree { IfOk result (λ tree. Spells file bytes.now tree) }
+    ensures cause { IfErr result (RefusedBy (IsUnreadAs file bytes.now)) }
+{
+    match yaml_tree::read(alloc, file, bytes) {
+        Ok(tree) => Ok(tree),
+        Err(end) => Err(no_tree(end)),
+    }
+}
+
+/// The model that the trees of both texts mean.
+fn model_of_trees(alloc: Global, domain: &Tree, problem: &Tree) -> Result<Model, NoModel>
+    ensures model { IfOk result (λ model. (read : Reading) → IsReading read → meaning read domain.now problem.now ≡ Ok (parts_of model)) }
+    ensures cause { IfErr result (RefusedBy (λ r. (read : Reading) → IsReading read → meaning read domain.now problem.now ≡ Err r)) }
+{
+    match load(alloc, domain, problem) {
+        Ok(model) => Ok(model),
+        Err(LoadEnd::Refused {
+            number,
+            place,
+            offset,
+        }) => Err(NoModel::Refused {
+            number,
+            place,
+            offset,
+        }),
+        Err(LoadEnd::Memory) => Err(NoModel::Memory),
+    }
+}
+
+/// The model that the texts of a domain and a problem mean.
+pub fn model_of(alloc: Global, domain: &[u8], problem: &[u8]) -> Result<Model, NoModel>
+    requires short { length domain.now ≤ 16777216 }
+    requires short_too { length problem.now ≤ 16777216 }
+    ensures model { IfOk result (λ model. Means domain.now problem.now model) }
+    ensures cause { IfErr result (RefusedBy (IsRefused domain.now problem.now)) }
+{
+    let domain = read_tree(alloc, 1, domain)?;
+    let problem = read_tree(alloc, 2, problem)?;
+    model_of_trees(alloc, &domain, &problem)
+}
