@@ -198,3 +198,7 @@ has_filtered f (q ∷ row) p (suc k) h t = by (f q) refl (has_filtered f row p k
 
 pub there_filtered : (places : List (Option Node)) (row : List ℕ) (p : ℕ) (n : Node) → Has row p → StandsAt places p n → Has (filter (λ q. is_there (node_at places q)) row) p
 there_filtered places row p n has there = has_filtered (λ q. is_there (node_at places q)) row p has.0 has.1 (ap is_there (node_there places p n there))
+
+-- the row that was read is the one that is meant
+pub cleared_by : (test : Node → Bool) (places new : List (Option Node)) (row row' : List ℕ) → new ≡ fold (cleared test) places row' → row' ≡ row → new ≡ fold (cleared test) places row
+cleared_by test places new row row' is same = is ∙ ap (λ (r : List ℕ). fold (cleared test) places r) same

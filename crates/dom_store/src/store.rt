@@ -1,6 +1,6 @@
 //! The store of a layer's nodes.
 
-ghost use Rattle.std.specs.Prelude.{◌≡◌, ◌++◌, [], if◌then◌else◌, length, min, IfOk, OnOk, IfErr, OnErr};
+ghost use Rattle.std.specs.Prelude.{◌≡◌, ◌+◌, ◌++◌, [], if◌then◌else◌, length, min, IfOk, OnOk, IfErr, OnErr};
 ghost use Rattle.dp_claims.specs.Enough.{Has};
 ghost use Rattle.dp_model.specs.declared.whole.Model.{Model as DpModel};
 ghost use Rattle.cost_laws.specs.Orders.{IsLawOf};
@@ -22,6 +22,7 @@ use std::alloc::{AllocError, Global};
 use std::marker::{Model, PhantomData};
 
 /// The nodes of a layer so far, in order of adding, none of which covers another.
+#[derive(Drop)]
 pub struct DomStore<K: Covers> {
     layout: Layout,
     signatures: IndexSet<Signature>,
@@ -88,6 +89,7 @@ impl<K: Covers> DomStore<K> {
     pub fn take_best<L: CostLaw>(&mut self, alloc: Global, share: u64) -> Result<Taken, AllocError>
         ensures order { IfOk result (λ taken. IsOrdering L.minimize L.operator self.old.nodes (taken.kept ++ taken.dropped)) }
         ensures share { IfOk result (λ taken. length taken.kept ≡ min share (length self.old.nodes)) }
+        ensures all { IfOk result (λ taken. length taken.kept + length taken.dropped ≡ length self.old.nodes) }
         ensures floor { IfOk result (λ taken. IsLeastFloor L.minimize L.operator taken.dropped taken.least_floor) }
         ensures emptied { OnOk result (self.new.nodes ≡ []) }
         ensures layout { self.new.layout ≡ self.old.layout }

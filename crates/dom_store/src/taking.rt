@@ -34,6 +34,7 @@ pub(crate) fn take_nodes<L: CostLaw>(
     requires words { (n : Node) → Has (nodes_of places.old.items) n → HasWords n }
     ensures order { IfOk result (λ taken. IsOrdering L.minimize L.operator (nodes_of places.old.items) (taken.kept ++ taken.dropped)) }
     ensures share { IfOk result (λ taken. length taken.kept ≡ min share (length (nodes_of places.old.items))) }
+    ensures all { IfOk result (λ taken. length taken.kept + length taken.dropped ≡ length (nodes_of places.old.items)) }
     ensures floor { IfOk result (λ taken. IsLeastFloor L.minimize L.operator taken.dropped taken.least_floor) }
     ensures apart { IfOk result (λ taken. (test : Node → Node → Bool) → AreApart test (nodes_of places.old.items) → AreApart test (taken.kept ++ taken.dropped)) }
     ensures emptied { OnOk result (places.new.items ≡ []) }

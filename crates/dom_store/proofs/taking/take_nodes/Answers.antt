@@ -1,4 +1,4 @@
-use Rattle.std.proofs.Common.{List, length, take, drop, min, arith, ap, ◌∙◌, subst, length-take}
+use Rattle.std.proofs.Common.{List, length, take, drop, min, arith, ap, ◌∙◌, subst, length-take, length-drop}
 use Rattle.std.proofs.lemmas.List.{take-append-drop}
 use Rattle.std.proofs.lemmas.List.Sorted.{IsPermutation-sym}
 use Rattle.dp_claims.specs.Enough.{Has}
@@ -32,3 +32,9 @@ returns-clause-share g c = ap length c.of.ensures ∙ ap length c.share_out.ensu
 pub returns-clause-apart : goal.returns-clause-apart
 returns-clause-apart g c = λ test apart.
     rw (c.of.ensures, c.of-2.ensures, c.share_out.ensures.kept, c.share_out.ensures.dropped, take-append-drop c.args.share (nodes_of c.sort_places.new.places.items)) (apart_moved test c.args.places.now.items c.sort_places.new.places.items c.sort_places.ensures.permutation apart)
+
+pub returns-clause-all : goal.returns-clause-all
+returns-clause-all g c =
+    let kept = ap length c.of.ensures ∙ ap length c.share_out.ensures.kept ∙ length-take c.args.share (nodes_of c.sort_places.new.places.items) in
+    let dropped = ap length c.of-2.ensures ∙ ap length c.share_out.ensures.dropped ∙ length-drop c.args.share (nodes_of c.sort_places.new.places.items) in
+    omega (arith, kept, dropped, length_moved c.args.places.now.items c.sort_places.new.places.items c.sort_places.ensures.permutation)
