@@ -1,2 +1,5 @@
 pub mod Covering
 pub mod Laws
+pub mod Contents
+pub mod Places
+pub mod Order

@@ -1,6 +1,15 @@
-//! When a node of a search covers another, so that the other is needless.
+//! The store of a layer's nodes: which nodes cover others, and the nodes so far of which none covers another.
 #![tactic(auto)]
 
 mod covers;
+mod keeping;
+mod order;
+mod places;
+mod signature;
+mod store;
+mod taking;
 
 pub use covers::{Covers, Dominating, Exact};
+pub use keeping::Added;
+pub use store::DomStore;
+pub use taking::Taken;

@@ -5,8 +5,8 @@ ghost use Rattle.std.specs.Prelude.{◌<◌, IfSome};
 
 use dypdl_expr::Expr;
 
-/// How many levels a tree may have. The forms of an expression take at most 200, one each, so that 1,000 operands
-/// more than two may be folded.
+/// How many levels a tree may have: enough for an operator of 1,200 operands, or of 1,000 operands inside a hundred
+/// `if`s.
 pub(crate) const MOST_LEVELS: u32 = 1_200;
 
 /// How many levels are left below an expression, if it has any. Operands are folded from the left into a tree that is

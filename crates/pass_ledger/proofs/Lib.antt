@@ -23,3 +23,7 @@ pub mod WorkedWrong
 pub mod WorkedEnough
 pub mod Logs
 pub mod WorkedFault
+pub mod TourValues
+pub mod TourSteps
+pub mod WorkedTour
+pub mod TourHonest

@@ -15,3 +15,5 @@ pub mod WorkedFloors
 pub mod WorkedWrong
 pub mod WorkedEnough
 pub mod WorkedFault
+pub mod Tour
+pub mod WorkedTour

@@ -5,6 +5,7 @@ ghost use Rattle.pass_ledger.specs.WorkedEnough.{LawWorkedEnough};
 ghost use Rattle.pass_ledger.specs.WorkedFault.{LawWorkedFault};
 ghost use Rattle.pass_ledger.specs.WorkedFloors.{LawDropping, LawHonest, LawPruning};
 ghost use Rattle.pass_ledger.specs.WorkedRun.{LawTwoShards};
+ghost use Rattle.pass_ledger.specs.WorkedTour.{LawNoBetterTour, LawTourHonest, LawTourPass};
 ghost use Rattle.pass_ledger.specs.WorkedWrong.{LawWrong};
 
 /// The ledgers of both passes of a search without pruning, written out, are closed: the first drops one node, the second
@@ -41,4 +42,12 @@ pub fn law_worked_enough()
 /// A run of one shard over the worked model with a dual bound that has no value in one state meets that fault, and is halted.
 pub fn law_worked_fault()
     ensures { LawWorkedFault }
+{}
+
+/// The tour with time windows is honest, and the ledger of a pass over it, which knows a tour of cost 14 and prunes three
+/// successors by their floors, is closed: so no tour costs less than 14.
+pub fn law_worked_tour()
+    ensures honest { LawTourHonest }
+    ensures pass { LawTourPass }
+    ensures best { LawNoBetterTour }
 {}

@@ -9,7 +9,7 @@ mod records;
 
 pub use examples::{
     law_worked_enough, law_worked_fault, law_worked_floors, law_worked_passes, law_worked_run,
-    law_worked_wrong,
+    law_worked_tour, law_worked_wrong,
 };
 pub use laws::{law_closed, law_enough, law_letters, law_logs, law_own, law_world};
 pub use mail::Letter;

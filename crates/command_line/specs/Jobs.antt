@@ -1,0 +1,107 @@
+-- The job that words ask for.
+use Rattle.std.specs.Prelude.{ℕ, Bool, true, false, ◌&&◌, nat_le, nat_lt, if◌then◌else◌, List, [], ◌∷◌, length, codes, Option, Some, None, option_and_then, option_map}
+use Rattle.std.specs.Str.{bytes_eq, all_ascii_digits}
+use Rattle.std.specs.Str.Parse.{digits_value}
+use Rattle.clap.specs.Words.{Kinds}
+use Rattle.dp_model.specs.declared.answers.Options.{Options}
+use Rattle.model_gen.specs.declared.kinds.GenKind.{GenKind}
+use Rattle.model_gen.specs.Kinds.{kind_named, least_size, most_size}
+use Rattle.command_line.specs.Commands.{value_in, faults_in, solve, replay, show, generate}
+use Rattle.command_line.specs.declared.jobs.Job.{Job}
+use Rattle.command_line.specs.declared.jobs.Job.TheVariants.{Solve, Replay, Show, Gen}
+
+-- ---- numbers
+
+-- one to twenty digits
+abbrev pub is_number : List ℕ → Bool
+is_number text = nat_lt 0 (length text) && (nat_le (length text) 20 && all_ascii_digits text)
+
+-- the number that a text writes, where it lies between two bounds
+abbrev pub number_in : (least most : ℕ) → List ℕ → Option ℕ
+number_in least most text =
+    if is_number text && (nat_le least (digits_value 10 text) && nat_le (digits_value 10 text) most) then Some (digits_value 10 text) else None
+
+-- the same of an option, which has this number where it is not given
+abbrev pub number_or : (otherwise least most : ℕ) → Option (List ℕ) → Option ℕ
+number_or otherwise least most None = Some otherwise
+number_or otherwise least most (Some text) = number_in least most text
+
+-- ---- options
+
+abbrev pub on_or_off : Option (List ℕ) → Option Bool
+on_or_off None = Some true
+on_or_off (Some text) = if bytes_eq text (codes "on") then Some true else (if bytes_eq text (codes "off") then Some false else None)
+
+-- one worker, 10,000,000 visits and pruning, where nothing else is given
+abbrev pub options_of : (workers budget prune : Option (List ℕ)) → Option Options
+options_of workers budget prune =
+    option_and_then (λ w. option_and_then (λ b. option_map (λ p. record { workers = w; budget = b; prune = p })
+    (on_or_off prune)) (number_or 10000000 1 1099511627776 budget)) (number_or 1 1 64 workers)
+
+-- ---- jobs
+
+-- a job, where the words have no fault as those of a command
+abbrev pub unless_fault : Kinds → Option Job → Option Job
+unless_fault [] job = job
+unless_fault (kind ∷ kinds) job = None
+
+abbrev pub solve_job : (domain problem workers budget prune : Option (List ℕ)) → Option Job
+solve_job (Some domain) (Some problem) workers budget prune = option_map (λ options. Solve domain problem options) (options_of workers budget prune)
+solve_job (Some domain) None workers budget prune = None
+solve_job None problem workers budget prune = None
+
+abbrev pub replay_job : (domain problem list : Option (List ℕ)) → Option Job
+replay_job (Some domain) (Some problem) (Some list) = Some (Replay domain problem list)
+replay_job (Some domain) (Some problem) None = None
+replay_job (Some domain) None list = None
+replay_job None problem list = None
+
+abbrev pub show_job : (domain problem : Option (List ℕ)) → Option Job
+show_job (Some domain) (Some problem) = Some (Show domain problem)
+show_job (Some domain) None = None
+show_job None problem = None
+
+-- the size has the range of its kind
+abbrev pub sized_job : (seed workers : Option ℕ) → (size : List ℕ) → GenKind → Option Job
+sized_job seed workers size kind =
+    option_and_then (λ n. option_and_then (λ s. option_map (λ w. Gen kind n s w) workers) seed) (number_in (least_size kind) (most_size kind) size)
+
+abbrev pub gen_job : (kind size seed workers : Option (List ℕ)) → Option Job
+gen_job (Some kind) (Some size) (Some seed) workers =
+    option_and_then (sized_job (number_in 0 18446744073709551615 seed) (number_or 1 1 64 workers) size) (kind_named kind)
+gen_job (Some kind) (Some size) None workers = None
+gen_job (Some kind) None seed workers = None
+gen_job None size seed workers = None
+
+unfoldable pub solve_words : List (List ℕ) → Option Job
+solve_words ws =
+    unless_fault (faults_in solve ws)
+    (solve_job (value_in solve ws (codes "domain")) (value_in solve ws (codes "problem")) (value_in solve ws (codes "workers"))
+    (value_in solve ws (codes "budget")) (value_in solve ws (codes "prune")))
+
+unfoldable pub replay_words : List (List ℕ) → Option Job
+replay_words ws =
+    unless_fault (faults_in replay ws)
+    (replay_job (value_in replay ws (codes "domain")) (value_in replay ws (codes "problem")) (value_in replay ws (codes "list")))
+
+unfoldable pub show_words : List (List ℕ) → Option Job
+show_words ws = unless_fault (faults_in show ws) (show_job (value_in show ws (codes "domain")) (value_in show ws (codes "problem")))
+
+unfoldable pub gen_words : List (List ℕ) → Option Job
+gen_words ws =
+    unless_fault (faults_in generate ws)
+    (gen_job (value_in generate ws (codes "kind")) (value_in generate ws (codes "size")) (value_in generate ws (codes "seed"))
+    (value_in generate ws (codes "workers")))
+
+abbrev pub by_command : (command : List ℕ) → List (List ℕ) → Option Job
+by_command command ws =
+    if bytes_eq command (codes "solve") then solve_words ws
+    else (if bytes_eq command (codes "replay") then replay_words ws
+    else (if bytes_eq command (codes "show") then show_words ws
+    else (if bytes_eq command (codes "gen") then gen_words ws else None)))
+
+-- The job of words, without the program's own name. The first is the command, which is read by hand; none of them is
+-- another name of one.
+unfoldable pub job_of : List (List ℕ) → Option Job
+job_of [] = None
+job_of (command ∷ words) = by_command command (command ∷ words)

@@ -1,0 +1,54 @@
+//! The jobs that words ask for.
+
+ghost use Rattle.std.specs.Prelude.{◌≡◌};
+ghost use Rattle.command_line.specs.declared.jobs.WordsEnd.TheVariants.{Memory};
+
+use dp_base::Text;
+use dp_model::Options;
+use model_gen::GenKind;
+use std::alloc::AllocError;
+
+/// What the words ask for. The texts are names of files.
+#[derive(Debug, Drop)]
+pub enum Job {
+    /// Search a model for its best solution.
+    Solve {
+        domain: Text,
+        problem: Text,
+        options: Options,
+    },
+    /// Say whether a list of steps is a legal one of a model, and what it costs.
+    Replay {
+        domain: Text,
+        problem: Text,
+        list: Text,
+    },
+    /// Say what was understood of a model.
+    Show {
+        domain: Text,
+        problem: Text,
+    },
+    /// Generate a model and search it.
+    Gen {
+        kind: GenKind,
+        size: u32,
+        seed: u64,
+        workers: u32,
+    },
+}
+
+/// Why words give no job.
+#[derive(Debug, Drop)]
+pub enum WordsEnd {
+    /// The words have no meaning.
+    Usage,
+    Memory,
+}
+
+impl From<AllocError> for WordsEnd {
+    ghost from_gives = { λ _ e. e ≡ Memory };
+
+    fn from(_error: AllocError) -> WordsEnd {
+        WordsEnd::Memory
+    }
+}

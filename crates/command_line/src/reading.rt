@@ -1,0 +1,172 @@
+//! The job that the words ask for.
+
+ghost use Rattle.std.specs.Prelude.{◌≡◌, None, Some, map, option_map, string_bytes, IfOk, IsErrOf};
+ghost use Rattle.command_line.specs.Jobs.{on_or_off, options_of, solve_words, replay_words, show_words, gen_words, gen_job, by_command, job_of};
+
+use crate::commands::{found, generate, replay, show, solve};
+use crate::jobs::{Job, WordsEnd};
+use crate::numbers::{number_in, number_or};
+use dp_base::Text;
+use dp_model::Options;
+use model_gen::GenKind;
+use std::alloc::{AllocError, Global};
+
+/// The most workers, and the most visits.
+const MOST_WORKERS: u64 = 64;
+
+const MOST_VISITS: u64 = 1_099_511_627_776;
+
+/// How many visits are made where the words say nothing of them.
+const VISITS: u64 = 10_000_000;
+
+fn owned(alloc: Global, text: &str) -> Result<Text, AllocError>
+    ensures { IfOk result (λ t. t ≡ text.now) }
+{
+    Ok(Text::of(String::from_str(alloc, text)?))
+}
+
+/// Whether pruning is on: it is, where the words say nothing of it.
+fn on_or_off(word: Option<&str>) -> Option<bool>
+    ensures { result ≡ on_or_off (option_map (λ t. t.now) word.entry) }
+{
+    match word {
+        None | Some("on") => Some(true),
+        Some("off") => Some(false),
+        Some(_) => None,
+    }
+}
+
+fn options_of(workers: Option<&str>, budget: Option<&str>, prune: Option<&str>) -> Option<Options>
+    ensures { result ≡ options_of (option_map (λ t. t.now) workers.entry) (option_map (λ t. t.now) budget.entry) (option_map (λ t. t.now) prune.entry) }
+{
+    let workers = number_or(1, 1, MOST_WORKERS, workers)?;
+    let budget = number_or(VISITS, 1, MOST_VISITS, budget)?;
+    let prune = on_or_off(prune)?;
+    Some(Options {
+        workers: workers as u32,
+        budget,
+        prune,
+    })
+}
+
+#[tactic(auto, using(crate::proofs::Faults::faulty, crate::proofs::Faults::free), unfolding(crate::specs::Jobs::solve_words))]
+fn solve_words(alloc: Global, words: &Vec<String>) -> Result<Job, WordsEnd>
+    ensures job { IfOk result (λ job. solve_words (map string_bytes words.now.items) ≡ Some job) }
+    ensures usage { IsErrOf result WordsEnd.Usage → solve_words (map string_bytes words.now.items) ≡ None }
+{
+    let matches = found(solve(alloc)?, words)?;
+    let (Some(domain), Some(problem)) = (matches.get_str("domain"), matches.get_str("problem"))
+    else {
+        return Err(WordsEnd::Usage);
+    };
+    let workers = matches.get_str("workers");
+    let budget = matches.get_str("budget");
+    let Some(options) = options_of(workers, budget, matches.get_str("prune")) else {
+        return Err(WordsEnd::Usage);
+    };
+    Ok(Job::Solve {
+        domain: owned(alloc, domain)?,
+        problem: owned(alloc, problem)?,
+        options,
+    })
+}
+
+#[tactic(auto, using(crate::proofs::Faults::faulty, crate::proofs::Faults::free), unfolding(crate::specs::Jobs::replay_words))]
+fn replay_words(alloc: Global, words: &Vec<String>) -> Result<Job, WordsEnd>
+    ensures job { IfOk result (λ job. replay_words (map string_bytes words.now.items) ≡ Some job) }
+    ensures usage { IsErrOf result WordsEnd.Usage → replay_words (map string_bytes words.now.items) ≡ None }
+{
+    let matches = found(replay(alloc)?, words)?;
+    let (Some(domain), Some(problem), Some(list)) = (
+        matches.get_str("domain"),
+        matches.get_str("problem"),
+        matches.get_str("list"),
+    ) else {
+        return Err(WordsEnd::Usage);
+    };
+    Ok(Job::Replay {
+        domain: owned(alloc, domain)?,
+        problem: owned(alloc, problem)?,
+        list: owned(alloc, list)?,
+    })
+}
+
+#[tactic(auto, using(crate::proofs::Faults::faulty, crate::proofs::Faults::free), unfolding(crate::specs::Jobs::show_words))]
+fn show_words(alloc: Global, words: &Vec<String>) -> Result<Job, WordsEnd>
+    ensures job { IfOk result (λ job. show_words (map string_bytes words.now.items) ≡ Some job) }
+    ensures usage { IsErrOf result WordsEnd.Usage → show_words (map string_bytes words.now.items) ≡ None }
+{
+    let matches = found(show(alloc)?, words)?;
+    let (Some(domain), Some(problem)) = (matches.get_str("domain"), matches.get_str("problem"))
+    else {
+        return Err(WordsEnd::Usage);
+    };
+    Ok(Job::Show {
+        domain: owned(alloc, domain)?,
+        problem: owned(alloc, problem)?,
+    })
+}
+
+/// The job of `gen` with these words.
+fn gen_job(
+    kind: Option<&str>,
+    size: Option<&str>,
+    seed: Option<&str>,
+    workers: Option<&str>,
+) -> Option<Job>
+    ensures { result ≡ gen_job (option_map (λ t. t.now) kind.entry) (option_map (λ t. t.now) size.entry) (option_map (λ t. t.now) seed.entry) (option_map (λ t. t.now) workers.entry) }
+{
+    let (kind, size, seed) = (kind?, size?, seed?);
+    let kind = GenKind::named(kind)?;
+    let size = number_in(kind.least_size() as u64, kind.most_size() as u64, size)?;
+    let seed = number_in(0, u64::MAX, seed)?;
+    let workers = number_or(1, 1, MOST_WORKERS, workers)?;
+    Some(Job::Gen {
+        kind,
+        size: size as u32,
+        seed,
+        workers: workers as u32,
+    })
+}
+
+#[tactic(auto, using(crate::proofs::Faults::faulty, crate::proofs::Faults::free), unfolding(crate::specs::Jobs::gen_words))]
+fn gen_words(alloc: Global, words: &Vec<String>) -> Result<Job, WordsEnd>
+    ensures job { IfOk result (λ job. gen_words (map string_bytes words.now.items) ≡ Some job) }
+    ensures usage { IsErrOf result WordsEnd.Usage → gen_words (map string_bytes words.now.items) ≡ None }
+{
+    let matches = found(generate(alloc)?, words)?;
+    let kind = matches.get_str("kind");
+    let size = matches.get_str("size");
+    let seed = matches.get_str("seed");
+    match gen_job(kind, size, seed, matches.get_str("workers")) {
+        Some(job) => Ok(job),
+        None => Err(WordsEnd::Usage),
+    }
+}
+
+/// The job of the words of this command.
+fn by_command(alloc: Global, command: &str, words: &Vec<String>) -> Result<Job, WordsEnd>
+    ensures job { IfOk result (λ job. by_command command.now (map string_bytes words.now.items) ≡ Some job) }
+    ensures usage { IsErrOf result WordsEnd.Usage → by_command command.now (map string_bytes words.now.items) ≡ None }
+{
+    match command {
+        "solve" => solve_words(alloc, words),
+        "replay" => replay_words(alloc, words),
+        "show" => show_words(alloc, words),
+        "gen" => gen_words(alloc, words),
+        _ => Err(WordsEnd::Usage),
+    }
+}
+
+/// The job that words ask for, without the program's own name: the command, its words and its options, in any order. An
+/// option may stand as `--workers 2` or as `--workers=2`; none may stand twice, and `--` ends the options.
+#[tactic(auto, unfolding(crate::specs::Jobs::job_of))]
+pub fn read_words(alloc: Global, words: &Vec<String>) -> Result<Job, WordsEnd>
+    ensures job { IfOk result (λ job. job_of (map string_bytes words.now.items) ≡ Some job) }
+    ensures usage { IsErrOf result WordsEnd.Usage → job_of (map string_bytes words.now.items) ≡ None }
+{
+    let Some(command) = words.first() else {
+        return Err(WordsEnd::Usage);
+    };
+    by_command(alloc, command.as_str(), words)
+}

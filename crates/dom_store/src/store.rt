@@ -1,0 +1,114 @@
+//! The store of a layer's nodes.
+
+ghost use Rattle.std.specs.Prelude.{◌≡◌, ◌+◌, ◌++◌, [], if◌then◌else◌, length, min, IfOk, OnOk, IfErr, OnErr};
+ghost use Rattle.dp_claims.specs.Enough.{Has};
+ghost use Rattle.dp_model.specs.declared.whole.Model.{Model as DpModel};
+ghost use Rattle.cost_laws.specs.Orders.{IsLawOf};
+ghost use Rattle.state_layout.specs.Conditions.{IsLayoutOf, IsNodeFor};
+ghost use Rattle.state_layout.specs.declared.node.Node.{Node};
+ghost use Rattle.dom_store.specs.Covering.{covers};
+ghost use Rattle.dom_store.specs.Contents.{is_covered, with_node, IsCovered, Apart};
+ghost use Rattle.dom_store.specs.Order.{IsOrdering, IsLeastFloor};
+
+use crate::covers::Covers;
+use crate::keeping::{Added, add_node};
+use crate::signature::Signature;
+use crate::taking::{Taken, take_nodes};
+use cost_laws::CostLaw;
+use dp_base::Seq;
+use indexmap::IndexSet;
+use state_layout::{Layout, Node};
+use std::alloc::{AllocError, Global};
+use std::marker::{Model, PhantomData};
+
+/// The nodes of a layer so far, in order of adding, none of which covers another.
+#[derive(Drop)]
+pub struct DomStore<K: Covers> {
+    layout: Layout,
+    signatures: IndexSet<Signature>,
+    rows: Vec<Seq<usize>>,
+    places: Vec<Option<Node>>,
+    count: usize,
+    covering: PhantomData<K>,
+}
+
+impl<K: Covers> Model for DomStore<K> {
+    ghost use Rattle.dom_store.specs.Covering.{covers};
+    ghost use Rattle.dom_store.specs.Contents.{Contents};
+    ghost use Rattle.dom_store.specs.Places.{nodes_of, IsKept};
+
+    ghost Value = { Contents };
+
+    ghost view = { λ s. record { layout = s.layout; nodes = nodes_of s.places.items } };
+
+    ghost invariant = { λ s. IsKept (covers K.prune K.minimize K.operator s.layout) s.layout s.signatures.keys s.rows.items s.places.items s.count };
+}
+
+impl<K: Covers> DomStore<K> {
+    /// A store without nodes.
+    pub fn new(alloc: Global, layout: &Layout) -> Result<DomStore<K>, AllocError>
+        ensures layout { IfOk result (λ store. store.layout ≡ layout.now) }
+        ensures nodes { IfOk result (λ store. store.nodes ≡ []) }
+    {
+        Ok(DomStore {
+            layout: layout.copy(alloc)?,
+            signatures: IndexSet::new(alloc),
+            rows: Vec::new(alloc),
+            places: Vec::new(alloc),
+            count: 0,
+            covering: PhantomData,
+        })
+    }
+
+    /// Adds a node. Where a held node covers it the store stays as it is; else the nodes that it covers are gone, and it
+    /// stands last. On `Err` memory ran out, the node comes back, and the store holds what it held.
+    pub fn add(&mut self, layout: &Layout, node: Node) -> Result<Added, Node>
+        requires layout { layout.now ≡ self.old.layout }
+        requires node { IsNodeFor layout.now node }
+        ensures answer { IfOk result (λ added. added ≡ (if is_covered (covers K.prune K.minimize K.operator layout.now) self.old.nodes node then Added.Covered else Added.Kept)) }
+        ensures nodes { OnOk result (self.new.nodes ≡ (if is_covered (covers K.prune K.minimize K.operator layout.now) self.old.nodes node then self.old.nodes else with_node (covers K.prune K.minimize K.operator layout.now) self.old.nodes node)) }
+        ensures layout { self.new.layout ≡ self.old.layout }
+        ensures err { IfErr result (λ back. (back ≡ node) × (self.new.nodes ≡ self.old.nodes)) }
+        ensures covered { (m : DpModel) → IsLayoutOf m layout.now → IsLawOf m K.minimize K.operator → (n : Node) → IsCovered m K.prune self.old.nodes n → IsCovered m K.prune self.new.nodes n }
+        ensures added { (m : DpModel) → IsLayoutOf m layout.now → IsLawOf m K.minimize K.operator → OnOk result (IsCovered m K.prune self.new.nodes node) }
+        ensures apart { (m : DpModel) → IsLayoutOf m layout.now → IsLawOf m K.minimize K.operator → Apart m K.prune self.new.nodes }
+    {
+        add_node::<K>(
+            layout,
+            &mut self.signatures,
+            &mut self.rows,
+            &mut self.places,
+            &mut self.count,
+            node,
+        )
+    }
+
+    /// Takes all nodes out, in order: by the word of the floor, or of the cost so far where there is no floor; then by the
+    /// word of the cost so far; then by time of adding. The first ones, up to the share, are kept, and the others dropped. On
+    /// `Err` memory ran out, and the store holds what it held.
+    pub fn take_best<L: CostLaw>(&mut self, alloc: Global, share: u64) -> Result<Taken, AllocError>
+        ensures order { IfOk result (λ taken. IsOrdering L.minimize L.operator self.old.nodes (taken.kept ++ taken.dropped)) }
+        ensures share { IfOk result (λ taken. length taken.kept ≡ min share (length self.old.nodes)) }
+        ensures all { IfOk result (λ taken. length taken.kept + length taken.dropped ≡ length self.old.nodes) }
+        ensures floor { IfOk result (λ taken. IsLeastFloor L.minimize L.operator taken.dropped taken.least_floor) }
+        ensures emptied { OnOk result (self.new.nodes ≡ []) }
+        ensures layout { self.new.layout ≡ self.old.layout }
+        ensures err { OnErr result (self.new.nodes ≡ self.old.nodes) }
+        ensures fits { IfOk result (λ taken. (n : Node) → Has (taken.kept ++ taken.dropped) n → IsNodeFor self.old.layout n) }
+        ensures covered { (m : DpModel) → IsLayoutOf m self.old.layout → IsLawOf m K.minimize K.operator → (n : Node) → IsCovered m K.prune self.old.nodes n → IfOk result (λ taken. IsCovered m K.prune (taken.kept ++ taken.dropped) n) }
+        ensures apart { (m : DpModel) → IsLayoutOf m self.old.layout → IsLawOf m K.minimize K.operator → IfOk result (λ taken. Apart m K.prune (taken.kept ++ taken.dropped)) }
+    {
+        let taken = take_nodes::<L>(alloc, &mut self.places, self.count, share)?;
+        self.signatures.clear();
+        self.rows.clear();
+        self.count = 0;
+        Ok(taken)
+    }
+
+    /// How many nodes are held.
+    pub fn len(&self) -> u64
+        ensures { result ≡ length self.now.nodes }
+    {
+        self.count as u64
+    }
+}

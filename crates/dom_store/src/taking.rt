@@ -1,0 +1,119 @@
+//! The nodes of a layer are shared out: the best are kept, and the others dropped.
+
+ghost use Rattle.std.specs.Prelude.{◌≡◌, ℕ, ◌+◌, ◌-◌, ◌<◌, ◌≤◌, ◌++◌, ◌∷◌, [], length, take, drop, min, vec_len, vec_capacity, IfSome, IfOk, OnOk, OnErr, Bool};
+ghost use Rattle.dp_claims.specs.Enough.{Has};
+ghost use Rattle.cost_laws.specs.Orders.{InWideRange};
+ghost use Rattle.state_layout.specs.declared.node.Node.{Node};
+ghost use Rattle.dom_store.specs.Contents.{AreApart};
+ghost use Rattle.dom_store.specs.Places.{nodes_of};
+ghost use Rattle.dom_store.specs.Order.{HasWords, IsOrdering, IsLeastFloor, better_floor};
+
+use crate::order::sort_places;
+use cost_laws::CostLaw;
+use dp_base::Seq;
+use state_layout::Node;
+use std::alloc::{AllocError, Global};
+
+/// What a store gave up: the nodes that are kept, and those that are dropped, both in order, and the best floor of the dropped
+/// ones. There is none where none is dropped, or where one of them has no floor.
+#[derive(Debug, Drop)]
+pub struct Taken {
+    pub kept: Seq<Node>,
+    pub dropped: Seq<Node>,
+    pub least_floor: Option<i64>,
+}
+
+/// Takes the nodes out of their places, in order. On an error the places are as they were.
+pub(crate) fn take_nodes<L: CostLaw>(
+    alloc: Global,
+    places: &mut Vec<Option<Node>>,
+    count: usize,
+    share: u64,
+) -> Result<Taken, AllocError>
+    requires count { count ≡ length (nodes_of places.old.items) }
+    requires words { (n : Node) → Has (nodes_of places.old.items) n → HasWords n }
+    ensures order { IfOk result (λ taken. IsOrdering L.minimize L.operator (nodes_of places.old.items) (taken.kept ++ taken.dropped)) }
+    ensures share { IfOk result (λ taken. length taken.kept ≡ min share (length (nodes_of places.old.items))) }
+    ensures all { IfOk result (λ taken. length taken.kept + length taken.dropped ≡ length (nodes_of places.old.items)) }
+    ensures floor { IfOk result (λ taken. IsLeastFloor L.minimize L.operator taken.dropped taken.least_floor) }
+    ensures apart { IfOk result (λ taken. (test : Node → Node → Bool) → AreApart test (nodes_of places.old.items) → AreApart test (taken.kept ++ taken.dropped)) }
+    ensures emptied { OnOk result (places.new.items ≡ []) }
+    ensures err { OnErr result (places.new.items ≡ places.old.items) }
+{
+    let kept_count = share.min(count as u64) as usize;
+    let mut kept = Vec::with_capacity(alloc, kept_count)?;
+    let mut dropped = Vec::with_capacity(alloc, count - kept_count)?;
+    sort_places::<L>(places)?;
+    share_out(places, share, &mut kept, &mut dropped);
+    let least_floor = least_floor::<L>(&dropped);
+    Ok(Taken {
+        kept: Seq::of(kept),
+        dropped: Seq::of(dropped),
+        least_floor,
+    })
+}
+
+// moves the nodes out of their places: the first ones, up to the share, and the others; there is room for them
+fn share_out(
+    places: &mut Vec<Option<Node>>,
+    share: u64,
+    kept: &mut Vec<Node>,
+    dropped: &mut Vec<Node>,
+)
+    requires kept { kept.old.items ≡ [] }
+    requires dropped { dropped.old.items ≡ [] }
+    requires kept_room { min share (length (nodes_of places.old.items)) ≤ vec_capacity kept.old }
+    requires dropped_room { length (nodes_of places.old.items) - min share (length (nodes_of places.old.items)) ≤ vec_capacity dropped.old }
+    ensures places { places.new.items ≡ [] }
+    ensures kept { kept.new.items ≡ take share (nodes_of places.old.items) }
+    ensures dropped { dropped.new.items ≡ drop share (nodes_of places.old.items) }
+{
+    for place in 0..places.len() {
+        if let Some(node) = places[place].take() {
+            put_out(node, share, kept, dropped);
+        }
+    }
+    places.clear();
+}
+
+// puts a node among the kept ones while these are fewer than the share, and else among the dropped ones
+fn put_out(node: Node, share: u64, kept: &mut Vec<Node>, dropped: &mut Vec<Node>)
+    requires kept_room { vec_len kept.old < share → vec_len kept.old < vec_capacity kept.old }
+    requires dropped_room { share ≤ vec_len kept.old → vec_len dropped.old < vec_capacity dropped.old }
+    ensures kept { length kept.old.items < share → (kept.new.items ≡ kept.old.items ++ node ∷ []) × (dropped.new.items ≡ dropped.old.items) }
+    ensures dropped { share ≤ length kept.old.items → (kept.new.items ≡ kept.old.items) × (dropped.new.items ≡ dropped.old.items ++ node ∷ []) }
+    ensures kept_capacity { vec_capacity kept.old ≤ vec_capacity kept.new }
+    ensures dropped_capacity { vec_capacity dropped.old ≤ vec_capacity dropped.new }
+{
+    // there is room, so that neither fails
+    if (kept.len() as u64) < share {
+        let _ = kept.push(node);
+    } else {
+        let _ = dropped.push(node);
+    }
+}
+
+// the best floor of nodes: none where there are no nodes, or where one has no floor
+fn least_floor<L: CostLaw>(nodes: &[Node]) -> Option<i64>
+    requires { (n : Node) → Has nodes.now n → IfSome n.floor InWideRange }
+    ensures { IsLeastFloor L.minimize L.operator nodes.now result }
+{
+    let mut least = nodes.first()?.floor;
+    for node in nodes {
+        least = better_floor::<L>(least, node.floor);
+    }
+    least
+}
+
+// the better of two floors, and none where one is missing
+fn better_floor<L: CostLaw>(floor: Option<i64>, other: Option<i64>) -> Option<i64>
+    requires left { IfSome floor InWideRange }
+    requires right { IfSome other InWideRange }
+    ensures { result ≡ better_floor L.minimize L.operator floor other }
+{
+    match (floor, other) {
+        (Some(a), Some(b)) if L::better(b, a) => Some(b),
+        (Some(a), Some(_)) => Some(a),
+        _ => None,
+    }
+}

@@ -1,0 +1,4 @@
+pub mod Lines
+pub mod StepLists
+pub mod Replays
+pub mod Ends

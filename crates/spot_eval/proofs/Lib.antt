@@ -1,0 +1,5 @@
+pub mod Members
+pub mod Grounds
+pub mod Limits
+pub mod Ranges
+pub mod Next

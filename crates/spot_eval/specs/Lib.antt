@@ -1,0 +1,4 @@
+pub mod Answers
+pub mod Looks
+pub mod Moves
+pub mod Ranges

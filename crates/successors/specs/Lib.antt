@@ -1,0 +1,5 @@
+pub mod Answers
+pub mod Batches
+pub mod Searches
+pub mod Visits
+pub mod Starts

@@ -1,0 +1,229 @@
+//! The expander of a model.
+
+ghost use Rattle.std.specs.Prelude.{◌≡◌, Some, List, IfOk, IfSome, OnErr, OnOk, ℕ};
+ghost use Rattle.dp_model.specs.Costs.{InRange};
+ghost use Rattle.dp_model.specs.StepTexts.{ground_of};
+ghost use Rattle.dp_model.specs.declared.parts.Transition.{Transition};
+ghost use Rattle.dp_steps.specs.States.{Enabled};
+ghost use Rattle.cost_laws.specs.Orders.{InWideRange, IsLawOf};
+ghost use Rattle.state_layout.specs.Conditions.{IsPackedOf, IsNodeOf};
+ghost use Rattle.spot_eval.specs.Answers.{Answers as Evaluates};
+ghost use Rattle.spot_eval.specs.Looks.{allowed_at, base_at, floor_at};
+ghost use Rattle.spot_eval.specs.Moves.{may_step_at, next_at};
+ghost use Rattle.successors.specs.Answers.{Answers, AnswersBy, here};
+ghost use Rattle.successors.specs.Batches.{BatchFits, empty_batch};
+ghost use Rattle.successors.specs.Starts.{start_at, StartFits};
+ghost use Rattle.successors.specs.Visits.{expansion};
+
+use crate::batch::Batch;
+use crate::ends::ExpandEnd;
+use crate::starts::Start;
+use crate::visits::Visitor;
+use cost_laws::CostLaw;
+use dp_model::{Model as DpModel, PlainState};
+use path_log::StepId;
+use spot_eval::{Look, SpotEnd};
+use state_layout::{Layout, Node, Packed};
+use std::alloc::{AllocError, Global};
+use std::marker::{Model, PhantomData};
+
+/// What looks at the states of a model and makes their successors. It lists the forced transitions once, and reads
+/// packed states. A call changes neither the model nor whether dual bounds are used.
+#[derive(Drop)]
+pub struct Expander<'m, L: CostLaw> {
+    model: &'m DpModel,
+    prune: bool,
+    layout: Layout,
+    forced: Vec<u32>,
+    others: Vec<u32>,
+    law: PhantomData<L>,
+}
+
+impl<'m, L: CostLaw> Model for Expander<'m, L> {
+    ghost use Rattle.std.specs.Prelude.{◌≡◌};
+    ghost use Rattle.cost_laws.specs.Orders.{IsLawOf};
+    ghost use Rattle.state_layout.specs.Conditions.{IsLayoutOf};
+    ghost use Rattle.spot_eval.specs.Moves.{forced_of, others_of};
+    ghost use Rattle.successors.specs.Searches.{Search, search_code};
+
+    ghost Value = { Search };
+
+    ghost coded = { search_code };
+
+    ghost view = { λ e. record { model = e.model.now; prune = e.prune } };
+
+    ghost invariant = { λ e. IsLawOf e.model.now L.minimize L.operator × IsLayoutOf e.model.now e.layout × (e.forced.items ≡ forced_of e.model.now) × (e.others.items ≡ others_of e.model.now) };
+}
+
+impl<'m, L: CostLaw> Expander<'m, L> {
+    /// The expander of a model under its law of costs. `prune` says whether dual bounds are used.
+    pub fn new(
+        alloc: Global,
+        model: &'m DpModel,
+        prune: bool,
+    ) -> Result<Expander<'m, L>, AllocError>
+        requires { IsLawOf model.now L.minimize L.operator }
+        ensures { IfOk result (λ expander. expander ≡ record { model = model.now; prune = prune }) }
+    {
+        Ok(Expander {
+            model,
+            prune,
+            layout: Layout::of(alloc, model)?,
+            forced: spot_eval::forced_of(alloc, model)?,
+            others: spot_eval::others_of(alloc, model)?,
+            law: PhantomData,
+        })
+    }
+
+    /// The state that was packed.
+    fn unpacked(&self, alloc: Global, p: &Packed) -> Result<PlainState, AllocError>
+        requires { IsPackedOf self.now.model p.now }
+        ensures { IfOk result (λ s. s ≡ p.now) }
+    {
+        self.layout.unpack(alloc, p)
+    }
+
+    /// A packed state of the model.
+    fn packed(&self, alloc: Global, s: &PlainState) -> Result<Packed, AllocError>
+        requires { IsPackedOf self.now.model s.now }
+        ensures { IfOk result (λ p. p ≡ s.now) }
+    {
+        self.layout.pack(alloc, s)
+    }
+
+    /// What the target turns out to be. Its node has no cost so far.
+    pub fn start(&mut self, alloc: Global) -> Result<Start, ExpandEnd>
+        ensures start { Answers result (start_at self.old.model self.old.prune) }
+        ensures fits { IfOk result (StartFits self.old.model) }
+        ensures same { self.new ≡ self.old }
+    {
+        let target = self.model.target();
+        match spot_eval::look_at::<L>(alloc, self.model, self.prune, target, None)? {
+            Look::NotAllowed => Ok(Start::NotAllowed),
+            Look::Base(base) => Ok(Start::Base(base)),
+            Look::Open(floor) => Ok(Start::Open(Node {
+                state: self.packed(alloc, target)?,
+                cost: None,
+                floor,
+                parent: None,
+                transition: 0,
+            })),
+        }
+    }
+
+    /// Whether a state is allowed: all constraints hold.
+    pub fn allowed(&mut self, alloc: Global, p: &Packed) -> Result<bool, SpotEnd>
+        requires { IsPackedOf self.old.model p.now }
+        ensures allowed { Evaluates result (allowed_at self.old.model p.now) }
+        ensures same { self.new ≡ self.old }
+    {
+        let s = self.unpacked(alloc, p)?;
+        spot_eval::allowed(alloc, self.model, &s)
+    }
+
+    /// The base cost of a state. `None` where it is not base and no fault is met.
+    pub fn base_cost(&mut self, alloc: Global, p: &Packed) -> Result<Option<i64>, SpotEnd>
+        requires { IsPackedOf self.old.model p.now }
+        ensures cost { Evaluates result (base_at self.old.model p.now) }
+        ensures in_range { IfOk result (λ cost. IfSome cost InRange) }
+        ensures same { self.new ≡ self.old }
+    {
+        let s = self.unpacked(alloc, p)?;
+        spot_eval::base_cost(alloc, self.model, &s)
+    }
+
+    /// Whether a ground transition is considered and enabled in a state: it is enabled, and no forced one that is tested
+    /// before it is.
+    pub fn enabled(&mut self, alloc: Global, p: &Packed, number: u32) -> Result<bool, SpotEnd>
+        requires { IsPackedOf self.old.model p.now }
+        ensures enabled { Evaluates result (may_step_at self.old.model p.now number) }
+        ensures same { self.new ≡ self.old }
+    {
+        let s = self.unpacked(alloc, p)?;
+        spot_eval::may_step(alloc, self.model, &s, number, &self.forced)
+    }
+
+    /// The state that an enabled ground transition leads to. Its effects alone are evaluated.
+    pub fn apply(&mut self, alloc: Global, p: &Packed, number: u32) -> Result<Packed, ExpandEnd>
+        requires packed { IsPackedOf self.old.model p.now }
+        requires enabled { Enabled self.old.model p.now number }
+        ensures next { (t : Transition × List ℕ) → ground_of self.old.model number ≡ Some t → Answers result (here (next_at self.old.model p.now number t)) }
+        ensures packed { IfOk result (λ next. IsPackedOf self.old.model next) }
+        ensures same { self.new ≡ self.old }
+    {
+        let Some((transition, args)) = self.model.step(number) else {
+            unreachable!()
+        };
+        let s = self.unpacked(alloc, p)?;
+        let next = spot_eval::next_state(alloc, self.model, number, transition, args, &s)?;
+        Ok(self.packed(alloc, &next)?)
+    }
+
+    /// The floor of an inner state with this cost so far. `None` where dual bounds are not used, or the model has none.
+    pub fn floor(
+        &mut self,
+        alloc: Global,
+        p: &Packed,
+        cost: Option<i64>,
+    ) -> Result<Option<i64>, SpotEnd>
+        requires packed { IsPackedOf self.old.model p.now }
+        requires cost { IfSome cost InRange }
+        ensures floor { Evaluates result (floor_at self.old.model self.old.prune p.now cost) }
+        ensures wide { IfOk result (λ floor. IfSome floor InWideRange) }
+        ensures same { self.new ≡ self.old }
+    {
+        let s = self.unpacked(alloc, p)?;
+        spot_eval::floor::<L>(alloc, self.model, self.prune, &s, cost)
+    }
+
+    /// Fills an empty batch with the successors of a node.
+    fn fill(
+        &self,
+        alloc: Global,
+        node: &Node,
+        id: StepId,
+        best: u64,
+        batch: &mut Batch,
+    ) -> Result<(), ExpandEnd>
+        requires node { IsNodeOf self.now.model node.now }
+        requires empty { batch.old ≡ empty_batch }
+        ensures batch { AnswersBy (λ _. batch.new) result (expansion self.now.model (record { prune = self.now.prune; state = node.now.state; cost = node.now.cost; id = id; best = best })) }
+        ensures fits { OnOk result (BatchFits self.now.model batch.new) }
+    {
+        let s = self.unpacked(alloc, &node.state)?;
+        let visitor: Visitor<'_, L> = Visitor::of(
+            self.model,
+            &self.layout,
+            self.prune,
+            &s,
+            node.cost,
+            id,
+            best,
+        );
+        visitor.fill(alloc, &self.forced, &self.others, batch)
+    }
+
+    /// The successors of an inner node, which is visited under this step. The batch is emptied first, and filled in order
+    /// of definition; after an error it is empty. `best` is the order word that prunes successors.
+    pub fn expand(
+        &mut self,
+        alloc: Global,
+        node: &Node,
+        id: StepId,
+        best: u64,
+        batch: &mut Batch,
+    ) -> Result<(), ExpandEnd>
+        requires { IsNodeOf self.old.model node.now }
+        ensures batch { AnswersBy (λ _. batch.new) result (expansion self.old.model (record { prune = self.old.prune; state = node.now.state; cost = node.now.cost; id = id; best = best })) }
+        ensures empty { OnErr result (batch.new ≡ empty_batch) }
+        ensures fits { BatchFits self.old.model batch.new }
+        ensures same { self.new ≡ self.old }
+    {
+        batch.clear();
+        let told = self.fill(alloc, node, id, best, batch);
+        if told.is_err() {
+            batch.clear();
+        }
+        told
+    }
+}

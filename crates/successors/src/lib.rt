@@ -1,0 +1,14 @@
+//! The expander: what a visit makes of a node of a search. It looks at states, tests transitions, and makes the
+//! successors of a state, in the order in which the model is evaluated, up to the first fault.
+#![tactic(auto)]
+
+mod batch;
+mod ends;
+mod expander;
+mod starts;
+mod visits;
+
+pub use batch::{Batch, Offer};
+pub use ends::ExpandEnd;
+pub use expander::Expander;
+pub use starts::Start;
