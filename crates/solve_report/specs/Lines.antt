@@ -1,6 +1,6 @@
--- The lines that the program prints of solutions, passes, verdicts and refusals, as lists of bytes.
-use Rattle.std.specs.Prelude.{ℕ, ◌+◌, List, [], ◌++◌, ◌∷◌, length, slice_get, Option, Some, None, codes, decimal, ◌==◌, if◌then◌else◌}
-use Rattle.std.specs.List.{flat_map}
+-- The lines that the program prints of solutions, passes, verdicts, refusals and models, as lists of bytes.
+use Rattle.std.specs.Prelude.{ℕ, ◌+◌, Bool, true, false, List, [], ◌++◌, ◌∷◌, length, drop, slice_get, Option, Some, None, codes, decimal, ◌==◌, if◌then◌else◌}
+use Rattle.std.specs.List.{flat_map, prefix_len}
 use Rattle.std.specs.Fmt.{signed_decimal}
 use Rattle.dp_base.specs.Bytes.{line}
 use Rattle.dp_base.specs.declared.place.Place.{Place}
@@ -16,9 +16,20 @@ use Rattle.dp_model.specs.declared.answers.Reason.TheVariants as reasons
 use Rattle.dp_model.specs.declared.answers.Found.{Found}
 use Rattle.dp_model.specs.declared.answers.Verdict.{Verdict}
 use Rattle.dp_model.specs.declared.answers.Verdict.TheVariants as verdicts
+use Rattle.dp_model.specs.declared.parts.Cells.{Cells}
+use Rattle.dp_model.specs.declared.parts.Cells.TheVariants as cells
 use Rattle.dp_model.specs.declared.parts.Effect.{Effect}
+use Rattle.dp_model.specs.declared.parts.Ground.{Ground}
+use Rattle.dp_model.specs.declared.parts.JoinOp.{JoinOp}
+use Rattle.dp_model.specs.declared.parts.JoinOp.TheVariants as joins
+use Rattle.dp_model.specs.declared.parts.ObjectType.{ObjectType}
+use Rattle.dp_model.specs.declared.parts.Preference.{Preference}
+use Rattle.dp_model.specs.declared.parts.Preference.TheVariants as preferences
+use Rattle.dp_model.specs.declared.parts.TableData.{TableData}
 use Rattle.dp_model.specs.declared.parts.Transition.{Transition}
 use Rattle.dp_model.specs.declared.parts.Variable.{Variable}
+use Rattle.dp_model.specs.declared.parts.VarKind.{VarKind}
+use Rattle.dp_model.specs.declared.parts.VarKind.TheVariants as var_kinds
 use Rattle.dp_model.specs.declared.whole.Model.{Model}
 
 abbrev pub step_lines : Model → List ℕ → List ℕ
@@ -145,3 +156,78 @@ refusal_name number = name_among refusals number
 
 abbrev pub refusal_text : Place → Option ℕ → (number : ℕ) → List ℕ
 refusal_text place offset number = line (codes "refused " ++ place_text place offset ++ codes " " ++ decimal number ++ codes " " ++ refusal_name number)
+
+-- ---- models
+
+abbrev pub direction_text : (minimize : Bool) → List ℕ
+direction_text true = codes "min"
+direction_text false = codes "max"
+
+abbrev pub join_text : JoinOp → List ℕ
+join_text joins.Plus = codes "plus"
+join_text joins.Most = codes "max"
+join_text joins.Least = codes "min"
+
+-- the names of the domain and the problem, and how costs are compared and joined
+abbrev pub head_text : Model → List ℕ
+head_text m =
+    line (codes "domain " ++ m.domain)
+    ++ (line (codes "problem " ++ m.problem) ++ line (codes "reduce " ++ direction_text m.minimize ++ codes " join " ++ join_text m.join))
+
+abbrev pub object_line : ObjectType → List ℕ
+object_line o = line (codes "object " ++ o.name ++ codes " " ++ decimal o.count)
+
+-- the name of an object type
+abbrev pub object_text : Option ObjectType → List ℕ
+object_text None = []
+object_text (Some o) = o.name
+
+abbrev pub holds_text : List ObjectType → VarKind → List ℕ
+holds_text os var_kinds.Integer = codes "integer"
+holds_text os (var_kinds.Element object) = codes "element " ++ object_text (slice_get os object)
+holds_text os (var_kinds.Set object) = codes "set " ++ object_text (slice_get os object)
+
+abbrev pub preference_text : Preference → List ℕ
+preference_text preferences.Without = codes "without"
+preference_text preferences.Less = codes "less"
+preference_text preferences.Greater = codes "greater"
+
+abbrev pub variable_words : List ObjectType → Variable → List ℕ
+variable_words os v = codes "variable " ++ v.name ++ codes " " ++ (holds_text os v.kind ++ (codes " " ++ preference_text v.preference))
+
+abbrev pub variable_line : List ObjectType → Variable → List ℕ
+variable_line os v = line (variable_words os v)
+
+abbrev pub cell_count : Cells → ℕ
+cell_count (cells.Numbers xs) = length xs
+cell_count (cells.Truths xs) = length xs
+cell_count (cells.Sets object xs) = length xs
+
+abbrev pub table_line : TableData → List ℕ
+table_line t = line (codes "table " ++ t.name ++ codes " " ++ decimal (cell_count t.cells))
+
+abbrev pub transition_line : Transition → (grounds : ℕ) → List ℕ
+transition_line t grounds = line (codes "transition " ++ t.name ++ codes " " ++ decimal grounds)
+
+-- how many of the ground transitions from the front on are the transition's of this number
+abbrev pub front_count : (number : ℕ) → List Ground → ℕ
+front_count number gs = prefix_len (λ (g : Ground). g.transition == number) gs
+
+-- the transitions from this number on, each with the number of its ground transitions, which stand in order of definition
+abbrev pub transition_lines : (number : ℕ) → List Transition → List Ground → List ℕ
+transition_lines number [] gs = []
+transition_lines number (t ∷ ts) gs = transition_line t (front_count number gs) ++ transition_lines (number + 1) ts (drop (front_count number gs) gs)
+
+abbrev pub counts_text : Model → List ℕ
+counts_text m =
+    line (codes "ground " ++ decimal (length m.dp_ground))
+    ++ (line (codes "constraints " ++ decimal (length m.constraints))
+    ++ (line (codes "bases " ++ decimal (length m.base_cases)) ++ line (codes "bounds " ++ decimal (length m.bounds))))
+
+-- what was understood of a model
+abbrev pub show_text : Model → List ℕ
+show_text m =
+    head_text m
+    ++ (flat_map object_line m.objects
+    ++ (flat_map (variable_line m.objects) m.variables
+    ++ (flat_map table_line m.tables ++ (transition_lines 0 m.transitions m.dp_ground ++ counts_text m))))

@@ -1,14 +1,16 @@
-//! The lines that the program prints of solutions, passes, verdicts and refusals. A call takes no memory, and writes
+//! The lines that the program prints of solutions, passes, verdicts, refusals and models. A call takes no memory, and writes
 //! each line at once where it is short. After a write that failed the sink has a front of the text.
 #![tactic(auto)]
 
 mod lines;
 mod pieces;
 mod refusals;
+mod shows;
 mod steps;
 mod verdicts;
 
 pub use lines::{put_line, put_pass, put_pieces, put_solution};
 pub use pieces::Piece;
 pub use refusals::{file_name, put_refusal};
+pub use shows::put_show;
 pub use verdicts::put_verdict;
