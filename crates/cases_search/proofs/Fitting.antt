@@ -1,8 +1,9 @@
 -- What a bench hands to the calls of its layout and its store, and which nodes can be shown.
-use Rattle.std.proofs.Common.{◌≡◌, refl, sym, ◌∙◌, subst, ◌++◌, List}
+use Rattle.std.proofs.Common.{◌≡◌, ◌<◌, ℕ, refl, sym, ap, ◌∙◌, subst, ◌++◌, List, length, get_or, Some, Result, Ok, Err, IfOk}
 use Rattle.std.specs.List.{All}
+use Rattle.std.specs.declared.alloc.AllocError.{AllocError}
 use Rattle.std.proofs.lemmas.List.Elements.{All-get_or}
-use Rattle.std.proofs.lemmas.Option.{slice_get_within, get_or_from_slice_get}
+use Rattle.std.proofs.lemmas.Option.{slice_get_within, slice_get-get_or, get_or_from_slice_get}
 use Rattle.dp_claims.specs.Enough.{Has}
 use Rattle.dp_model.specs.declared.parts.PlainState.{PlainState}
 use Rattle.dp_model.specs.declared.whole.Model.{Model}
@@ -10,11 +11,13 @@ use Rattle.state_layout.specs.Conditions.{IsLayoutOf, IsStateOf, IsStateFor, IsP
 use Rattle.state_layout.specs.declared.layout.Layout.{Layout}
 use Rattle.state_layout.specs.declared.packed.Packed.{Packed}
 use Rattle.state_layout.specs.declared.node.Node.{Node}
+use Rattle.dom_store.specs.declared.taking.Taken.{Taken}
 use Rattle.dom_store.proofs.Members.{has_front, has_back}
 use Rattle.cases_search.specs.Fits.{AllFit, FitsIn}
 
-pub state_for : (m : Model) (layout : Layout) (s : PlainState) → IsLayoutOf m layout → IsStateOf m s → IsStateFor layout s
-state_for m layout s laid held = (m, laid, held)
+-- the target
+pub target_for : (m : Model) (layout : Layout) (s : PlainState) → IsLayoutOf m layout → s ≡ m.target → IsStateFor layout s
+target_for m layout s laid is = (m, laid, subst (IsStateOf m) (sym is) m.held)
 
 pub packed_for : (m : Model) (layout : Layout) (p : Packed) → IsLayoutOf m layout → IsPackedOf m p → IsPackedFor layout p
 packed_for m layout p laid held = (m, laid, held)
@@ -23,7 +26,7 @@ pub node_for : (m : Model) (layout : Layout) (n : Node) → IsLayoutOf m layout 
 node_for m layout n laid node = (m, laid, node)
 
 pub fitting_packed : (m : Model) (layout : Layout) (n : Node) → IsLayoutOf m layout → FitsIn m n → IsPackedFor layout n.state
-fitting_packed m layout n laid fits = (fits.0, laid ∙ fits.1.0, fits.1.1.state)
+fitting_packed m layout n laid fits = (fits.0, laid ∙ fits.1, fits.2.state)
 
 -- the nodes of a batch
 pub batch_fits : (m : Model) (nodes : List Node) → All (IsNodeOf m) nodes → AllFit m nodes
@@ -37,3 +40,11 @@ pub taken_fit : (m : Model) (layout : Layout) (kept dropped : List Node) → IsL
 taken_fit m layout kept dropped laid fits = (
     (λ n has. subst (λ (l : Layout). IsNodeFor l n) laid (fits n (has_front kept dropped n has))),
     (λ n has. subst (λ (l : Layout). IsNodeFor l n) laid (fits n (has_back kept dropped n has))))
+
+-- one of the nodes
+pub fits_at : (m : Model) (nodes : List Node) (k : ℕ) (n : Node) → AllFit m nodes → k < length nodes → n ≡ get_or nodes k n → FitsIn m n
+fits_at m nodes k n all within is = all n (k, slice_get-get_or nodes k n within ∙ ap Some (sym is))
+
+pub taken_fits : (m : Model) (layout : Layout) (result : Result Taken AllocError) → IsLayoutOf m layout → IfOk result (λ taken. (n : Node) → Has (taken.kept ++ taken.dropped) n → IsNodeFor layout n) → IfOk result (λ taken. AllFit m taken.kept × AllFit m taken.dropped)
+taken_fits m layout (Ok taken) laid fits = taken_fit m layout taken.kept taken.dropped laid fits
+taken_fits m layout (Err e) laid fits = fits

@@ -47,7 +47,6 @@ impl<'m, L: CostLaw, K: Covers> Model for Bench<'m, L, K> {
 
 impl<'m, L: CostLaw, K: Covers> Bench<'m, L, K> {
     /// A bench with the target at hand and an empty store.
-    #[tactic(auto, using(crate::proofs::Fitting::state_for))]
     pub(crate) fn new(
         alloc: Global,
         model: &'m DpModel,
@@ -73,7 +72,6 @@ impl<'m, L: CostLaw, K: Covers> Bench<'m, L, K> {
     }
 
     /// Takes the target to hand.
-    #[tactic(auto, using(crate::proofs::Fitting::state_for))]
     pub(crate) fn return_to_target(&mut self, alloc: Global) -> Result<(), AllocError>
         ensures { self.new ≡ self.old }
     {
@@ -130,7 +128,6 @@ impl<'m, L: CostLaw, K: Covers> Bench<'m, L, K> {
     }
 
     /// A node of the state at hand, which has no parent.
-    #[tactic(auto, using(crate::proofs::Fitting::state_for, crate::proofs::Fitting::packed_for))]
     fn node(
         &self,
         alloc: Global,
@@ -152,7 +149,6 @@ impl<'m, L: CostLaw, K: Covers> Bench<'m, L, K> {
     }
 
     /// Visits the state at hand with this cost so far. `best` is the cost of an incumbent.
-    #[tactic(auto, using(crate::proofs::Fitting::batch_fits))]
     pub(crate) fn expand(
         &mut self,
         alloc: Global,
@@ -178,7 +174,6 @@ impl<'m, L: CostLaw, K: Covers> Bench<'m, L, K> {
     }
 
     /// Adds a node of the state at hand to the store. `None` where memory ran out.
-    #[tactic(auto, using(crate::proofs::Fitting::node_for))]
     pub(crate) fn add(
         &mut self,
         alloc: Global,
@@ -197,7 +192,6 @@ impl<'m, L: CostLaw, K: Covers> Bench<'m, L, K> {
         self.store.len()
     }
 
-    #[tactic(auto, using(crate::proofs::Fitting::taken_fit))]
     pub(crate) fn take_best(&mut self, alloc: Global, share: u64) -> Result<Taken, AllocError>
         ensures taken { IfOk result (λ taken. AllFit self.new taken.kept × AllFit self.new taken.dropped) }
         ensures same { self.new ≡ self.old }
@@ -213,7 +207,6 @@ impl<'m, L: CostLaw, K: Covers> Bench<'m, L, K> {
     }
 
     /// A node: its state, cost so far, floor and parent.
-    #[tactic(auto, using(crate::proofs::Fitting::fitting_packed))]
     pub(crate) fn node_shown(&self, alloc: Global, node: &Node) -> Result<String, AllocError>
         requires { FitsIn self.now node.now }
     {
@@ -226,7 +219,6 @@ impl<'m, L: CostLaw, K: Covers> Bench<'m, L, K> {
     }
 
     /// Whether a node has the same text as its copy, and its state is the same as its copy's.
-    #[tactic(auto, using(crate::proofs::Fitting::fitting_packed))]
     pub(crate) fn is_copied(&self, alloc: Global, node: &Node) -> Result<bool, AllocError>
         requires { FitsIn self.now node.now }
     {

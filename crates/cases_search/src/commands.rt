@@ -204,6 +204,7 @@ fn print_batch<R: Print + Alloc<A = Global>, L: CostLaw, K: Covers>(
 }
 
 /// Prints nodes, each on a line, with the steps that made them.
+#[tactic(auto, using(crate::proofs::Fitting::fits_at))]
 fn print_nodes<R: Print + Alloc<A = Global>, L: CostLaw, K: Covers>(
     rt: &R,
     bench: &Bench<'_, L, K>,

@@ -46,6 +46,7 @@ pub(crate) fn take<R: Print + Alloc<A = Global>, L: CostLaw, K: Covers>(
 }
 
 /// Prints nodes, each on a line, and whether its copy equals it.
+#[tactic(auto, using(crate::proofs::Fitting::fits_at))]
 fn print_taken<R: Print + Alloc<A = Global>, L: CostLaw, K: Covers>(
     rt: &R,
     bench: &Bench<'_, L, K>,
