@@ -38,8 +38,9 @@ batch_fits m nodes all n has =
 -- the nodes that a store of the model's layout gave up
 pub taken_fit : (m : Model) (layout : Layout) (kept dropped : List Node) → IsLayoutOf m layout → ((n : Node) → Has (kept ++ dropped) n → IsNodeFor layout n) → AllFit m kept × AllFit m dropped
 taken_fit m layout kept dropped laid fits = (
-    (λ n has. subst (λ (l : Layout). IsNodeFor l n) laid (fits n (has_front kept dropped n has))),
-    (λ n has. subst (λ (l : Layout). IsNodeFor l n) laid (fits n (has_back kept dropped n has))))
+  (λ n has. subst (λ (l : Layout). IsNodeFor l n) laid (fits n (has_front kept dropped n has))),
+  (λ n has. subst (λ (l : Layout). IsNodeFor l n) laid (fits n (has_back kept dropped n has))),
+)
 
 -- one of the nodes
 pub fits_at : (m : Model) (nodes : List Node) (k : ℕ) (n : Node) → AllFit m nodes → k < length nodes → n ≡ get_or nodes k n → FitsIn m n

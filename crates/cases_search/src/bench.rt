@@ -116,11 +116,7 @@ impl<'m, L: CostLaw, K: Covers> Bench<'m, L, K> {
     }
 
     /// The floor of the state at hand with this cost so far.
-    pub(crate) fn floor(
-        &mut self,
-        alloc: Global,
-        cost: Option<i64>,
-    ) -> Result<Option<i64>, SpotEnd>
+    pub(crate) fn floor(&mut self, alloc: Global, cost: Option<i64>) -> Result<Option<i64>, SpotEnd>
         requires { IfSome cost InRange }
         ensures { self.new ≡ self.old }
     {
@@ -128,12 +124,7 @@ impl<'m, L: CostLaw, K: Covers> Bench<'m, L, K> {
     }
 
     /// A node of the state at hand, which has no parent.
-    fn node(
-        &self,
-        alloc: Global,
-        cost: Option<i64>,
-        floor: Option<i64>,
-    ) -> Result<Node, AllocError>
+    fn node(&self, alloc: Global, cost: Option<i64>, floor: Option<i64>) -> Result<Node, AllocError>
         requires cost { IfSome cost InRange }
         requires floor { IfSome floor InWideRange }
         ensures { IfOk result (IsNodeOf self.now) }
