@@ -210,6 +210,7 @@ pub fn eval_cond(
 
 /// Whether a condition holds with each of these members as one more parameter, up to the first where it does not.
 #[cycle(eval)]
+#[inline(never)]
 fn eval_all(
     alloc: Global,
     model: &Model,
@@ -232,6 +233,7 @@ fn eval_all(
 
 /// The values of number expressions, in order.
 #[cycle(eval)]
+#[inline(never)]
 fn eval_nums(
     alloc: Global,
     model: &Model,
@@ -270,6 +272,7 @@ fn eval_term(
 
 /// The arguments of a `sum`, in order.
 #[cycle(eval)]
+#[inline(never)]
 fn eval_terms(
     alloc: Global,
     model: &Model,

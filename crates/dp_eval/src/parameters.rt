@@ -19,6 +19,7 @@ pub fn parameter(args: &Seq<u32>, p: u32) -> u32
 }
 
 /// The values of the parameters, with one more.
+#[inline(never)]
 pub fn with_more(alloc: Global, args: &Seq<u32>, member: u32) -> Result<Seq<u32>, AllocError>
     ensures { IfOk result (λ more. more ≡ args.now ++ member ∷ []) }
 {
@@ -28,6 +29,7 @@ pub fn with_more(alloc: Global, args: &Seq<u32>, member: u32) -> Result<Seq<u32>
 }
 
 /// The members that a `forall` ranges over, in ascending order.
+#[inline(never)]
 pub fn range_of(
     alloc: Global,
     model: &Model,

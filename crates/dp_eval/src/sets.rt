@@ -67,6 +67,7 @@ impl<'s> Marks<'s> {
 }
 
 /// Whether two sets have the same members.
+#[inline(never)]
 pub fn same_members(a: &CountedSet, b: &CountedSet) -> bool
     ensures { result ≡ bytes_eq a.now.members b.now.members }
 {
@@ -74,6 +75,7 @@ pub fn same_members(a: &CountedSet, b: &CountedSet) -> bool
 }
 
 /// Whether each member of the first is one of the second.
+#[inline(never)]
 pub fn is_subset(alloc: Global, a: &CountedSet, b: &CountedSet) -> Result<bool, AllocError>
     ensures { IfOk result (λ held. held ≡ list_all (has b.now.members) a.now.members) }
 {
@@ -130,6 +132,7 @@ fn removed(alloc: Global, count: u32, set: &Marks, member: u32) -> Result<Vec<u3
 }
 
 /// An operation on two sets of the first one's object type.
+#[inline(never)]
 pub fn set_operation(
     alloc: Global,
     op: SetOp,
@@ -153,6 +156,7 @@ pub fn set_operation(
 }
 
 /// The members of its object type that a set lacks.
+#[inline(never)]
 pub fn others(alloc: Global, set: &CountedSet) -> Result<CountedSet, AllocError>
     ensures count { IfOk result (λ all. all.count ≡ set.now.count) }
     ensures members { IfOk result (λ all. all.members
@@ -165,6 +169,7 @@ pub fn others(alloc: Global, set: &CountedSet) -> Result<CountedSet, AllocError>
 }
 
 /// The set and one member more.
+#[inline(never)]
 pub fn with(alloc: Global, set: &CountedSet, member: u32) -> Result<CountedSet, AllocError>
     ensures count { IfOk result (λ all. all.count ≡ set.now.count) }
     ensures members { IfOk result (λ all. all.members
@@ -177,6 +182,7 @@ pub fn with(alloc: Global, set: &CountedSet, member: u32) -> Result<CountedSet, 
 }
 
 /// The set without one member.
+#[inline(never)]
 pub fn without(alloc: Global, set: &CountedSet, member: u32) -> Result<CountedSet, AllocError>
     ensures count { IfOk result (λ all. all.count ≡ set.now.count) }
     ensures members { IfOk result (λ all. all.members

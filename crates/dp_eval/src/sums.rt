@@ -113,6 +113,7 @@ fn total_of(alloc: Global, model: &Model, t: u32, choices: &[Seq<u32>]) -> Resul
 }
 
 /// The sum of a table over its evaluated arguments, which is tested once, on its whole total.
+#[inline(never)]
 pub fn sum_of(alloc: Global, model: &Model, t: u32, terms: &[Term]) -> Result<i64, EvalEnd>
     ensures { Answers result (sum_value model.now t (map term_value terms.now)) }
 {

@@ -48,6 +48,7 @@ pub fn number_in(s: &PlainState, v: u32) -> i64
 }
 
 /// The members of the set that a variable has in a state.
+#[inline(never)]
 pub fn set_in(alloc: Global, s: &PlainState, v: u32) -> Result<Seq<u32>, AllocError>
     ensures { IfOk result (λ set. set ≡ set_in s.now v) }
 {
@@ -226,6 +227,7 @@ fn sets_in(model: &Model, t: u32) -> &[Seq<u32>]
 }
 
 /// The cell of a table of numbers at these arguments.
+#[inline(never)]
 pub fn number_cell(alloc: Global, model: &Model, t: u32, numbers: &Seq<i64>) -> Result<i64, EvalEnd>
     ensures { Answers result
         (at_members model.now t (number_cell (cells_of model.now t)) numbers.now) }
@@ -235,6 +237,7 @@ pub fn number_cell(alloc: Global, model: &Model, t: u32, numbers: &Seq<i64>) -> 
 }
 
 /// The cell of a table of truth values at these arguments.
+#[inline(never)]
 pub fn truth_cell(alloc: Global, model: &Model, t: u32, numbers: &Seq<i64>) -> Result<bool, EvalEnd>
     ensures { Answers result
         (at_members model.now t (truth_cell (cells_of model.now t)) numbers.now) }
@@ -244,6 +247,7 @@ pub fn truth_cell(alloc: Global, model: &Model, t: u32, numbers: &Seq<i64>) -> R
 }
 
 /// The cell of a table of sets at these arguments.
+#[inline(never)]
 pub fn set_cell(
     alloc: Global,
     model: &Model,
