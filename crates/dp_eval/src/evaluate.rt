@@ -18,8 +18,16 @@ use crate::tables::{number_cell, number_in, set_cell, set_in, truth_cell};
 use dp_model::{Arg, Cond, Model, Num, PlainState, Seq, SetEx};
 use std::alloc::Global;
 
+/// What expressions are evaluated in: a state of a model, with these values of the parameters.
+#[derive(Clone, Copy)]
+struct Scene<'a> {
+    alloc: Global,
+    model: &'a Model,
+    args: &'a Seq<u32>,
+    s: &'a PlainState,
+}
+
 /// The value of a number expression in a state, with these values of the parameters, or the fault that it meets.
-#[cycle(eval)]
 pub fn eval_num(
     alloc: Global,
     model: &Model,
@@ -29,35 +37,15 @@ pub fn eval_num(
 ) -> Result<i64, EvalEnd>
     ensures { Answers result (num_value model.now s.now e.now args.now) }
 {
-    match e {
-        Num::Fixed(n) => Ok(*n),
-        Num::Var(v) => Ok(number_in(s, *v)),
-        Num::Param(p) => Ok(i64::from(parameter(args, *p))),
-        Num::Cell(t, ns) => {
-            let numbers = eval_nums(alloc, model, ns, args, s)?;
-            number_cell(alloc, model, *t, &numbers)
-        }
-        Num::Sum(t, terms) => {
-            let terms = eval_terms(alloc, model, terms, args, s)?;
-            sum_of(alloc, model, *t, terms.list())
-        }
-        Num::Size(set) => {
-            let set = eval_counted(alloc, model, set.get(), args, s)?;
-            Ok(set.members.list().len() as i64)
-        }
-        Num::Op(op, a, b) => {
-            let x = eval_num(alloc, model, a.get(), args, s)?;
-            let y = eval_num(alloc, model, b.get(), args, s)?;
-            Ok(operate(*op, x, y)?)
-        }
-        Num::If(c, a, b) => {
-            if eval_cond(alloc, model, c.get(), args, s)? {
-                eval_num(alloc, model, a.get(), args, s)
-            } else {
-                eval_num(alloc, model, b.get(), args, s)
-            }
-        }
-    }
+    number(
+        &Scene {
+            alloc,
+            model,
+            args,
+            s,
+        },
+        e,
+    )
 }
 
 /// The members of a set expression in a state, with these values of the parameters, or the fault that it meets.
@@ -70,68 +58,20 @@ pub fn eval_set(
 ) -> Result<Seq<u32>, EvalEnd>
     ensures { Answers result ((set_value model.now s.now e.now).1 args.now) }
 {
-    let CountedSet { members, .. } = eval_counted(alloc, model, e, args, s)?;
+    let CountedSet { members, .. } = counted(
+        &Scene {
+            alloc,
+            model,
+            args,
+            s,
+        },
+        e,
+    )?;
     Ok(members)
-}
-
-/// The same, with the count of the set's object type, so that no operator has to look for it.
-#[cycle(eval)]
-fn eval_counted(
-    alloc: Global,
-    model: &Model,
-    e: &SetEx,
-    args: &Seq<u32>,
-    s: &PlainState,
-) -> Result<CountedSet, EvalEnd>
-    ensures count { IfOk result
-        (λ set. set.count ≡ count_of model.now (set_value model.now s.now e.now).0) }
-    ensures members { AnswersBy (λ (set : CountedSet). set.members) result
-        ((set_value model.now s.now e.now).1 args.now) }
-{
-    match e {
-        SetEx::Var(v) => {
-            let count = set_count(model, e, s);
-            let members = set_in(alloc, s, *v)?;
-            Ok(CountedSet { count, members })
-        }
-        SetEx::Cell(t, ns) => {
-            let numbers = eval_nums(alloc, model, ns, args, s)?;
-            set_cell(alloc, model, *t, &numbers)
-        }
-        SetEx::Op(op, a, b) => {
-            let x = eval_counted(alloc, model, a.get(), args, s)?;
-            let y = eval_counted(alloc, model, b.get(), args, s)?;
-            Ok(set_operation(alloc, *op, &x, &y)?)
-        }
-        SetEx::Not(a) => {
-            let x = eval_counted(alloc, model, a.get(), args, s)?;
-            Ok(others(alloc, &x)?)
-        }
-        SetEx::With(n, a) => {
-            let z = eval_num(alloc, model, n.get(), args, s)?;
-            let x = eval_counted(alloc, model, a.get(), args, s)?;
-            Ok(with(alloc, &x, member_of(x.count, z)?)?)
-        }
-        SetEx::Without(n, a) => {
-            let z = eval_num(alloc, model, n.get(), args, s)?;
-            let x = eval_counted(alloc, model, a.get(), args, s)?;
-            Ok(without(alloc, &x, member_of(x.count, z)?)?)
-        }
-        SetEx::If(c, a, b) => {
-            if eval_cond(alloc, model, c.get(), args, s)? {
-                eval_counted(alloc, model, a.get(), args, s)
-            } else {
-                let CountedSet { members, .. } = eval_counted(alloc, model, b.get(), args, s)?;
-                let count = set_count(model, e, s);
-                Ok(CountedSet { count, members })
-            }
-        }
-    }
 }
 
 /// Whether a condition holds in a state, with these values of the parameters, or the fault that it meets. `and`,
 /// `or` and `if` evaluate only what decides them.
-#[cycle(eval)]
 pub fn eval_cond(
     alloc: Global,
     model: &Model,
@@ -141,69 +81,123 @@ pub fn eval_cond(
 ) -> Result<bool, EvalEnd>
     ensures { Answers result (cond_value model.now s.now e.now args.now) }
 {
+    holds(
+        &Scene {
+            alloc,
+            model,
+            args,
+            s,
+        },
+        e,
+    )
+}
+
+/// The value of a number expression.
+#[cycle(eval)]
+fn number(at: &Scene<'_>, e: &Num) -> Result<i64, EvalEnd>
+    ensures { Answers result (num_value at.now.model.now at.now.s.now e.now at.now.args.now) }
+{
+    match e {
+        Num::Fixed(n) => Ok(*n),
+        Num::Var(v) => Ok(number_in(at.s, *v)),
+        Num::Param(p) => Ok(i64::from(parameter(at.args, *p))),
+        Num::Cell(t, ns) => {
+            let values = numbers(at, ns)?;
+            number_cell(at.alloc, at.model, *t, &values)
+        }
+        Num::Sum(t, ts) => {
+            let values = terms(at, ts)?;
+            sum_of(at.alloc, at.model, *t, values.list())
+        }
+        Num::Size(set) => Ok(counted(at, set.get())?.members.list().len() as i64),
+        Num::Op(op, a, b) => Ok(operate(*op, number(at, a.get())?, number(at, b.get())?)?),
+        Num::If(c, a, b) => {
+            if holds(at, c.get())? {
+                number(at, a.get())
+            } else {
+                number(at, b.get())
+            }
+        }
+    }
+}
+
+/// The members of a set expression, with the count of its object type, so that no operator has to look for it.
+#[cycle(eval)]
+fn counted(at: &Scene<'_>, e: &SetEx) -> Result<CountedSet, EvalEnd>
+    ensures count { IfOk result
+        (λ set. set.count ≡ count_of at.now.model.now (set_value at.now.model.now at.now.s.now e.now).0) }
+    ensures members { AnswersBy (λ (set : CountedSet). set.members) result
+        ((set_value at.now.model.now at.now.s.now e.now).1 at.now.args.now) }
+{
+    match e {
+        SetEx::Var(v) => {
+            let count = set_count(at.model, e, at.s);
+            let members = set_in(at.alloc, at.s, *v)?;
+            Ok(CountedSet { count, members })
+        }
+        SetEx::Cell(t, ns) => {
+            let values = numbers(at, ns)?;
+            set_cell(at.alloc, at.model, *t, &values)
+        }
+        SetEx::Op(op, a, b) => {
+            let x = counted(at, a.get())?;
+            let y = counted(at, b.get())?;
+            Ok(set_operation(at.alloc, *op, &x, &y)?)
+        }
+        SetEx::Not(a) => Ok(others(at.alloc, &counted(at, a.get())?)?),
+        SetEx::With(n, a) => {
+            let z = number(at, n.get())?;
+            let x = counted(at, a.get())?;
+            Ok(with(at.alloc, &x, member_of(x.count, z)?)?)
+        }
+        SetEx::Without(n, a) => {
+            let z = number(at, n.get())?;
+            let x = counted(at, a.get())?;
+            Ok(without(at.alloc, &x, member_of(x.count, z)?)?)
+        }
+        SetEx::If(c, a, b) => {
+            if holds(at, c.get())? {
+                counted(at, a.get())
+            } else {
+                let CountedSet { members, .. } = counted(at, b.get())?;
+                let count = set_count(at.model, e, at.s);
+                Ok(CountedSet { count, members })
+            }
+        }
+    }
+}
+
+/// Whether a condition holds.
+#[cycle(eval)]
+fn holds(at: &Scene<'_>, e: &Cond) -> Result<bool, EvalEnd>
+    ensures { Answers result (cond_value at.now.model.now at.now.s.now e.now at.now.args.now) }
+{
     match e {
         Cond::Fixed(b) => Ok(*b),
         Cond::Cell(t, ns) => {
-            let numbers = eval_nums(alloc, model, ns, args, s)?;
-            truth_cell(alloc, model, *t, &numbers)
+            let values = numbers(at, ns)?;
+            truth_cell(at.alloc, at.model, *t, &values)
         }
-        Cond::Numbers(op, a, b) => {
-            let x = eval_num(alloc, model, a, args, s)?;
-            let y = eval_num(alloc, model, b, args, s)?;
-            Ok(compares(*op, x, y))
-        }
-        Cond::SameSet(a, b) => {
-            let x = eval_counted(alloc, model, a, args, s)?;
-            let y = eval_counted(alloc, model, b, args, s)?;
-            Ok(same_members(&x, &y))
-        }
-        Cond::OtherSet(a, b) => {
-            let x = eval_counted(alloc, model, a, args, s)?;
-            let y = eval_counted(alloc, model, b, args, s)?;
-            Ok(!same_members(&x, &y))
-        }
+        Cond::Numbers(op, a, b) => Ok(compares(*op, number(at, a)?, number(at, b)?)),
+        Cond::SameSet(a, b) => Ok(same_members(&counted(at, a)?, &counted(at, b)?)),
+        Cond::OtherSet(a, b) => Ok(!same_members(&counted(at, a)?, &counted(at, b)?)),
         Cond::IsIn(n, a) => {
-            let z = eval_num(alloc, model, n, args, s)?;
-            let x = eval_counted(alloc, model, a, args, s)?;
+            let z = number(at, n)?;
+            let x = counted(at, a)?;
             Ok(has(x.members.list(), member_of(x.count, z)?))
         }
-        Cond::Subset(a, b) => {
-            let x = eval_counted(alloc, model, a, args, s)?;
-            let y = eval_counted(alloc, model, b, args, s)?;
-            Ok(is_subset(alloc, &x, &y)?)
-        }
-        Cond::Empty(a) => Ok(
-            eval_counted(alloc, model, a, args, s)?
-                .members
-                .list()
-                .is_empty(),
-        ),
-        Cond::Not(c) => Ok(!eval_cond(alloc, model, c.get(), args, s)?),
-        Cond::And(a, b) => {
-            Ok(
-                eval_cond(alloc, model, a.get(), args, s)?
-                    && eval_cond(alloc, model, b.get(), args, s)?,
-            )
-        }
-        Cond::Or(a, b) => {
-            Ok(
-                eval_cond(alloc, model, a.get(), args, s)?
-                    || eval_cond(alloc, model, b.get(), args, s)?,
-            )
-        }
+        Cond::Subset(a, b) => Ok(is_subset(at.alloc, &counted(at, a)?, &counted(at, b)?)?),
+        Cond::Empty(a) => Ok(counted(at, a)?.members.list().is_empty()),
+        Cond::Not(c) => Ok(!holds(at, c.get())?),
+        Cond::And(a, b) => Ok(holds(at, a.get())? && holds(at, b.get())?),
+        Cond::Or(a, b) => Ok(holds(at, a.get())? || holds(at, b.get())?),
         Cond::If(c, a, b) => {
-            let decided = eval_cond(alloc, model, c.get(), args, s)?;
-            eval_cond(
-                alloc,
-                model,
-                if decided { a.get() } else { b.get() },
-                args,
-                s,
-            )
+            let decided = holds(at, c.get())?;
+            holds(at, if decided { a.get() } else { b.get() })
         }
         Cond::All(over, c) => {
-            let members = range_of(alloc, model, s, *over)?;
-            eval_all(alloc, model, c.get(), args, s, members.list())
+            let members = range_of(at.alloc, at.model, at.s, *over)?;
+            all_hold(at, c.get(), members.list())
         }
     }
 }
@@ -211,20 +205,19 @@ pub fn eval_cond(
 /// Whether a condition holds with each of these members as one more parameter, up to the first where it does not.
 #[cycle(eval)]
 #[inline(never)]
-fn eval_all(
-    alloc: Global,
-    model: &Model,
-    c: &Cond,
-    args: &Seq<u32>,
-    s: &PlainState,
-    members: &[u32],
-) -> Result<bool, EvalEnd>
+fn all_hold(at: &Scene<'_>, c: &Cond, members: &[u32]) -> Result<bool, EvalEnd>
     ensures { Answers result (each_holds
-        (λ k. cond_value model.now s.now c.now (args.now ++ k ∷ [])) members.now) }
+        (λ k. cond_value at.now.model.now at.now.s.now c.now (at.now.args.now ++ k ∷ [])) members.now) }
 {
     for member in members {
-        let more = with_more(alloc, args, *member)?;
-        if !eval_cond(alloc, model, c, &more, s)? {
+        let more = with_more(at.alloc, at.args, *member)?;
+        let there = Scene {
+            alloc: at.alloc,
+            model: at.model,
+            args: &more,
+            s: at.s,
+        };
+        if !holds(&there, c)? {
             return Ok(false);
         }
     }
@@ -234,37 +227,25 @@ fn eval_all(
 /// The values of number expressions, in order.
 #[cycle(eval)]
 #[inline(never)]
-fn eval_nums(
-    alloc: Global,
-    model: &Model,
-    ns: &Seq<Num>,
-    args: &Seq<u32>,
-    s: &PlainState,
-) -> Result<Seq<i64>, EvalEnd>
-    ensures { Answers result (num_values model.now s.now ns.now args.now) }
+fn numbers(at: &Scene<'_>, ns: &Seq<Num>) -> Result<Seq<i64>, EvalEnd>
+    ensures { Answers result (num_values at.now.model.now at.now.s.now ns.now at.now.args.now) }
 {
-    let mut values = Vec::new(alloc);
+    let mut values = Vec::new(at.alloc);
     for n in ns.list() {
-        values.push(eval_num(alloc, model, n, args, s)?)?;
+        values.push(number(at, n)?)?;
     }
     Ok(Seq::of(values))
 }
 
 /// An argument of a `sum`.
 #[cycle(eval)]
-fn eval_term(
-    alloc: Global,
-    model: &Model,
-    term: &Arg,
-    args: &Seq<u32>,
-    s: &PlainState,
-) -> Result<Term, EvalEnd>
-    ensures { AnswersBy term_value result (arg_value model.now s.now term.now args.now) }
+fn term(at: &Scene<'_>, e: &Arg) -> Result<Term, EvalEnd>
+    ensures { AnswersBy term_value result (arg_value at.now.model.now at.now.s.now e.now at.now.args.now) }
 {
-    match term {
-        Arg::One(n) => Ok(Term::Number(eval_num(alloc, model, n, args, s)?)),
+    match e {
+        Arg::One(n) => Ok(Term::Number(number(at, n)?)),
         Arg::Many(set) => {
-            let CountedSet { members, .. } = eval_counted(alloc, model, set, args, s)?;
+            let CountedSet { members, .. } = counted(at, set)?;
             Ok(Term::Members(members))
         }
     }
@@ -273,18 +254,12 @@ fn eval_term(
 /// The arguments of a `sum`, in order.
 #[cycle(eval)]
 #[inline(never)]
-fn eval_terms(
-    alloc: Global,
-    model: &Model,
-    terms: &Seq<Arg>,
-    args: &Seq<u32>,
-    s: &PlainState,
-) -> Result<Seq<Term>, EvalEnd>
-    ensures { AnswersBy (map term_value) result (term_values model.now s.now terms.now args.now) }
+fn terms(at: &Scene<'_>, es: &Seq<Arg>) -> Result<Seq<Term>, EvalEnd>
+    ensures { AnswersBy (map term_value) result (term_values at.now.model.now at.now.s.now es.now at.now.args.now) }
 {
-    let mut values = Vec::new(alloc);
-    for term in terms.list() {
-        values.push(eval_term(alloc, model, term, args, s)?)?;
+    let mut values = Vec::new(at.alloc);
+    for e in es.list() {
+        values.push(term(at, e)?)?;
     }
     Ok(Seq::of(values))
 }

@@ -7,40 +7,40 @@ use Rattle.dp_eval.proofs.Forall.{all-answers}
 use Rattle.dp_eval.proofs.Cells.{num_cell-answers, num_cell-stops, set_cell-answers, set_cell-stops, cond_cell-answers, cond_cell-stops}
 use Rattle.dp_eval.proofs.evaluate.+eval.Goals as goal
 
-pub eval_cond-returns-in_ok-members-in-All : goal.eval_cond-returns-in_ok-members-in-All
-eval_cond-returns-in_ok-members-in-All t c =
+pub holds-returns-in_ok-members-in-All : goal.holds-returns-in_ok-members-in-All
+holds-returns-in_ok-members-in-All t c =
     let p : conds.out-Cond c.args.e.now ≡ conds.Cond-F.All c.in-All.over c.get-in-All.result.now = search (rules, conds.the_lemmas) in
-    let n : c.deref-in-All.result.now ≡ range_of c.args.model.now c.args.s.now c.in-All.over = search rules in
-    all-answers c.args.model.now c.args.s.now c.in-All.over c.args.e.now c.get-in-All.result.now c.args.args.now c.deref-in-All.result.now c.eval_all.result p n c.eval_all.ensures
+    let n : c.deref-in-All.result.now ≡ range_of c.args.at.now.model.now c.args.at.now.s.now c.in-All.over = search rules in
+    all-answers c.args.at.now.model.now c.args.at.now.s.now c.in-All.over c.args.e.now c.get-in-All.result.now c.args.at.now.args.now c.deref-in-All.result.now c.all_hold.result p n c.all_hold.ensures
 
 -- cells
 
-pub eval_num-returns-in_ok-numbers-in-Cell : goal.eval_num-returns-in_ok-numbers-in-Cell
-eval_num-returns-in_ok-numbers-in-Cell t c =
+pub number-returns-in_ok-values-in-Cell : goal.number-returns-in_ok-values-in-Cell
+number-returns-in_ok-values-in-Cell t c =
     let p : nums.out-Num c.args.e.now ≡ nums.Num-F.Num::Cell c.in-Cell.t c.in-Cell.ns = search (rules, nums.the_lemmas) in
-    num_cell-answers c.args.model.now c.args.s.now c.in-Cell.t c.in-Cell.ns c.args.args.now c.args.e.now c.in_ok-numbers-in-Cell.numbers c.number_cell.result p c.in_ok-numbers-in-Cell.ensures c.number_cell.ensures
+    num_cell-answers c.args.at.now.model.now c.args.at.now.s.now c.in-Cell.t c.in-Cell.ns c.args.at.now.args.now c.args.e.now c.in_ok-values-in-Cell.values c.number_cell.result p c.in_ok-values-in-Cell.ensures c.number_cell.ensures
 
-pub eval_num-returns-in_err-numbers-in-Cell : goal.eval_num-returns-in_err-numbers-in-Cell
-eval_num-returns-in_err-numbers-in-Cell t c =
+pub number-returns-in_err-values-in-Cell : goal.number-returns-in_err-values-in-Cell
+number-returns-in_err-values-in-Cell t c =
     let p : nums.out-Num c.args.e.now ≡ nums.Num-F.Num::Cell c.in-Cell.t c.in-Cell.ns = search (rules, nums.the_lemmas) in
-    num_cell-stops c.args.model.now c.args.s.now c.in-Cell.t c.in-Cell.ns c.args.args.now c.args.e.now c.in_err-numbers-in-Cell.field-0.0 c.from_residual.result p c.from_residual.ensures.1 c.in_err-numbers-in-Cell.ensures
+    num_cell-stops c.args.at.now.model.now c.args.at.now.s.now c.in-Cell.t c.in-Cell.ns c.args.at.now.args.now c.args.e.now c.in_err-values-in-Cell.field-0.0 c.from_residual.result p c.from_residual.ensures.1 c.in_err-values-in-Cell.ensures
 
-pub eval_counted-returns-in_ok-numbers-in-Cell-clause-members : goal.eval_counted-returns-in_ok-numbers-in-Cell-clause-members
-eval_counted-returns-in_ok-numbers-in-Cell-clause-members t c =
+pub counted-returns-in_ok-values-in-Cell-clause-members : goal.counted-returns-in_ok-values-in-Cell-clause-members
+counted-returns-in_ok-values-in-Cell-clause-members t c =
     let p : sets.out-SetEx c.args.e.now ≡ sets.SetEx-F.SetEx::Cell c.in-Cell.t c.in-Cell.ns = search (rules, sets.the_lemmas) in
-    set_cell-answers c.args.model.now c.args.s.now c.in-Cell.t c.in-Cell.ns c.args.args.now c.args.e.now c.in_ok-numbers-in-Cell.numbers c.set_cell.result p c.in_ok-numbers-in-Cell.ensures c.set_cell.ensures.members
+    set_cell-answers c.args.at.now.model.now c.args.at.now.s.now c.in-Cell.t c.in-Cell.ns c.args.at.now.args.now c.args.e.now c.in_ok-values-in-Cell.values c.set_cell.result p c.in_ok-values-in-Cell.ensures c.set_cell.ensures.members
 
-pub eval_counted-returns-in_err-numbers-in-Cell-clause-members : goal.eval_counted-returns-in_err-numbers-in-Cell-clause-members
-eval_counted-returns-in_err-numbers-in-Cell-clause-members t c =
+pub counted-returns-in_err-values-in-Cell-clause-members : goal.counted-returns-in_err-values-in-Cell-clause-members
+counted-returns-in_err-values-in-Cell-clause-members t c =
     let p : sets.out-SetEx c.args.e.now ≡ sets.SetEx-F.SetEx::Cell c.in-Cell.t c.in-Cell.ns = search (rules, sets.the_lemmas) in
-    set_cell-stops c.args.model.now c.args.s.now c.in-Cell.t c.in-Cell.ns c.args.args.now c.args.e.now c.in_err-numbers-in-Cell.field-0.0 c.from_residual-in_err-numbers-in-Cell.result p c.from_residual-in_err-numbers-in-Cell.ensures.1 c.in_err-numbers-in-Cell.ensures
+    set_cell-stops c.args.at.now.model.now c.args.at.now.s.now c.in-Cell.t c.in-Cell.ns c.args.at.now.args.now c.args.e.now c.in_err-values-in-Cell.field-0.0 c.from_residual-in_err-values-in-Cell.result p c.from_residual-in_err-values-in-Cell.ensures.1 c.in_err-values-in-Cell.ensures
 
-pub eval_cond-returns-in_ok-numbers-in-Cell : goal.eval_cond-returns-in_ok-numbers-in-Cell
-eval_cond-returns-in_ok-numbers-in-Cell t c =
+pub holds-returns-in_ok-values-in-Cell : goal.holds-returns-in_ok-values-in-Cell
+holds-returns-in_ok-values-in-Cell t c =
     let p : conds.out-Cond c.args.e.now ≡ conds.Cond-F.Cond::Cell c.in-Cell.t c.in-Cell.ns = search (rules, conds.the_lemmas) in
-    cond_cell-answers c.args.model.now c.args.s.now c.in-Cell.t c.in-Cell.ns c.args.args.now c.args.e.now c.in_ok-numbers-in-Cell.numbers c.truth_cell.result p c.in_ok-numbers-in-Cell.ensures c.truth_cell.ensures
+    cond_cell-answers c.args.at.now.model.now c.args.at.now.s.now c.in-Cell.t c.in-Cell.ns c.args.at.now.args.now c.args.e.now c.in_ok-values-in-Cell.values c.truth_cell.result p c.in_ok-values-in-Cell.ensures c.truth_cell.ensures
 
-pub eval_cond-returns-in_err-numbers-in-Cell : goal.eval_cond-returns-in_err-numbers-in-Cell
-eval_cond-returns-in_err-numbers-in-Cell t c =
+pub holds-returns-in_err-values-in-Cell : goal.holds-returns-in_err-values-in-Cell
+holds-returns-in_err-values-in-Cell t c =
     let p : conds.out-Cond c.args.e.now ≡ conds.Cond-F.Cond::Cell c.in-Cell.t c.in-Cell.ns = search (rules, conds.the_lemmas) in
-    cond_cell-stops c.args.model.now c.args.s.now c.in-Cell.t c.in-Cell.ns c.args.args.now c.args.e.now c.in_err-numbers-in-Cell.field-0.0 c.from_residual.result p c.from_residual.ensures.1 c.in_err-numbers-in-Cell.ensures
+    cond_cell-stops c.args.at.now.model.now c.args.at.now.s.now c.in-Cell.t c.in-Cell.ns c.args.at.now.args.now c.args.e.now c.in_err-values-in-Cell.field-0.0 c.from_residual.result p c.from_residual.ensures.1 c.in_err-values-in-Cell.ensures
