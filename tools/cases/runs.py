@@ -13,29 +13,40 @@ from case_lines import block, entry
 from small_runs import ORDERS, RUNS
 
 CRATE = "crates/cases_runs"
-TABLES = [("one_variable", "first_form_one_variable"), ("first_form", "first_form"), ("refusals", "refusals")]
-MOST_OF_ONE = 6
+# The file, the table, and of how many runs of one kind the first are taken (None: all).
+TABLES = [
+    ("one_variable", "first_form_one_variable", None),
+    ("first_form", "first_form", None),
+    ("refusals", "refusals", 6),
+    ("replay", "replay", 4),
+]
 TEXTS = ("domain", "problem", "list")
 
 
-def refusal(case):
-    """The number of the refusal that a run gives."""
-    return case["stdout"].split(" ")[2] if case["status"] == 3 else None
+def kind(case):
+    """What a run comes to, without its numbers: a refusal, a verdict, an illegal list's reason, a fault and its spot."""
+    words = case["stdout"].splitlines()[0].split(" ")
+    if words[0] == "refused":
+        return words[2:]
+    if words[:2] == ["verdict", "fault"]:
+        places = ("constraint", "base", "total", "precondition", "weight", "cost", "effect")
+        return words[:3] + [word for word in words[4:] if word in places]
+    return [word for word in words if not word.lstrip("-").isdigit()]
 
 
-def chosen(cases):
-    """The cases with their numbers, of each refusal the first few."""
+def chosen(cases, most):
+    """The cases with their numbers, of each kind the first few."""
     seen = Counter()
     for number, case in enumerate(cases, 1):
-        kind = refusal(case)
-        seen[kind] += 1
-        if kind is None or seen[kind] <= MOST_OF_ONE:
+        name = " ".join(kind(case))
+        seen[name] += 1
+        if most is None or seen[name] <= most:
             yield number, case
 
 
-def of_vectors(folder, name):
+def of_vectors(folder, name, most):
     with open(f"{folder}/{name}.json", encoding="utf-8") as file:
-        for number, case in chosen(json.load(file)):
+        for number, case in chosen(json.load(file), most):
             command = case.get("command", "solve")
             words = [command, "d", "p", *["l"] * ("list" in case), *case["words"]]
             texts = [(key, case[key]) for key in TEXTS if key in case]
@@ -62,7 +73,7 @@ def write(name, cases):
 
 
 def main(folder):
-    out = [write(name, of_vectors(folder, vectors)) for name, vectors in TABLES]
+    out = [write(name, of_vectors(folder, table, most)) for name, table, most in TABLES]
     out.append(write("small", RUNS))
     out.append(write("orders", ORDERS))
     with open(f"{CRATE}/stdout", "w", encoding="utf-8") as file:

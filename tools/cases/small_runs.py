@@ -138,7 +138,15 @@ WITHOUT_MEANING = [
     "solve d p --prune on",
     "solve d p --prune off more",
     "Solve d p --prune off",
-    "solve --prune off d p",
+    "solve d p --prune off --prune off",
+    "solve d p --workers 0",
+    "solve d p --prune off --workers 2",
+    "replay d p",
+    "show d",
+    "show d p l",
+    "gen path 2 0",
+    "--help",
+    "solve --help",
 ]
 
 OFF = words("solve d p --prune off")
@@ -147,6 +155,143 @@ OFF = words("solve d p --prune off")
 def with_budget(budget):
     return [*OFF, "--budget", budget]
 
+
+# A tour through three customers with times at which they may be visited.
+TOUR = """\
+domain: tsptw
+cost_type: integer
+reduce: min
+objects:
+  - customer
+state_variables:
+  - name: unvisited
+    type: set
+    object: customer
+  - name: location
+    type: element
+    object: customer
+  - name: time
+    type: integer
+    preference: less
+tables:
+  - { name: ready, type: integer, args: [ customer ] }
+  - { name: due, type: integer, args: [ customer ] }
+  - { name: min_to, type: integer, args: [ customer ] }
+  - name: distance
+    type: integer
+    args: [ customer, customer ]
+    default: 0
+transitions:
+  - name: visit
+    parameters:
+      - name: to
+        object: unvisited
+    preconditions:
+      - (<= (+ time (distance location to)) (due to))
+    effects:
+      unvisited: (remove to unvisited)
+      location: to
+      time: (max (+ time (distance location to)) (ready to))
+    cost: (+ cost (distance location to))
+  - name: return
+    preconditions:
+      - (is_empty unvisited)
+      - (!= location 0)
+    effects:
+      location: 0
+      time: (+ time (distance location 0))
+    cost: (+ cost (distance location 0))
+constraints:
+  - condition: (<= (+ time (distance location j)) (due j))
+    forall:
+      - name: j
+        object: unvisited
+base_cases:
+  - - (is_empty unvisited)
+    - (= location 0)
+dual_bounds:
+  - (+ (sum min_to unvisited)
+       (if (= location 0) 0 (min_to 0)))
+"""
+
+TOUR_OF_FOUR = """\
+domain: tsptw
+problem: four
+object_numbers:
+  customer: 4
+target:
+  unvisited: [ 1, 2, 3 ]
+  location: 0
+  time: 0
+table_values:
+  ready: { 0: 0, 1: 5, 2: 0, 3: 8 }
+  due: { 0: 100, 1: 16, 2: 10, 3: 14 }
+  min_to: { 0: 3, 1: 3, 2: 3, 3: 3 }
+  distance:
+    {
+      [0, 1]: 3, [0, 2]: 4, [0, 3]: 5,
+      [1, 0]: 3, [1, 2]: 5, [1, 3]: 4,
+      [2, 0]: 4, [2, 1]: 5, [2, 3]: 3,
+      [3, 0]: 5, [3, 1]: 4, [3, 2]: 3,
+    }
+"""
+
+TOUR_SHOWN = """\
+domain tsptw
+problem four
+reduce min join plus
+object customer 4
+variable unvisited set customer without
+variable location element customer without
+variable time integer less
+table ready 4
+table due 4
+table min_to 4
+table distance 16
+transition visit 4
+transition return 1
+ground 5
+constraints 1
+bases 1
+bounds 1
+"""
+
+CLIMB_SHOWN = """\
+domain a
+problem one
+reduce min join plus
+variable x integer without
+transition inc 1
+transition jump 1
+ground 2
+constraints 0
+bases 1
+bounds 0
+"""
+
+REPLAY = words("replay d p l")
+SHOW = words("show d p")
+
+
+def replayed(title, steps, stdout, status):
+    return (title, [("list", steps)], [(REPLAY, stdout, status)])
+
+
+# Lists of steps of the climb, and of the tour.
+LISTS = [
+    ("the climb shown", [("domain", CLIMB), ("problem", problem("a", "x", 0))], [(SHOW, CLIMB_SHOWN, 0)]),
+    replayed("the climb", "inc\ninc\ninc\n", "verdict legal 6\n", 0),
+    replayed("no end of a line", "inc\ninc\r\n\ninc", "verdict legal 6\n", 0),
+    replayed("a step behind a base state", "jump\ninc\n", "verdict illegal 1 AfterBase\n", 10),
+    replayed("too few steps", "inc\n", "verdict illegal 1 NotBase\n", 10),
+    replayed("a jump that is not enabled", "inc\njump\n", "verdict illegal 1 NotEnabled\n", 10),
+    replayed("an unknown step", "hop\n", "refused list:1:1 70 UnknownStep\n", 3),
+    replayed("a step with an argument too many", "inc 4\n", "refused list:1:1 71 BadArguments\n", 3),
+    replayed("a list that is no text", "inc\n \udcff", "refused list:2:2 10 NotUtf8\n", 3),
+    ("the problem before the list", [("problem", "")], [(REPLAY, "refused problem:1:1 50 WrongShape\n", 3)]),
+    ("the tour shown", [("domain", TOUR), ("problem", TOUR_OF_FOUR)], [(SHOW, TOUR_SHOWN, 0)]),
+    replayed("the tour", "visit 2\nvisit 3\nvisit 1\nreturn\n", "verdict legal 14\n", 0),
+]
 
 RUNS = [
     (
@@ -160,8 +305,10 @@ RUNS = [
         [
             (words("solve b p --prune off"), "read fault domain\n", 4),
             (words("solve d b --prune off"), "read fault problem\n", 4),
-            (words("solve  --prune --prune off"), "read fault domain\n", 4),
-            (words("solve d --prune --prune off"), "read fault problem\n", 4),
+            (words("solve  p --prune off"), "read fault domain\n", 4),
+            (words("replay d p b"), "read fault list\n", 4),
+            (words("replay d b b"), "read fault problem\n", 4),
+            (words("show d b"), "read fault problem\n", 4),
         ],
     ),
     ("an empty domain", [("domain", "")], [(OFF, "refused domain:1:1 50 WrongShape\n", 3)]),
@@ -179,12 +326,16 @@ RUNS = [
         [
             (with_budget("3"), JUMP_OUT, 0),
             (with_budget("2"), JUMP_STOPPED, 11),
-            (with_budget("00000002"), JUMP_STOPPED, 11),
-            *((with_budget(budget), USAGE, 2) for budget in ("0", "10000001", "000000002", "+2", "")),
+            (with_budget("00000000000000000002"), JUMP_STOPPED, 11),
+            (with_budget("1000000000"), JUMP_OUT, 0),
+            (words("solve --budget=5 d p --prune=off"), JUMP_OUT, 0),
+            (words("solve --prune off d --workers 1 p"), JUMP_OUT, 0),
+            *((with_budget(budget), USAGE, 2) for budget in ("0", "1000000001", "000000000000000000002", "+2", "")),
         ],
     ),
     ("a target that is a base state", [("problem", problem("a", "x", 3))], [(OFF, "solution 0 0\nverdict optimal 0\n", 0)]),
     ("no way", [("domain", STUCK), ("problem", problem("a", "x", 0))], [(OFF, STUCK_OUT, 10)]),
+    *LISTS,
     ("two ways", [("domain", TWO_WAYS), ("problem", problem("b", "a", 0))], [(OFF, TWO_WAYS_OUT, 0)]),
 ]
 

@@ -12,10 +12,11 @@ use std::thread::Threads;
 use std::{fs, io};
 
 /// The files of cases, in the order in which they are run.
-const FILES: [&str; 5] = [
+const FILES: [&str; 6] = [
     "one_variable.txt",
     "first_form.txt",
     "refusals.txt",
+    "replay.txt",
     "small.txt",
     "orders.txt",
 ];

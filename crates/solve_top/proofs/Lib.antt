@@ -1,5 +1,3 @@
-pub mod Digits
-pub mod WordsLists
 pub mod Values
 pub mod Layers
 pub mod Steps
@@ -9,6 +7,7 @@ pub mod Exhausting
 pub mod Passing
 pub mod AtTarget
 pub mod PlainModels
+pub mod StepCounts
 pub mod TextCauses
 pub mod OneMeaning
 pub mod Programs

@@ -1,36 +1,71 @@
 -- What a run of the program came to.
-use Rattle.std.proofs.Common.{◌≡◌, ℕ, ◌≤◌, true, false, List, length, Option, Some, None, ◌⊎◌, inl, inr, refl, sym, ◌∙◌, subst, arith}
-use Rattle.std.specs.Prelude.{IfSome, IfErr, Result, Ok, Err}
+use Rattle.std.proofs.Common.{◌≡◌, ℕ, ◌≤◌, true, false, List, [], ◌∷◌, length, Option, Some, None, ◌⊎◌, inl, inr, refl, sym, ◌∙◌, subst, arith}
+use Rattle.std.specs.Prelude.{IfSome, IfOk, IfErr, Result, Ok, Err}
 use Rattle.std.specs.Result.{IsErrAnd}
 use Rattle.std.proofs.lemmas.Bool.{cases_Bool}
-use Rattle.solve_top.specs.Records.{Ending, Ended, OutOfMemory, ending_status}
+use Rattle.command_line.specs.Jobs.{job_of}
+use Rattle.command_line.specs.declared.jobs.Job.{Job}
+use Rattle.command_line.specs.declared.jobs.Job.TheVariants as jobs
+use Rattle.dp_model.specs.declared.answers.Options.{Options}
 use Rattle.dp_model.specs.declared.answers.Verdict.TheVariants as verdicts
 use Rattle.dp_model.specs.declared.whole.Model.{Model}
-use Rattle.dp_model.specs.declared.answers.Options.{Options}
-use Rattle.solve_top.specs.Texts.{Means, IsRefused}
+use Rattle.replay_list.specs.Replays.{replayed}
+use Rattle.solve_top.specs.Files.{IsText, IsShort, IsLong, AreTexts, OfTexts}
+use Rattle.solve_top.specs.Jobs.{Asks, AskNothing, is_built, names_of}
+use Rattle.solve_top.specs.Outcomes.{NoMemory, Solving, NotYet, Replayed, Shown, ComesOf, Does, Printed}
 use Rattle.solve_top.specs.PlainTest.{is_plain}
-use Rattle.solve_top.specs.Words.{SolveJob, Asks}
-use Rattle.solve_top.specs.Outcomes.{Outcome, Solving, NotYet, ComesOf, OfTexts, IsText, IsShort, IsLong, Printed}
-use Rattle.solve_top.specs.Runs.{outcome_of, RefusedBy}
-use Rattle.solve_top.specs.declared.causes.NoModel.{NoModel}
-use Rattle.solve_top.specs.declared.causes.NoModel.TheVariants as causes
+use Rattle.solve_top.specs.Records.{Ending, Ended, OutOfMemory, ending_status}
+use Rattle.solve_top.specs.Runs.{outcome_of, RefusedBy, IsUnread, GiveNothing}
 use Rattle.solve_top.specs.Solving.{Concluded}
 use Rattle.solve_top.specs.Statuses.{code_of}
+use Rattle.solve_top.specs.Texts.{Means, IsRefused, MeanModel, MeanSteps, AreRefused}
+use Rattle.solve_top.specs.declared.causes.NoModel.{NoModel}
+use Rattle.solve_top.specs.declared.causes.NoModel.TheVariants as causes
 use Rattle.solve_top.specs.declared.status.Status.{Status}
 use Rattle.solve_top.specs.declared.status.Status.TheVariants as statuses
 
--- a model that was loaded was solved
-pub solved : (words : List (List ℕ)) (files : List ℕ → Option (List ℕ)) (job : SolveJob) (m : Model) (before after : Option (List ℕ)) (status : Status) → Asks words job → OfTexts files job (λ d p. Means d p m) → Concluded m job.options before after status →
-    (outcome : Outcome) × ComesOf words files outcome × Printed before after outcome status
-solved words files job m before after status asks texts c = (Solving m job.options c.run, (job, asks, refl, texts, c.right, c.word), c.printed)
-
 -- a model that was loaded was solved, or the plain search does not take it
-pub attempted : (words : List (List ℕ)) (files : List ℕ → Option (List ℕ)) (job : SolveJob) (m : Model) (before after : Option (List ℕ)) (status : Status) → Asks words job → OfTexts files job (λ d p. Means d p m) → (is_plain m ≡ true → Concluded m job.options before after status) → (is_plain m ≡ false → Printed before after (NotYet m) status) →
-    (outcome : Outcome) × ComesOf words files outcome × Printed before after outcome status
-attempted words files job m before after status asks texts plain other = elim (cases_Bool (is_plain m)) [
-  | inl is ↦ solved words files job m before after status asks texts (plain is)
-  | inr isnt ↦ (NotYet m, (job, asks, texts, isnt), other isnt)
+pub attempted : (files : List ℕ → Option (List ℕ)) (domain problem : List ℕ) (options : Options) (m : Model) (before after : Option (List ℕ)) (status : Status) →
+    OfTexts files (domain ∷ problem ∷ []) (λ texts. MeanModel texts m) → (is_plain m ≡ true → Concluded m options before after status) → (is_plain m ≡ false → Printed before after (NotYet m) status) →
+    Does (jobs.Solve domain problem options) files before after status
+attempted files domain problem options m before after status texts plain other = λ words asks. elim (cases_Bool (is_plain m)) [
+  | inl is ↦ let c = plain is in (Solving m options c.run, (domain, problem, asks, texts, c.right, c.word), c.printed)
+  | inr isnt ↦ (NotYet m, (domain, problem, options, asks, texts, isnt), other isnt)
 ]
+
+-- a list was replayed, or memory ran out
+pub was_replayed : (files : List ℕ → Option (List ℕ)) (domain problem list : List ℕ) (m : Model) (steps : List ℕ) (before after : Option (List ℕ)) (status : Status) →
+    OfTexts files (domain ∷ problem ∷ list ∷ []) (λ texts. MeanSteps texts m steps) → Printed before after (Replayed m steps (replayed m steps)) status ⊎ Printed before after NoMemory status →
+    Does (jobs.Replay domain problem list) files before after status
+was_replayed files domain problem list m steps before after status texts (inl printed) = λ words asks. (Replayed m steps (replayed m steps), (domain, problem, list, asks, texts, refl), printed)
+was_replayed files domain problem list m steps before after status texts (inr printed) = λ words asks. (NoMemory, tt, printed)
+
+-- a model that was loaded was shown
+pub was_shown : (files : List ℕ → Option (List ℕ)) (domain problem : List ℕ) (m : Model) (before after : Option (List ℕ)) (status : Status) →
+    OfTexts files (domain ∷ problem ∷ []) (λ texts. MeanModel texts m) → Printed before after (Shown m) status → Does (jobs.Show domain problem) files before after status
+was_shown files domain problem m before after status texts printed = λ words asks. (Shown m, (domain, problem, asks, texts), printed)
+
+-- a job's files gave nothing to work on
+gave_nothing : (files : List ℕ → Option (List ℕ)) (job : Job) (words : List (List ℕ)) (e : NoModel) → Asks words job → GiveNothing files (names_of job) e → ComesOf words files (outcome_of e)
+gave_nothing files job words (causes.ReadFault file) asks h = (job, asks, h)
+gave_nothing files job words (causes.TooLong file) asks h = (job, asks, h)
+gave_nothing files job words (causes.Refused number place offset) asks h = (job, asks, h)
+gave_nothing files job words causes.Memory asks h = tt
+
+pub did_nothing : (files : List ℕ → Option (List ℕ)) (job : Job) (e : NoModel) (before after : Option (List ℕ)) (status : Status) → GiveNothing files (names_of job) e → Printed before after (outcome_of e) status → Does job files before after status
+did_nothing files job e before after status h printed = λ words asks. (outcome_of e, gave_nothing files job words e asks h, printed)
+
+-- words ask for a job that is not built
+asked_nothing : (told : Option Job) (job : Job) → told ≡ Some job → is_built job ≡ false → IfSome told (λ j. is_built j ≡ false)
+asked_nothing None job e h = tt
+asked_nothing (Some other) job e h = let same : other ≡ job = cc in subst (λ (x : Job). is_built x ≡ false) (sym same) h
+
+pub asks_nothing : (words : List (List ℕ)) (job : Job) → job_of words ≡ Some job → is_built job ≡ false → AskNothing words
+asks_nothing words job e h = asked_nothing (job_of words) job e h
+
+-- words ask for no job
+pub ask_none : (words : List (List ℕ)) → job_of words ≡ None → AskNothing words
+ask_none words e = subst (λ (told : Option Job). IfSome told (λ j. is_built j ≡ false)) (sym e) tt
 
 not_read_fault : (e : Ending) → ending_status e ≡ statuses.ReadFault → ⊥
 not_read_fault (Ended (verdicts.Optimal c)) h = absurd cc
@@ -71,37 +106,76 @@ write_fault_code statuses.Negative h = absurd (omega (arith, h))
 write_fault_code statuses.Stopped h = absurd (omega (arith, h))
 write_fault_code statuses.Fault h = absurd (omega (arith, h))
 
--- why there is no model, where the first file was not read
-pub first_cause : (words : List (List ℕ)) (files : List ℕ → Option (List ℕ)) (job : SolveJob) (e : NoModel) → (e ≡ causes.ReadFault 1) ⊎ ((e ≡ causes.TooLong 1) × IfSome (files job.domain) IsLong) ⊎ (e ≡ causes.Memory) → Asks words job → ComesOf words files (outcome_of e)
-first_cause words files job e (inl same) asks = subst (λ (x : NoModel). ComesOf words files (outcome_of x)) (sym same) (job, asks, inl refl)
-first_cause words files job e (inr (inl long)) asks = subst (λ (x : NoModel). ComesOf words files (outcome_of x)) (sym long.0) (job, asks, inl (refl, long.1))
-first_cause words files job e (inr (inr same)) asks = subst (λ (x : NoModel). ComesOf words files (outcome_of x)) (sym same) tt
-
--- where the second file was not read
-pub second_cause : (words : List (List ℕ)) (files : List ℕ → Option (List ℕ)) (job : SolveJob) (e : NoModel) → IfSome (files job.domain) IsShort → (e ≡ causes.ReadFault 2) ⊎ ((e ≡ causes.TooLong 2) × IfSome (files job.problem) IsLong) ⊎ (e ≡ causes.Memory) → Asks words job → ComesOf words files (outcome_of e)
-second_cause words files job e short (inl same) asks = subst (λ (x : NoModel). ComesOf words files (outcome_of x)) (sym same) (job, asks, inr (refl, short))
-second_cause words files job e short (inr (inl long)) asks = subst (λ (x : NoModel). ComesOf words files (outcome_of x)) (sym long.0) (job, asks, inr (refl, short, long.1))
-second_cause words files job e short (inr (inr same)) asks = subst (λ (x : NoModel). ComesOf words files (outcome_of x)) (sym same) tt
+-- ---- files
 
 -- a file whose bytes were read is short
 pub short_file : (told : Option (List ℕ)) (bytes : List ℕ) → IsText told bytes → length bytes ≤ 16777216 → IfSome told IsShort
 short_file None bytes text short = tt
 short_file (Some t) bytes text short = subst (λ (b : List ℕ). length b ≤ 16777216) text short
 
--- why two texts that were read have no model
-refused_cause : (words : List (List ℕ)) (files : List ℕ → Option (List ℕ)) (job : SolveJob) (e : NoModel) → OfTexts files job (λ d p. RefusedBy (IsRefused d p) e) → Asks words job → ComesOf words files (outcome_of e)
-refused_cause words files job (causes.Refused number place offset) h asks = (job, asks, h)
-refused_cause words files job causes.Memory h asks = tt
-refused_cause words files job (causes.ReadFault file) h asks = absurd h.6
-refused_cause words files job (causes.TooLong file) h asks = absurd h.6
+-- why the first file was not read
+pub first_unread : (files : List ℕ → Option (List ℕ)) (name : List ℕ) (names : List (List ℕ)) (e : NoModel) → (e ≡ causes.ReadFault 1) ⊎ ((e ≡ causes.TooLong 1) × IfSome (files name) IsLong) ⊎ (e ≡ causes.Memory) → IsUnread files (name ∷ names) e
+first_unread files name names e (inl same) = subst (IsUnread files (name ∷ names)) (sym same) (inl (refl, tt))
+first_unread files name names e (inr (inl long)) = subst (IsUnread files (name ∷ names)) (sym long.0) (inl (refl, long.1))
+first_unread files name names e (inr (inr same)) = subst (IsUnread files (name ∷ names)) (sym same) tt
 
--- what two texts that were read come to
-module _ (files : List ℕ → Option (List ℕ)) (job : SolveJob) (d p : List ℕ) (text : IsText (files job.domain) d) (other : IsText (files job.problem) p) (short : IsShort d) (also : IsShort p) where
-  pub loaded_cause : (r : Result Model NoModel) → IfErr r (RefusedBy (IsRefused d p)) → IfErr r (λ e. (words : List (List ℕ)) → Asks words job → ComesOf words files (outcome_of e))
-  loaded_cause (Ok m) h = tt
-  loaded_cause (Err e) h = λ words asks. refused_cause words files job e (d, p, text, other, short, also, h) asks
+-- why the second file was not read
+pub second_unread : (files : List ℕ → Option (List ℕ)) (first name : List ℕ) (names : List (List ℕ)) (e : NoModel) → IfSome (files first) IsShort → (e ≡ causes.ReadFault 2) ⊎ ((e ≡ causes.TooLong 2) × IfSome (files name) IsLong) ⊎ (e ≡ causes.Memory) → IsUnread files (first ∷ name ∷ names) e
+second_unread files first name names e short (inl same) = subst (IsUnread files (first ∷ name ∷ names)) (sym same) (inr (short, inl (refl, tt)))
+second_unread files first name names e short (inr (inl long)) = subst (IsUnread files (first ∷ name ∷ names)) (sym long.0) (inr (short, inl (refl, long.1)))
+second_unread files first name names e short (inr (inr same)) = subst (IsUnread files (first ∷ name ∷ names)) (sym same) tt
+
+-- why the third file was not read
+pub third_unread : (files : List ℕ → Option (List ℕ)) (first second name : List ℕ) (names : List (List ℕ)) (e : NoModel) → IfSome (files first) IsShort → IfSome (files second) IsShort → (e ≡ causes.ReadFault 3) ⊎ ((e ≡ causes.TooLong 3) × IfSome (files name) IsLong) ⊎ (e ≡ causes.Memory) → GiveNothing files (first ∷ second ∷ name ∷ names) e
+third_unread files first second name names e short also (inl same) = subst (GiveNothing files (first ∷ second ∷ name ∷ names)) (sym same) (inr (short, inr (also, inl (refl, tt))))
+third_unread files first second name names e short also (inr (inl long)) = subst (GiveNothing files (first ∷ second ∷ name ∷ names)) (sym long.0) (inr (short, inr (also, inl (refl, long.1))))
+third_unread files first second name names e short also (inr (inr same)) = subst (GiveNothing files (first ∷ second ∷ name ∷ names)) (sym same) tt
+
+-- files that were not all read give nothing
+pub unread_gives : (files : List ℕ → Option (List ℕ)) (names : List (List ℕ)) (e : NoModel) → IsUnread files names e → GiveNothing files names e
+unread_gives files names (causes.ReadFault file) h = h
+unread_gives files names (causes.TooLong file) h = h
+unread_gives files names (causes.Refused number place offset) h = absurd h
+unread_gives files names causes.Memory h = tt
+
+-- nor do they with one file more
+pub unread_of_three : (files : List ℕ → Option (List ℕ)) (first second third : List ℕ) (e : NoModel) → IsUnread files (first ∷ second ∷ []) e → GiveNothing files (first ∷ second ∷ third ∷ []) e
+unread_of_three files first second third (causes.ReadFault file) (inl h) = inl h
+unread_of_three files first second third (causes.ReadFault file) (inr (short, inl h)) = inr (short, inl h)
+unread_of_three files first second third (causes.ReadFault file) (inr (short, inr h)) = absurd h.1
+unread_of_three files first second third (causes.TooLong file) (inl h) = inl h
+unread_of_three files first second third (causes.TooLong file) (inr (short, inl h)) = inr (short, inl h)
+unread_of_three files first second third (causes.TooLong file) (inr (short, inr h)) = absurd h.1
+unread_of_three files first second third (causes.Refused number place offset) h = absurd h
+unread_of_three files first second third causes.Memory h = tt
+
+-- texts that are refused give nothing
+pub refused_gives : (files : List ℕ → Option (List ℕ)) (names texts : List (List ℕ)) (e : NoModel) → AreTexts files names texts → RefusedBy (AreRefused texts) e → GiveNothing files names e
+refused_gives files names texts (causes.Refused number place offset) are h = (texts, are, h)
+refused_gives files names texts causes.Memory are h = tt
+refused_gives files names texts (causes.ReadFault file) are h = absurd h
+refused_gives files names texts (causes.TooLong file) are h = absurd h
 
 -- an error that is passed on
-pub passed_on : (r : Result Model NoModel) (e : NoModel) (P : NoModel → Type 0) → IsErrAnd r (λ x. x ≡ e) → P e → IfErr r P
+pub passed_on : {A : Type 0} (r : Result A NoModel) (e : NoModel) (P : NoModel → Type 0) → IsErrAnd r (λ x. x ≡ e) → P e → IfErr r P
 passed_on (Ok m) e P same known = tt
 passed_on (Err x) e P same known = subst P (sym same) known
+
+-- the model of the texts that were read
+pub read_model : (files : List ℕ → Option (List ℕ)) (names : List (List ℕ)) (d p : List ℕ) (r : Result Model NoModel) → AreTexts files names (d ∷ p ∷ []) → IfOk r (λ m. Means d p m) → IfOk r (λ m. OfTexts files names (λ texts. MeanModel texts m))
+read_model files names d p (Ok m) are means = (d ∷ p ∷ [], are, means)
+read_model files names d p (Err e) are means = tt
+
+-- why these texts have no model
+pub read_no_model : (files : List ℕ → Option (List ℕ)) (names : List (List ℕ)) (d p : List ℕ) (r : Result Model NoModel) → AreTexts files names (d ∷ p ∷ []) → IfErr r (RefusedBy (IsRefused d p)) → IfErr r (GiveNothing files names)
+read_no_model files names d p (Ok m) are h = tt
+read_no_model files names d p (Err e) are h = refused_gives files names (d ∷ p ∷ []) e are h
+
+-- the steps of the texts that were read
+pub read_steps : {A : Type 0} (files : List ℕ → Option (List ℕ)) (names texts : List (List ℕ)) (model : A → Model) (steps : A → List ℕ) (r : Result A NoModel) → AreTexts files names texts → IfOk r (λ l. MeanSteps texts (model l) (steps l)) → IfOk r (λ l. OfTexts files names (λ ts. MeanSteps ts (model l) (steps l)))
+read_steps files names texts model steps (Ok l) are means = (texts, are, means)
+read_steps files names texts model steps (Err e) are means = tt
+
+pub read_no_steps : {A : Type 0} (files : List ℕ → Option (List ℕ)) (names texts : List (List ℕ)) (r : Result A NoModel) → AreTexts files names texts → IfErr r (RefusedBy (AreRefused texts)) → IfErr r (GiveNothing files names)
+read_no_steps files names texts (Ok l) are h = tt
+read_no_steps files names texts (Err e) are h = refused_gives files names texts e are h

@@ -1,5 +1,5 @@
 -- Why the texts of a domain and a problem have no model.
-use Rattle.std.proofs.Common.{◌≡◌, ℕ, List, inl, inr, refl}
+use Rattle.std.proofs.Common.{◌≡◌, ℕ, List, [], ◌∷◌, inl, inr, refl}
 use Rattle.std.specs.Prelude.{Result, Ok, Err, IfOk, IfErr}
 use Rattle.dp_model.specs.declared.whole.Model.{Model}
 use Rattle.yaml_scan.specs.declared.line.ScanEnd.TheVariants as lines
@@ -12,8 +12,12 @@ use Rattle.dypdl_nodes.specs.Reads.{Refusal}
 use Rattle.dypdl_rules.specs.Expressions.{Reading, IsReading}
 use Rattle.dypdl_load.specs.Meaning.{meaning, parts_of}
 use Rattle.dypdl_load.proofs.Readings.{the_reading, reads}
-use Rattle.solve_top.specs.Texts.{IsUnreadAs, Read, Means, IsRefused}
-use Rattle.solve_top.specs.Runs.{unread_as, RefusedBy}
+use Rattle.dp_base.specs.Results.{Refuses}
+use Rattle.replay_list.specs.StepLists.{steps_in, told}
+use Rattle.replay_list.specs.declared.ends.ListEnd.{ListEnd}
+use Rattle.replay_list.specs.declared.ends.ListEnd.TheVariants as lists
+use Rattle.solve_top.specs.Texts.{IsUnreadAs, Read, Means, IsRefused, IsNoList, AreRefused, list_refusal}
+use Rattle.solve_top.specs.Runs.{cause_of, unread_as, RefusedBy}
 use Rattle.solve_top.specs.declared.causes.NoModel.{NoModel}
 use Rattle.solve_top.specs.declared.causes.NoModel.TheVariants as causes
 
@@ -66,3 +70,26 @@ module _ (d p : List ℕ) where
     pub whole_means : (result : Result Model NoModel) → IfOk result IsMeant → IfOk result (Means d p)
     whole_means (Ok m) h = (both, h the_reading reads)
     whole_means (Err e) h = tt
+
+-- ---- lists
+
+-- a text that is no list is refused as it, or memory ran out
+pub no_list_by : (m : Model) (list : List ℕ) (end : ListEnd) → Refuses (told end) (steps_in m list) → RefusedBy (IsNoList m list) (cause_of (list_refusal end))
+no_list_by m list (lists.NotUtf8 at) h = record { end = lists.NotUtf8 at; first = h; refusal = refl }
+no_list_by m list (lists.UnknownStep at) h = record { end = lists.UnknownStep at; first = h; refusal = refl }
+no_list_by m list (lists.BadArguments at) h = record { end = lists.BadArguments at; first = h; refusal = refl }
+no_list_by m list lists.Memory h = tt
+
+-- what is refused of a domain and a problem is refused of these and a list
+pub refused_of_three : (d p l : List ℕ) (e : NoModel) → RefusedBy (IsRefused d p) e → RefusedBy (AreRefused (d ∷ p ∷ l ∷ [])) e
+refused_of_three d p l (causes.Refused number place offset) h = inl h
+refused_of_three d p l causes.Memory h = tt
+refused_of_three d p l (causes.ReadFault file) h = absurd h
+refused_of_three d p l (causes.TooLong file) h = absurd h
+
+-- and so is what is refused of the list
+pub refused_list : (d p l : List ℕ) (m : Model) (e : NoModel) → Means d p m → RefusedBy (IsNoList m l) e → RefusedBy (AreRefused (d ∷ p ∷ l ∷ [])) e
+refused_list d p l m (causes.Refused number place offset) means h = inr (m, means, h)
+refused_list d p l m causes.Memory means h = tt
+refused_list d p l m (causes.ReadFault file) means h = absurd h
+refused_list d p l m (causes.TooLong file) means h = absurd h

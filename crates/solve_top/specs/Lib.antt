@@ -1,10 +1,10 @@
-pub mod Words
 pub mod Statuses
 pub mod Records
 pub mod Texts
 pub mod PlainTest
-pub mod Outcomes
 pub mod Jobs
+pub mod Files
+pub mod Outcomes
 pub mod Plain
 pub mod Search
 pub mod Solving

@@ -1,8 +1,9 @@
 -- What a run comes to where there is no model to search.
-use Rattle.std.specs.Prelude.{Option, None, Some, ⊤}
+use Rattle.std.specs.Prelude.{ℕ, List, Option, None, Some, ⊤}
 use Rattle.yaml_tree.specs.declared.tree.YamlEnd.{YamlEnd}
 use Rattle.dypdl_nodes.specs.Reads.{Refusal}
-use Rattle.solve_top.specs.Texts.{tree_refusal}
+use Rattle.solve_top.specs.Files.{IsReached, IsFirstLong, OfTexts}
+use Rattle.solve_top.specs.Texts.{AreRefused, tree_refusal}
 use Rattle.solve_top.specs.Outcomes.{Outcome, ReadFault, TooLong, Refused, NoMemory}
 use Rattle.solve_top.specs.declared.causes.NoModel.{NoModel}
 use Rattle.solve_top.specs.declared.causes.NoModel.TheVariants as causes
@@ -28,3 +29,17 @@ RefusedBy P (causes.Refused number place offset) = P (record { number = number; 
 RefusedBy P causes.Memory = ⊤
 RefusedBy P (causes.ReadFault file) = ⊥
 RefusedBy P (causes.TooLong file) = ⊥
+
+-- why the files of these names were not all read: no text is looked at here
+abbrev pub IsUnread : (List ℕ → Option (List ℕ)) → (names : List (List ℕ)) → NoModel → Type 0
+IsUnread files names (causes.ReadFault file) = IsReached files names file
+IsUnread files names (causes.TooLong file) = IsFirstLong files names file
+IsUnread files names (causes.Refused number place offset) = ⊥
+IsUnread files names causes.Memory = ⊤
+
+-- why the files of these names give nothing to work on
+abbrev pub GiveNothing : (List ℕ → Option (List ℕ)) → (names : List (List ℕ)) → NoModel → Type 0
+GiveNothing files names (causes.ReadFault file) = IsReached files names file
+GiveNothing files names (causes.TooLong file) = IsFirstLong files names file
+GiveNothing files names (causes.Refused number place offset) = OfTexts files names (λ texts. AreRefused texts (record { number = number; place = place; offset = offset }))
+GiveNothing files names causes.Memory = ⊤

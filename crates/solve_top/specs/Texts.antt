@@ -1,5 +1,5 @@
--- What the texts of a domain and a problem mean, or what is refused of them first.
-use Rattle.std.specs.Prelude.{◌≡◌, ℕ, ◌⊎◌, List, Option, None, Some, Ok, Err}
+-- What the texts of a domain, a problem and a list of steps mean, or what is refused of them first.
+use Rattle.std.specs.Prelude.{◌≡◌, ℕ, ◌⊎◌, List, [], ◌∷◌, Option, None, Some, Ok, Err}
 use Rattle.dp_base.specs.declared.place.Place.{Place}
 use Rattle.dp_model.specs.declared.whole.Model.{Model}
 use Rattle.yaml_scan.specs.declared.line.ScanEnd.{ScanEnd}
@@ -11,6 +11,9 @@ use Rattle.yaml_tree.specs.Texts.{Spells, Refused as IsUnread}
 use Rattle.dypdl_nodes.specs.Reads.{Refusal}
 use Rattle.dypdl_rules.specs.Expressions.{Reading, IsReading}
 use Rattle.dypdl_load.specs.Meaning.{meaning, parts_of}
+use Rattle.replay_list.specs.StepLists.{steps_in}
+use Rattle.replay_list.specs.declared.ends.ListEnd.{ListEnd}
+use Rattle.replay_list.specs.declared.ends.ListEnd.TheVariants as lists
 
 -- ---- texts without a tree
 
@@ -60,3 +63,40 @@ IsRefused domain problem r =
     IsUnreadAs 1 domain r
     ⊎ (((tree : Tree) × Spells 1 domain tree × IsUnreadAs 2 problem r)
     ⊎ ((both : Read domain problem) × (meaning both.read both.domain_tree both.problem_tree ≡ Err r)))
+
+-- ---- the list of steps, which is file 3
+
+-- what a text is refused as that is no list of steps: want of memory is no refusal
+abbrev pub list_refusal : ListEnd → Option Refusal
+list_refusal (lists.NotUtf8 at) = refusal_at 10 at
+list_refusal (lists.UnknownStep at) = refusal_at 70 at
+list_refusal (lists.BadArguments at) = refusal_at 71 at
+list_refusal lists.Memory = None
+
+-- the text is no list of steps of the model, and this is refused first
+pub record IsNoList (m : Model) (list : List ℕ) (r : Refusal) : Type 0 where
+  pub end : ListEnd
+  pub first : steps_in m list ≡ Err end
+  pub refusal : list_refusal end ≡ Some r
+
+-- ---- all texts of a run
+
+-- the first two texts mean this model
+abbrev pub MeanModel : List (List ℕ) → Model → Type 0
+MeanModel (domain ∷ problem ∷ more) m = Means domain problem m
+MeanModel (domain ∷ []) m = ⊥
+MeanModel [] m = ⊥
+
+-- the texts mean this model, and the third these steps of it
+abbrev pub MeanSteps : List (List ℕ) → Model → List ℕ → Type 0
+MeanSteps (domain ∷ problem ∷ list ∷ more) m steps = Means domain problem m × (steps_in m list ≡ Ok steps)
+MeanSteps (domain ∷ problem ∷ []) m steps = ⊥
+MeanSteps (domain ∷ []) m steps = ⊥
+MeanSteps [] m steps = ⊥
+
+-- what is refused first of the texts: of the first two, or else of the list
+abbrev pub AreRefused : List (List ℕ) → Refusal → Type 0
+AreRefused (domain ∷ problem ∷ list ∷ more) r = IsRefused domain problem r ⊎ ((m : Model) × Means domain problem m × IsNoList m list r)
+AreRefused (domain ∷ problem ∷ []) r = IsRefused domain problem r
+AreRefused (domain ∷ []) r = ⊥
+AreRefused [] r = ⊥

@@ -1,8 +1,8 @@
-//! Why there is no model to search.
+//! Why there is nothing to work on.
 
 use dp_base::Place;
 
-/// Why there is no model to search. File 1 is the domain, and 2 the problem.
+/// Why there is nothing to work on. File 1 is the domain, 2 the problem, and 3 the list of steps.
 #[derive(Debug, Drop)]
 pub enum NoModel {
     ReadFault(u8),

@@ -2,14 +2,17 @@
 #![tactic(auto)]
 
 mod causes;
+mod files;
+mod jobs;
 mod laws;
+mod loading;
 mod plain;
 mod program;
+mod replaying;
 mod search;
 mod solving;
 mod status;
 mod texts;
-mod words;
 
 pub use laws::one_model;
 pub use program::run;

@@ -1,70 +1,41 @@
 //! The top call: what the program does with its words.
 
-ghost use Rattle.std.specs.Prelude.{◌≡◌, ◌≤◌, ◌⊎◌, ◌++◌, true, false, ℕ, List, map, string_bytes, length, IfOk, IfErr, IfSome};
+ghost use Rattle.std.specs.Prelude.{◌≡◌, ◌≤◌, ◌<◌, ◌^◌, ◌⊎◌, ◌++◌, true, false, ℕ, List, Option, Some, None, map, string_bytes, length};
 ghost use Rattle.dp_outside.specs.Outside.{Rose};
-ghost use Rattle.solve_top.specs.Words.{Asks};
-ghost use Rattle.solve_top.specs.Jobs.{job_of};
+ghost use Rattle.command_line.specs.Jobs.{job_of};
+ghost use Rattle.command_line.specs.declared.jobs.Job.TheVariants as jobs;
+ghost use Rattle.replay_list.specs.Replays.{replayed};
+ghost use Rattle.solve_top.specs.Jobs.{is_built as built_test};
 ghost use Rattle.solve_report.specs.Lines.{file_name as name_of_file};
 ghost use Rattle.solve_report.specs.Puts.{Puts};
 ghost use Rattle.dp_base.specs.Bytes.{line};
 ghost use Rattle.solve_top.specs.Statuses.{code_of};
 ghost use Rattle.solve_top.specs.declared.status.Status.{Status};
-ghost use Rattle.solve_top.specs.Outcomes.{Outcome, NoMeaning, NotYet, IsText, IsLong, OfTexts, ComesOf, Printed};
+ghost use Rattle.solve_top.specs.Outcomes.{Outcome, NoMeaning, NotYet, ComesOf, Does, Printed};
+ghost use Rattle.solve_top.specs.Outcomes as outcomes;
 ghost use Rattle.solve_top.specs.Runs.{outcome_of};
 ghost use Rattle.solve_top.specs.declared.causes.NoModel.TheVariants as causes;
-ghost use Rattle.solve_top.specs.Texts.{Means};
 ghost use Rattle.solve_top.specs.PlainTest.{is_plain as plain_test};
 ghost use Rattle.solve_top.specs.Solving.{Concluded};
 
 use crate::causes::NoModel;
+use crate::jobs::is_built;
+use crate::loading::{Listed, load, load_listed};
 use crate::plain::is_plain;
-use crate::solving::{run_out, solve};
+use crate::replaying::verdict_on;
+use crate::solving::{conclude, run_out, solve};
 use crate::status::{Status, status_after};
-use crate::texts::model_of;
-use crate::words::{Job, read_words};
-use dp_base::{FILE_LIMIT, Place};
+use command_line::{Job, WordsEnd, read_words};
+use dp_base::{Place, Text};
 use dp_model::{Model, Options};
-use dp_outside::{Failed, Gate, ReadEnd, Shelf, Sink, read_all};
-use solve_report::{Piece, file_name, put_line, put_pieces, put_refusal};
-use std::alloc::Global;
+use dp_outside::{Failed, Gate, Shelf, Sink};
+use solve_report::{Piece, file_name, put_line, put_pieces, put_refusal, put_show};
+use std::alloc::{AllocError, Global};
 use std::sync::Wait;
 use std::thread::Threads;
 
 /// What is told of a model that no search takes yet.
 const NOT_YET: u8 = 90;
-
-fn read_file<F: Shelf>(
-    alloc: Global,
-    shelf: &mut F,
-    name: &str,
-    file: u8,
-) -> Result<Vec<u8>, NoModel>
-    ensures text { IfOk result (λ v. IsText (F.bytes_under shelf.old name.now) v.items) }
-    ensures short { IfOk result (λ v. length v.items ≤ 16777216) }
-    ensures cause { IfErr result (λ e. (e ≡ causes.ReadFault file) ⊎ ((e ≡ causes.TooLong file) × IfSome (F.bytes_under shelf.old name.now) IsLong) ⊎ (e ≡ causes.Memory)) }
-    ensures fault { IfErr result (λ e. e ≡ causes.ReadFault file → Rose (F.faults shelf.old) (F.faults shelf.new)) }
-    ensures count { F.faults shelf.old ≤ F.faults shelf.new }
-    ensures telling { (other : List ℕ) → F.bytes_under shelf.new other ≡ F.bytes_under shelf.old other }
-{
-    match read_all(alloc, shelf, name, FILE_LIMIT as u64) {
-        Ok(bytes) => Ok(bytes),
-        Err(ReadEnd::Fault) => Err(NoModel::ReadFault(file)),
-        Err(ReadEnd::TooLong) => Err(NoModel::TooLong(file)),
-        Err(ReadEnd::Memory) => Err(NoModel::Memory),
-    }
-}
-
-/// Reads the two files and loads the model that they mean.
-fn load<F: Shelf>(alloc: Global, shelf: &mut F, job: &Job<'_>) -> Result<Model, NoModel>
-    ensures model { IfOk result (λ model. OfTexts (F.bytes_under shelf.old) (job_of job.now) (λ d p. Means d p model)) }
-    ensures cause { IfErr result (λ e. (words : List (List ℕ)) → Asks words (job_of job.now) → ComesOf words (F.bytes_under shelf.old) (outcome_of e)) }
-    ensures fault { (file : ℕ) → IfErr result (λ e. e ≡ causes.ReadFault file → Rose (F.faults shelf.old) (F.faults shelf.new)) }
-    ensures count { F.faults shelf.old ≤ F.faults shelf.new }
-{
-    let domain = read_file(alloc, shelf, job.domain, 1)?;
-    let problem = read_file(alloc, shelf, job.problem, 2)?;
-    model_of(alloc, &domain, &problem)
-}
 
 /// Prints a line of words and the name of a file.
 fn put_file_line<S: Sink>(out: &mut S, words: &str, file: u8) -> Result<(), Failed>
@@ -138,6 +109,137 @@ fn try_search<S: Sink>(alloc: Global, out: &mut S, model: &Model, options: &Opti
     }
 }
 
+/// Solves the model in two files.
+fn solve_files<F: Shelf, S: Sink>(
+    alloc: Global,
+    shelf: &mut F,
+    out: &mut S,
+    domain: &Text,
+    problem: &Text,
+    options: &Options,
+) -> Status
+    requires { options.now.budget ≤ 1000000000 }
+    ensures printed { Does (jobs.Solve domain.now problem.now options.now) (F.bytes_under shelf.old) (S.taken out.old) (S.taken out.new) result }
+    ensures read_fault { result ≡ Status.ReadFault → Rose (F.faults shelf.old) (F.faults shelf.new) }
+    ensures write_fault { result ≡ Status.WriteFault → Rose (S.faults out.old) (S.faults out.new) }
+{
+    match load(alloc, shelf, domain, problem) {
+        Ok(model) => try_search(alloc, out, &model, options),
+        Err(cause) => put_cause(out, &cause),
+    }
+}
+
+/// Prints the verdict of the replay of a list, and answers the status.
+fn put_replay<S: Sink>(alloc: Global, out: &mut S, listed: Listed) -> Status
+    requires { length listed.steps < 2 ^ 32 }
+    ensures printed { Printed (S.taken out.old) (S.taken out.new) (outcomes.Replayed listed.model listed.steps (replayed listed.model listed.steps)) result
+        ⊎ Printed (S.taken out.old) (S.taken out.new) outcomes.NoMemory result }
+    ensures read_fault { result ≡ Status.ReadFault → ⊥ }
+    ensures failed { result ≡ Status.WriteFault → Rose (S.faults out.old) (S.faults out.new) }
+{
+    let Listed { model, steps } = listed;
+    match verdict_on(alloc, &model, steps) {
+        Ok(verdict) => conclude(out, &model, &verdict),
+        Err(AllocError) => run_out(out),
+    }
+}
+
+/// Replays the list in the last of three files in the model that the others mean.
+fn replay_files<F: Shelf, S: Sink>(
+    alloc: Global,
+    shelf: &mut F,
+    out: &mut S,
+    domain: &Text,
+    problem: &Text,
+    list: &Text,
+) -> Status
+    ensures printed { Does (jobs.Replay domain.now problem.now list.now) (F.bytes_under shelf.old) (S.taken out.old) (S.taken out.new) result }
+    ensures read_fault { result ≡ Status.ReadFault → Rose (F.faults shelf.old) (F.faults shelf.new) }
+    ensures write_fault { result ≡ Status.WriteFault → Rose (S.faults out.old) (S.faults out.new) }
+{
+    match load_listed(alloc, shelf, domain, problem, list) {
+        Ok(listed) => put_replay(alloc, out, listed),
+        Err(cause) => put_cause(out, &cause),
+    }
+}
+
+/// Prints what was understood of a model, and answers the status.
+fn put_shown<S: Sink>(out: &mut S, model: &Model) -> Status
+    ensures printed { Printed (S.taken out.old) (S.taken out.new) (outcomes.Shown model.now) result }
+    ensures read_fault { result ≡ Status.ReadFault → ⊥ }
+    ensures failed { result ≡ Status.WriteFault → Rose (S.faults out.old) (S.faults out.new) }
+{
+    status_after(put_show(out, model), Status::Success)
+}
+
+/// Says what was understood of the model in two files.
+fn show_files<F: Shelf, S: Sink>(
+    alloc: Global,
+    shelf: &mut F,
+    out: &mut S,
+    domain: &Text,
+    problem: &Text,
+) -> Status
+    ensures printed { Does (jobs.Show domain.now problem.now) (F.bytes_under shelf.old) (S.taken out.old) (S.taken out.new) result }
+    ensures read_fault { result ≡ Status.ReadFault → Rose (F.faults shelf.old) (F.faults shelf.new) }
+    ensures write_fault { result ≡ Status.WriteFault → Rose (S.faults out.old) (S.faults out.new) }
+{
+    match load(alloc, shelf, domain, problem) {
+        Ok(model) => put_shown(out, &model),
+        Err(cause) => put_cause(out, &cause),
+    }
+}
+
+/// Does a job that is built.
+fn perform_job<F: Shelf, S: Sink>(alloc: Global, shelf: &mut F, out: &mut S, job: &Job) -> Status
+    requires { built_test job.now ≡ true }
+    ensures printed { Does job.now (F.bytes_under shelf.old) (S.taken out.old) (S.taken out.new) result }
+    ensures read_fault { result ≡ Status.ReadFault → Rose (F.faults shelf.old) (F.faults shelf.new) }
+    ensures write_fault { result ≡ Status.WriteFault → Rose (S.faults out.old) (S.faults out.new) }
+{
+    match job {
+        Job::Solve {
+            domain,
+            problem,
+            options,
+        } => solve_files(alloc, shelf, out, domain, problem, options),
+        Job::Replay {
+            domain,
+            problem,
+            list,
+        } => replay_files(alloc, shelf, out, domain, problem, list),
+        Job::Show { domain, problem } => show_files(alloc, shelf, out, domain, problem),
+        Job::Gen { .. } => unreachable!(),
+    }
+}
+
+/// Does a job, if it is built.
+fn take_job<F: Shelf, S: Sink>(alloc: Global, shelf: &mut F, out: &mut S, job: &Job) -> Status
+    ensures printed { (words : List (List ℕ)) → job_of words ≡ Some job.now
+        → (outcome : Outcome) × ComesOf words (F.bytes_under shelf.old) outcome × Printed (S.taken out.old) (S.taken out.new) outcome result }
+    ensures read_fault { result ≡ Status.ReadFault → Rose (F.faults shelf.old) (F.faults shelf.new) }
+    ensures write_fault { result ≡ Status.WriteFault → Rose (S.faults out.old) (S.faults out.new) }
+{
+    if is_built(job) {
+        perform_job(alloc, shelf, out, job)
+    } else {
+        put_usage(out)
+    }
+}
+
+/// Prints why the words give no job, and answers the status.
+fn put_no_job<S: Sink>(out: &mut S, end: WordsEnd) -> Status
+    ensures printed { (words : List (List ℕ)) (files : List ℕ → Option (List ℕ)) → (end ≡ WordsEnd.Usage → job_of words ≡ None)
+        → (outcome : Outcome) × ComesOf words files outcome × Printed (S.taken out.old) (S.taken out.new) outcome result }
+    ensures read_fault { result ≡ Status.ReadFault → ⊥ }
+    ensures failed { result ≡ Status.WriteFault → Rose (S.faults out.old) (S.faults out.new) }
+{
+    match end {
+        WordsEnd::Usage => put_usage(out),
+        WordsEnd::Memory => run_out(out),
+    }
+}
+
 /// Does what the words ask for.
 fn perform<F: Shelf, S: Sink>(
     alloc: Global,
@@ -150,12 +252,9 @@ fn perform<F: Shelf, S: Sink>(
     ensures read_fault { result ≡ Status.ReadFault → Rose (F.faults shelf.old) (F.faults shelf.new) }
     ensures write_fault { result ≡ Status.WriteFault → Rose (S.faults out.old) (S.faults out.new) }
 {
-    let Some(job) = read_words(words) else {
-        return put_usage(out);
-    };
-    match load(alloc, shelf, &job) {
-        Ok(model) => try_search(alloc, out, &model, &job.options),
-        Err(cause) => put_cause(out, &cause),
+    match read_words(alloc, words) {
+        Ok(job) => take_job(alloc, shelf, out, &job),
+        Err(end) => put_no_job(out, end),
     }
 }
 

@@ -56,7 +56,7 @@ fn status_of(verdict: &Verdict) -> Status
 }
 
 /// Prints a verdict, and answers its status, or that of a failed write.
-fn conclude<S: Sink>(out: &mut S, model: &Model, verdict: &Verdict) -> Status
+pub fn conclude<S: Sink>(out: &mut S, model: &Model, verdict: &Verdict) -> Status
     ensures printed { ((result ≡ verdict_status verdict.now) × Takes (S.taken out.old) (S.taken out.new) (verdict_text model.now verdict.now))
         ⊎ ((result ≡ Status.WriteFault) × TakesFront (S.taken out.old) (S.taken out.new) (verdict_text model.now verdict.now)) }
     ensures failed { result ≡ Status.WriteFault → Rose (S.faults out.old) (S.faults out.new) }

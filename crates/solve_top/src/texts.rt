@@ -1,17 +1,19 @@
-//! The model that the texts of a domain and a problem mean.
+//! The model that the texts of a domain and a problem mean, and the steps of it that a list means.
 
 ghost use Rattle.std.specs.Prelude.{◌≡◌, ◌≤◌, length, None, Ok, Err, IfOk, IfErr};
 ghost use Rattle.yaml_tree.specs.Texts.{Spells};
 ghost use Rattle.dypdl_rules.specs.Expressions.{Reading, IsReading};
 ghost use Rattle.dypdl_load.specs.Meaning.{meaning, parts_of};
-ghost use Rattle.solve_top.specs.Texts.{IsUnreadAs, Means, IsRefused, lines_refusal};
+ghost use Rattle.replay_list.specs.StepLists.{steps_in};
+ghost use Rattle.solve_top.specs.Texts.{IsUnreadAs, Means, IsRefused, IsNoList, lines_refusal, list_refusal};
 ghost use Rattle.solve_top.specs.Runs.{cause_of, unread_as, RefusedBy};
 ghost use Rattle.solve_top.specs.declared.causes.NoModel.TheVariants as causes;
 
 use crate::causes::NoModel;
 use dp_base::Place;
-use dp_model::Model;
+use dp_model::{Model, Seq};
 use dypdl_load::{LoadEnd, load};
+use replay_list::{ListEnd, read_list};
 use std::alloc::Global;
 use yaml_scan::ScanEnd;
 use yaml_tree::{Tree, YamlEnd};
@@ -30,6 +32,10 @@ const TWICE_KEY: u8 = 15;
 const TOO_DEEP: u8 = 16;
 /// A form of YAML that models do not use.
 const OUT_OF_PROFILE: u8 = 17;
+/// A line that is no step.
+const UNKNOWN_STEP: u8 = 70;
+/// A line with a transition's name and other arguments than it has.
+const BAD_ARGUMENTS: u8 = 71;
 
 fn refused(number: u8, place: Place) -> NoModel
     ensures { result ≡ causes.Refused number place None }
@@ -112,4 +118,29 @@ pub fn model_of(alloc: Global, domain: &[u8], problem: &[u8]) -> Result<Model, N
     let domain = read_tree(alloc, 1, domain)?;
     let problem = read_tree(alloc, 2, problem)?;
     model_of_trees(alloc, &domain, &problem)
+}
+
+/// Why a text is no list of steps.
+fn no_list(end: ListEnd) -> NoModel
+    ensures { result ≡ cause_of (list_refusal end) }
+{
+    match end {
+        ListEnd::NotUtf8(place) => refused(NOT_UTF8, place),
+        ListEnd::UnknownStep(place) => refused(UNKNOWN_STEP, place),
+        ListEnd::BadArguments(place) => refused(BAD_ARGUMENTS, place),
+        ListEnd::Memory => NoModel::Memory,
+    }
+}
+
+/// The steps of a model that the text of a list means.
+#[tactic(auto, using(crate::proofs::TextCauses::no_list_by))]
+pub fn steps_of(alloc: Global, model: &Model, list: &[u8]) -> Result<Seq<u32>, NoModel>
+    requires { length list.now ≤ 16777216 }
+    ensures steps { IfOk result (λ steps. steps_in model.now list.now ≡ Ok steps) }
+    ensures cause { IfErr result (RefusedBy (IsNoList model.now list.now)) }
+{
+    match read_list(alloc, model, list) {
+        Ok(steps) => Ok(steps),
+        Err(end) => Err(no_list(end)),
+    }
 }
