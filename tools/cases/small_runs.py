@@ -51,6 +51,57 @@ base_cases:
   - - (= x 3)
 """
 
+# The climb or the jump in flow maps over several lines, with quoted keys and values and commas at the ends.
+CLIMB_IN_FLOW = """\
+{ "domain": 'a',
+  state_variables: [ { "name": x,
+    type: "integer" } ],
+  transitions: [
+    { name: 'inc', preconditions: [ "(< x 3)", ], effects: { 'x': (+ x 1) },
+# a comment at the front of a line
+cost: (+ cost
+  2) },
+    {
+      "name":"jump", preconditions:
+        [ '(= x 0)' ], effects: { "x":3, }, cost: "(+ cost 5)",
+    } # and one behind a bracket
+  ],
+  'base_cases': [ [ (= x
+      3) ] ] }
+"""
+
+CLIMB_FROM_IN_FLOW = """\
+{
+domain: "a", "problem":'one',
+target:
+  { 'x':
+    0
+  }
+}
+"""
+
+# The same in block maps with quoted scalars and with a scalar over two lines.
+CLIMB_IN_QUOTES = """\
+'domain': "a"
+"state_variables":
+- "name": 'x'
+  'type': "integer"
+"transitions":
+- name: "inc"
+  preconditions: [ '(< x 3)' ]
+  effects: { x: "(+ x 1)" }
+  cost: (+ cost
+    2)
+- name: 'jump'
+  preconditions:
+  - "(= x 0)"
+  effects:
+    "x": '3'
+  cost: '(+ cost 5)'
+"base_cases":
+- - '(= x 3)'
+"""
+
 # The climb without its jump and with a step that ends below the base state.
 STUCK = """\
 domain: a
@@ -337,6 +388,12 @@ RUNS = [
     ("no way", [("domain", STUCK), ("problem", problem("a", "x", 0))], [(OFF, STUCK_OUT, 10)]),
     *LISTS,
     ("two ways", [("domain", TWO_WAYS), ("problem", problem("b", "a", 0))], [(OFF, TWO_WAYS_OUT, 0)]),
+    (
+        "the climb or the jump in flow maps",
+        [("domain", CLIMB_IN_FLOW), ("problem", CLIMB_FROM_IN_FLOW)],
+        [(OFF, JUMP_OUT, 0), (with_budget("2"), JUMP_STOPPED, 11)],
+    ),
+    ("the climb or the jump in quotes", [("domain", CLIMB_IN_QUOTES)], [(OFF, JUMP_OUT, 0), (with_budget("2"), JUMP_STOPPED, 11)]),
 ]
 
 
@@ -422,6 +479,71 @@ REFUSED = [
     ("two equal steps", [(COST, COST + "  - { name: go 1 }\n")], [], "domain:12:5 43 TwiceName"),
 ]
 
+STATE_VARIABLES = """\
+state_variables:
+  - { name: x, type: integer }
+  - { name: e, type: element, object: o }
+"""
+X = "{ name: x, type: integer }"
+
+
+def table(text):
+    return ("state_variables:", f"tables: [ {text} ]\nstate_variables:")
+
+
+def behind(text):
+    """Lines behind the base case, the domain's last line."""
+    return ("(= x 3) ]\n", f"(= x 3) ]\n{text}\n")
+
+
+def behind_target(text):
+    return ("target: { x: 0, e: 0 }\n", f"target: {{ x: 0, e: 0 }}\n{text}\n")
+
+
+# The same, each with two refusals, and above it why the first is given.
+FIRST_OF_TWO = [
+    # In a map the keys that it must have are asked for before any value is read.
+    ("a missing key before a bad name", [(X, "{ name: 1x }")], [], "domain:4:5 40 MissingKey"),
+    # All keys of a map are tested before its values, also a key behind them.
+    ("an unknown key before a bad name", [(X, "{ name: 1x, type: integer, kind: x }")], [], "domain:4:32 41 UnknownKey"),
+    # Keys that are left out and unknown ones are told in the order of the text.
+    ("a key that is left out before an unknown one", [("objects", "base_states: []\nzz: 1\nobjects")], [], "domain:2:1 52 LeftOut"),
+    # The domain's keys are the first step and the problem's the second.
+    ("the domain's missing key before the problem's unknown one", [(STATE_VARIABLES, "")], [("problem:", "problems:")], "domain:1:1 40 MissingKey"),
+    # Numbers of members are read in the order of the text, so a limit may go before a later unknown name.
+    ("too many members before an unknown object type", [], [("{ o: 2 }", "{ o: 1025, q: 2 }")], "problem:3:22 49 TooMany"),
+    # The numbers of members are read before the variables, although they stand in the other file.
+    ("a negative number of members before a variable's name", [(X, "{ name: 1x, type: integer }")], [("{ o: 2 }", "{ o: -1 }")], "problem:3:22 42 BadNumber"),
+    # Values are read in the order of the key table, where `args` comes before `object`, and not in that of the text.
+    ("a table's arguments before its object type", [table("{ name: t, type: set, object: q, args: [ z ] }")], [], "domain:3:52 30 UnknownName"),
+    # Variables are read before tables, although the tables stand first here, so the table's name is the second; its type comes later.
+    ("a table's name that a variable has before its type", [table("{ name: x, type: whole }")], [], "domain:3:19 43 TwiceName"),
+    # Tables are filled in the order of the text: the cells of the first before the name of the second.
+    ("a cell before a later table's name", [TABLE], [values("{ t: { 0: x }, u: 1 }")], "problem:4:25 42 BadNumber"),
+    # Cells are read in the order of the text: an index that is too great before a later cell that is given twice.
+    ("an index before a later cell that is given twice", [TABLE], [values("{ t: { 0: 1, 5: 2, [0]: 3 } }")], "problem:4:28 44 BadIndex"),
+    # The target is read before the transitions.
+    ("a target's value before a parameter's object type", [("object: o } ]\n", "object: q } ]\n")], [("{ x: 0,", "{ x: y,")], "problem:4:14 42 BadNumber"),
+    # A transition's effects come before its cost.
+    ("an effect's variable before the cost", [("{ x: (", "{ z: ("), (COST, "    cost: (* cost 2)\n")], [], "domain:10:16 30 UnknownName"),
+    # A transition's cost comes before `forced`, although `forced` stands first here.
+    ("a cost before an earlier truth value", [(COST, "    forced: perhaps\n    cost: (* cost 2)\n")], [], "domain:12:11+0 47 CostForm"),
+    # An expression is read whole before it is typed: the `)` that closes nothing before the unknown name.
+    ("a bracket before an earlier name", [("(< x 3)", "(< y 3))")], [], "domain:9:22+7 21 Unbalanced"),
+    # The number of operands is tested before the operands.
+    ("a wrong number of operands before an unknown name", [("(< x 3)", "(not y z)")], [], "domain:9:22+0 32 WrongCount"),
+    # The variables of a `forall` are read before its condition, which may name them.
+    ("a variable of forall before an earlier condition", [behind("constraints: [ { condition: (< y 3), forall: [ { name: x, object: o } ] } ]")], [], "domain:14:56 43 TwiceName"),
+    # Constraints are read before base cases, although they stand behind them here.
+    ("a constraint before an earlier base case", [("[ (= x 3) ]\n", "[ (= y 3) ]\nconstraints: [ (< y 3) ]\n")], [], "domain:14:16+3 30 UnknownName"),
+    # The constraints of both files are read before the base cases of either.
+    ("the problem's constraint before the domain's base case", [("(= x 3)", "(= y 3)")], [behind_target("constraints: [ (< y 3) ]")], "problem:5:16+3 30 UnknownName"),
+    # Of one list in both files the domain's is read first.
+    ("the domain's base case before the problem's", [("(= x 3)", "(= y 3)")], [behind_target("base_cases: [ [ (= z 3) ] ]")], "domain:13:7+3 30 UnknownName"),
+    # Base cases are read before dual bounds, although they stand behind them here.
+    ("a base case before an earlier dual bound", [("base_cases", "dual_bounds: [ y ]\nbase_cases"), ("(= x 3)", "(= y 3)")], [], "domain:14:7+3 30 UnknownName"),
+]
+
 
 def refused(title, domain, problem, refusal):
     """A case of both texts changed, and with the run's refusal."""
@@ -429,4 +551,4 @@ def refused(title, domain, problem, refusal):
     return (title, texts, [(OFF, f"refused {refusal}\n", 3)])
 
 
-ORDERS = [refused(*case) for case in REFUSED]
+ORDERS = [refused(*case) for case in REFUSED + FIRST_OF_TWO]

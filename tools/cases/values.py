@@ -1,41 +1,37 @@
 #!/usr/bin/env python3
-"""Writes what the expressions of crates/cases_values/data/values.txt must give: values.py, from the top of the repository.
+"""Writes the cases of crates/cases_values and what they must give: values.py, from the top of the repository.
 
-It works each value out from the rules of the language, over the model that values_model.py describes; the program that
-runs the cases builds the same model by code of its own. README.md in the crate says how an expression is written."""
+It works each value out from the rules of the language, over the model that values_model.py describes, and shares no code
+with the solver. The expressions stand in values_cases.py."""
 
 import operator
 
-from values_model import ARGS, COUNTS, SET_TYPES, TABLES, VALUES
+from case_lines import entry
+from values_cases import EXPRESSIONS, FOR_ALLS, LEVELS, REFUSED, TOO_DEEP
+from values_model import ARGS, COUNTS, ELEMENTS, GREATEST, INTEGERS, SETS, TABLES, domain_text, problem_text
 
 CRATE = "crates/cases_values"
-GREATEST = 2**62 - 1
+# How much of an expression is printed.
+MOST_SHOWN = 60
 
+FOLDED = {"+": operator.add, "*": operator.mul, "max": max, "min": min, "union": operator.or_, "intersection": operator.and_}
 PAIRS = {
-    "+": operator.add,
     "-": operator.sub,
-    "*": operator.mul,
     "/": lambda a, b: abs(a) // abs(b) * (1 if (a < 0) == (b < 0) else -1),
     "%": lambda a, b: abs(a) % abs(b) * (-1 if a < 0 else 1),
-    "max": max,
-    "min": min,
+    "difference": operator.sub,
 }
-COMPARISONS = {
+TESTS = {
     "=": operator.eq,
     "!=": operator.ne,
     "<": operator.lt,
     "<=": operator.le,
     ">": operator.gt,
     ">=": operator.ge,
+    "is_subset": operator.le,
 }
-SETS = {"union": operator.or_, "shared": operator.and_, "less": operator.sub}
-SET_TESTS = {"same": operator.eq, "other": operator.ne, "subset": operator.le}
-# How many operands a word takes, but for tables.
-OPERANDS = {
-    **dict.fromkeys([*PAIRS, *COMPARISONS, *SETS, *SET_TESTS, "with", "without", "is_in", "and", "or"], 2),
-    **dict.fromkeys(["if", "setif", "condif"], 3),
-    **dict.fromkeys(["size", "others", "empty", "not"], 1),
-}
+CONDITIONS = {*TESTS, "and", "or", "not", "is_in", "is_empty"}
+OBJECTS = list(COUNTS)
 
 
 class Fault(Exception):
@@ -43,129 +39,161 @@ class Fault(Exception):
 
 
 def parse(text):
-    """The tree of an expression in postfix order: a word and its operands."""
-    waiting = []
-    for word in text.split():
-        name, _, number = word.partition(":")
-        if name == "all":
-            count = 1
-        elif name in ("cell", "truth", "setcell", "sum"):
-            count = len(TABLES[int(number)][1])
+    """The tree of an expression: a word, or a list of its head and its operands. |S| is a list headed by `size`."""
+    waiting = [[]]
+    for word in text.replace("(", " ( ").replace(")", " ) ").replace("|", " | ").split():
+        if word == "(":
+            waiting.append([])
+        elif word == ")" or (word == "|" and waiting[-1][:1] == ["size"]):
+            whole = waiting.pop()
+            waiting[-1].append(whole)
+        elif word == "|":
+            waiting.append(["size"])
         else:
-            count = OPERANDS.get(word, 0)
-        operands = waiting[len(waiting) - count :]
-        del waiting[len(waiting) - count :]
-        waiting.append((word, operands))
-    (tree,) = waiting
+            waiting[-1].append(word)
+    ((tree,),) = waiting
     return tree
 
 
-def ranged(number):
-    if abs(number) > GREATEST:
+def parts(tree):
+    """The head of an expression, which is a word alone, and its operands."""
+    return (tree, []) if isinstance(tree, str) else (tree[0], tree[1:])
+
+
+def type_of(tree):
+    """The object type of a set expression, or None."""
+    head, operands = parts(tree)
+    if head in SETS:
+        return SETS[head][0]
+    if head in TABLES:
+        return TABLES[head][1]
+    if head in ("union", "intersection", "difference", "~"):
+        return type_of(operands[0])
+    return type_of(operands[1]) if head in ("add", "remove", "if") else None
+
+
+def is_condition(tree):
+    head, operands = parts(tree)
+    if head in TABLES:
+        return TABLES[head][0] == "bool"
+    return head in CONDITIONS or head in ("true", "false") or (head == "if" and is_condition(operands[1]))
+
+
+def place_of(tree):
+    """The place in which an expression of this kind stands, as the program's file names it."""
+    if type_of(tree):
+        return f"set-{OBJECTS.index(type_of(tree))}"
+    return "condition" if is_condition(tree) else "number"
+
+
+def ranged(value):
+    if type(value) is int and abs(value) > GREATEST:
         raise Fault("Range")
-    return number
+    return value
 
 
-def member(count, number):
+def member(object_type, number):
     if number < 0:
         raise Fault("Negative")
-    if number >= count:
+    if number >= COUNTS[object_type]:
         raise Fault("Index")
     return number
 
 
-def type_of(tree):
-    """The object type of a set expression."""
-    word, operands = tree
-    name, _, number = word.partition(":")
-    if name == "s":
-        return SET_TYPES[int(number)]
-    if name == "setcell":
-        return TABLES[int(number)][0]
-    return type_of(operands[{"with": 1, "without": 1, "setif": 1}.get(word, 0)])
+def cell(name, values):
+    _, _, types, cells = TABLES[name]
+    return cells(*[member(it, value) for it, value in zip(types, values)])
 
 
-def is_set(tree):
-    name = tree[0].partition(":")[0]
-    return name in ("s", "setcell", "setif", "others", "with", "without", *SETS)
-
-
-def of_table(name, number, operands, given):
-    _, types, cells = TABLES[number]
-    values = [evaluate(it, given) for it in operands]
-    counts = [COUNTS[it] for it in types]
-    if name != "sum":
-        return cells(*[member(count, value) for count, value in zip(counts, values)])
-    choices = [
-        sorted(value) if isinstance(value, frozenset) else [member(count, value)] for count, value in zip(counts, values)
-    ]
+def total(name, values):
+    """The sum over a table: each argument is a number or a set of members."""
+    _, _, types, cells = TABLES[name]
+    choices = [sorted(it) if isinstance(it, frozenset) else [member(of, it)] for of, it in zip(types, values)]
     ways = [()]
     for choice in choices:
         ways = [(*way, k) for way in ways for k in choice]
     return ranged(sum(cells(*way) for way in ways))
 
 
-def of_name(name, number, operands, given):
-    if name in ("v", "s"):
-        return VALUES[number]
-    if name == "p":
-        return given[number]
-    return of_table(name, number, operands, given)
+def of_word(word, given):
+    values = {**INTEGERS, **ELEMENTS, "true": True, "false": False, **given}
+    if word in values:
+        return values[word]
+    if word in SETS:
+        return SETS[word][1]
+    return cell(word, []) if word in TABLES else int(word)
 
 
-def holds_for_all(over, condition, given):
-    kind, _, number = over.partition(":")
-    members = range(COUNTS[int(number)]) if kind == "o" else sorted(VALUES[int(number)])
-    return all(evaluate(condition, (*given, k)) for k in members)
+def decided(head, operands, given):
+    """`and` and `or` evaluate their operands up to the first that decides them."""
+    for it in operands:
+        if evaluate(it, given) == (head == "or"):
+            return head == "or"
+    return head == "and"
 
 
-def of_set(word, tree, operands, given):
-    """A form with a set and a number, or the complement of a set."""
-    count = COUNTS[type_of(operands[-1])]
-    if word == "others":
-        return frozenset(range(count)) - evaluate(operands[0], given)
-    number, members = evaluate(operands[0], given), evaluate(operands[1], given)
-    k = member(count, number)
-    if word == "is_in":
+def of_set(head, operands, given):
+    """A form with a number and a set, in that order."""
+    number, members = (evaluate(it, given) for it in operands)
+    k = member(type_of(operands[1]), number)
+    if head == "is_in":
         return k in members
-    return members | {k} if word == "with" else members - {k}
+    return members | {k} if head == "add" else members - {k}
+
+
+def of_values(head, values):
+    """A form whose operands are all evaluated first."""
+    if head in FOLDED:
+        folded = values[0]
+        for it in values[1:]:
+            folded = ranged(FOLDED[head](folded, it))
+        return folded
+    if head in ("/", "%") and values[1] == 0:
+        raise Fault("ZeroDivisor")
+    if head in PAIRS:
+        return ranged(PAIRS[head](*values))
+    if head in TESTS:
+        return TESTS[head](*values)
+    return len(values[0]) if head == "size" else not values[0]
 
 
 def evaluate(tree, given):
-    word, operands = tree
-    name, colon, number = word.partition(":")
-    if name == "all":
-        return holds_for_all(number, operands[0], given)
-    if colon:
-        return of_name(name, int(number), operands, given)
-    if word in ("if", "setif", "condif"):
+    """The value of an expression. Operands are evaluated from left to right, and then the operation is tested."""
+    head, operands = parts(tree)
+    if not operands:
+        return of_word(head, given)
+    if head in TABLES:
+        return cell(head, [evaluate(it, given) for it in operands])
+    if head == "sum":
+        return total(operands[0], [evaluate(it, given) for it in operands[1:]])
+    if head == "if":
         return evaluate(operands[1 if evaluate(operands[0], given) else 2], given)
-    if word in ("and", "or"):
-        held = evaluate(operands[0], given)
-        return held if held == (word == "or") else evaluate(operands[1], given)
-    if word in ("with", "without", "others", "is_in"):
-        return of_set(word, tree, operands, given)
-    values = [evaluate(it, given) for it in operands]
-    if word in PAIRS:
-        if word in "/%" and values[1] == 0:
-            raise Fault("ZeroDivisor")
-        return ranged(PAIRS[word](*values))
-    for table in (COMPARISONS, SETS, SET_TESTS):
-        if word in table:
-            return table[word](*values)
-    return of_word(word, values)
+    if head in ("and", "or"):
+        return decided(head, operands, given)
+    if head in ("add", "remove", "is_in"):
+        return of_set(head, operands, given)
+    if head == "~":
+        return frozenset(range(COUNTS[type_of(operands[0])])) - evaluate(operands[0], given)
+    return of_values(head, folded_in_turn(head, operands, given))
 
 
-def of_word(word, values):
-    if word == "size":
-        return len(values[0])
-    if word == "empty":
-        return not values[0]
-    if word == "not":
-        return not values[0]
-    if word in ("true", "false"):
-        return word == "true"
-    return {"G": GREATEST, "-G": -GREATEST}[word] if word.endswith("G") else int(word)
+def folded_in_turn(head, operands, given):
+    """The operands' values. An operator over many is tested after each of them, so a fault of a sum so far goes before those behind."""
+    values = []
+    for it in operands:
+        values.append(evaluate(it, given))
+        if head in FOLDED:
+            values = [of_values(head, values)]
+    return values
+
+
+def holds_for_all(over, condition, given):
+    """Whether the condition holds for each choice of these variables, tested in order, the first variable slowest."""
+    if not over:
+        return evaluate(condition, given)
+    (name, of), *others = over
+    members = range(COUNTS[of]) if of in COUNTS else sorted(SETS[of][1])
+    return all(holds_for_all(others, condition, {**given, name: k}) for k in members)
 
 
 def shown(value):
@@ -176,18 +204,40 @@ def shown(value):
     return str(value)
 
 
-def answer(text):
+def answer(work, *of):
     try:
-        return shown(evaluate(parse(text), ARGS))
+        return shown(work(*of))
     except Fault as fault:
         return str(fault)
 
 
+def typed_cases():
+    """Where each expression stands, its text, and what it gives."""
+    for text in [*EXPRESSIONS.splitlines(), *LEVELS]:
+        tree = parse(text)
+        yield place_of(tree), text, answer(evaluate, tree, ARGS)
+    yield from ((place_of(parse(text)), text, "memory") for text in TOO_DEEP)
+    yield from REFUSED
+
+
+def front(text):
+    return text if len(text) <= MOST_SHOWN else f"{text[:MOST_SHOWN]} .."
+
+
+def write(name, lines):
+    with open(f"{CRATE}/{name}", "w", encoding="ascii") as file:
+        file.writelines(lines)
+
+
 def main():
-    with open(f"{CRATE}/data/values.txt", encoding="ascii") as file:
-        cases = [line.rstrip("\n") for line in file]
-    with open(f"{CRATE}/stdout", "w", encoding="ascii") as file:
-        file.writelines(f"{number}: {text} => {answer(text)}\n" for number, text in enumerate(cases, 1))
+    cases = list(typed_cases())
+    held = [answer(holds_for_all, over, parse(condition), ARGS) for over, condition in FOR_ALLS]
+    write("data/domain.yaml", domain_text(FOR_ALLS))
+    write("data/problem.yaml", problem_text())
+    write("data/values.txt", (entry(place, text) for place, text, _ in cases))
+    out = [f"{place} {n}: {front(text)} => {given}\n" for n, (place, text, given) in enumerate(cases, 1)]
+    out += [f"precondition {n} => {given}\n" for n, given in enumerate(held, 1)]
+    write("stdout", out)
 
 
 if __name__ == "__main__":

@@ -5,13 +5,14 @@ mod names;
 mod trees;
 
 use case_files::{Entry, entries, escaped};
-use dp_base::FILE_LIMIT;
+use dp_base::{Boxed, FILE_LIMIT};
+use dp_model::Cond;
 use dypdl_expr::{Expr, read_expr};
-use dypdl_type::{Scope, type_cond, type_cost, type_elem, type_num, type_set};
+use dypdl_type::{Scope, TypeEnd, type_cond, type_cost, type_elem, type_num, type_set};
 use names::{scope, tables, variables};
 use std::alloc::{AllocError, Global};
 use std::{fs, io};
-use trees::shown;
+use trees::{end_shown, shown, tree_shown};
 
 /// The expression of a text, if it is one and memory lasts.
 fn expression(alloc: Global, bytes: &[u8]) -> Option<Expr> {
@@ -34,8 +35,16 @@ fn as_set(alloc: Global, scope: &Scope<'_>, object: u32, e: &Expr) -> Result<Str
     shown(alloc, &type_set(alloc, scope, object, e))
 }
 
+/// A condition in a box: where a local holds the condition itself, the proof that it may be dropped takes 4 GB.
+fn boxed(alloc: Global, given: Result<Cond, TypeEnd>) -> Result<Boxed<Cond>, TypeEnd> {
+    Ok(Boxed::new(alloc, given?)?)
+}
+
 fn as_condition(alloc: Global, scope: &Scope<'_>, e: &Expr) -> Result<String, AllocError> {
-    shown(alloc, &type_cond(alloc, scope, e))
+    match boxed(alloc, type_cond(alloc, scope, e)) {
+        Ok(tree) => tree_shown(alloc, tree.get()),
+        Err(end) => end_shown(alloc, &end),
+    }
 }
 
 fn as_cost(alloc: Global, scope: &Scope<'_>, e: &Expr) -> Result<String, AllocError> {

@@ -14,7 +14,7 @@ fn without(alloc: Global, text: &str, part: &str) -> Result<String, AllocError> 
 }
 
 /// The `Debug` text of a tree, without the names of what holds its parts.
-fn tree_shown(alloc: Global, tree: &impl Debug) -> Result<String, AllocError> {
+pub(crate) fn tree_shown(alloc: Global, tree: &impl Debug) -> Result<String, AllocError> {
     let text = format!(in alloc; "{tree:?}")?;
     let text = without(alloc, text.as_str(), "Boxed { inner: ")?;
     let text = without(alloc, text.as_str(), "Seq { items: ")?;
@@ -22,7 +22,7 @@ fn tree_shown(alloc: Global, tree: &impl Debug) -> Result<String, AllocError> {
 }
 
 /// A refusal at an offset: `refused OFFSET NUMBER NAME`.
-fn end_shown(alloc: Global, end: &TypeEnd) -> Result<String, AllocError> {
+pub(crate) fn end_shown(alloc: Global, end: &TypeEnd) -> Result<String, AllocError> {
     match end {
         TypeEnd::UnknownName(at) => format!(in alloc; "refused {at} 30 UnknownName"),
         TypeEnd::WrongKind(at) => format!(in alloc; "refused {at} 31 WrongKind"),

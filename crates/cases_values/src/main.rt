@@ -1,0 +1,77 @@
+//! Evaluates expressions in the target state of a model, and prints each with its value, its fault or its refusal.
+#![tactic(auto)]
+
+mod models;
+mod typed;
+mod values;
+
+use case_files::{Entry, entries, escaped};
+use dp_model::Model;
+use dypdl_type::Scope;
+use models::{args, model_of, scope};
+use std::alloc::Global;
+use std::{fs, io};
+use typed::answer;
+use values::condition;
+
+/// How many bytes of an expression are printed.
+const MOST_SHOWN: usize = 60;
+
+/// The front of a text that is shown.
+fn front(text: &str) -> &str {
+    text.get(..MOST_SHOWN).unwrap_or(text)
+}
+
+/// Prints an expression and what it gives.
+fn print_case<R: Print + Alloc<A = Global>>(
+    rt: &R,
+    model: &Model,
+    scope: &Scope<'_>,
+    number: usize,
+    case: &Entry,
+) -> io::Result<()> {
+    let alloc = rt.alloc();
+    let given = answer(alloc, model, scope, case)?;
+    let text = escaped(alloc, &case.text)?;
+    let more = if text.len() > MOST_SHOWN { " .." } else { "" };
+    let (key, text) = (case.key.as_str(), front(text.as_str()));
+    println!(rt; "{key} {number}: {text}{more} => {given}")
+}
+
+/// Prints each expression of a file and what it gives.
+fn print_cases<R: Print + Alloc<A = Global>>(rt: &R, model: &Model, file: &str) -> io::Result<()> {
+    let alloc = rt.alloc();
+    let scope = scope(alloc, model)?;
+    for (index, case) in entries(alloc, file)?.iter().enumerate() {
+        print_case(rt, model, &scope, index.saturating_add(1), case)?;
+    }
+    Ok(())
+}
+
+/// Prints what each precondition of the model's first transition gives.
+fn print_preconditions<R: Print + Alloc<A = Global>>(rt: &R, model: &Model) -> io::Result<()> {
+    let alloc = rt.alloc();
+    let args = args(alloc)?;
+    let Some(step) = model.transitions().list().first() else {
+        return println!(rt; "no transition");
+    };
+    for (index, c) in step.preconditions.list().iter().enumerate() {
+        let number = index.saturating_add(1);
+        let held = condition(alloc, model, &args, c)?;
+        println!(rt; "precondition {number} => {held}")?;
+    }
+    Ok(())
+}
+
+fn main(rt: HostRuntime) -> io::Result<()> {
+    let domain = fs::read_to_string(&rt, "domain.yaml")?;
+    let problem = fs::read_to_string(&rt, "problem.yaml")?;
+    let file = fs::read_to_string(&rt, "values.txt")?;
+    match model_of(rt.alloc(), domain.as_str(), problem.as_str()) {
+        Some(model) => {
+            print_cases(&rt, &model, file.as_str())?;
+            print_preconditions(&rt, &model)
+        }
+        None => println!(rt; "no model"),
+    }
+}

@@ -1,0 +1,313 @@
+"""The expressions of the cases of values, as texts of the language over the model of values_model.py."""
+
+EXPRESSIONS = """\
+4611686018427387903
+-4611686018427387903
+(+ 4611686018427387903 0)
+(+ 4611686018427387903 1)
+(- -4611686018427387903 1)
+(- -4611686018427387903 0)
+(- 4611686018427387903 -1)
+(+ (- 4611686018427387903 1) 1)
+(+ most least)
+(+ most most)
+(- most least)
+(- least most)
+(* most 1)
+(* most 2)
+(* most -1)
+(* most most)
+(* least least)
+(* 2147483648 2147483648)
+(* 2147483648 2147483647)
+(* -2147483648 2147483648)
+(- (+ 4611686018427387903 1) 1)
+(+ (+ 4611686018427387903 4611686018427387903) -4611686018427387903)
+(/ 7 2)
+(/ -7 2)
+(/ 7 -2)
+(/ -7 -2)
+(% 7 2)
+(% -7 2)
+(% 7 -2)
+(% -7 -2)
+(/ least -1)
+(% least -1)
+(/ most least)
+(/ 5 0)
+(% 5 0)
+(/ 0 0)
+(/ 0 5)
+(/ (+ 4611686018427387903 1) 0)
+(+ (/ 1 0) (+ 4611686018427387903 1))
+(+ (+ 4611686018427387903 1) (/ 1 0))
+(max 3 -4)
+(min 3 -4)
+(max most least)
+(min most least)
+i
+two
+far
+(+ far far)
+p
+(- q p)
+(= most most)
+(!= most least)
+(< -1 0)
+(< 0 0)
+(<= 0 0)
+(> 1 0)
+(>= 0 1)
+(>= 0 0)
+(!= 3 3)
+(= -3 3)
+(if true 1 (/ 1 0))
+(if false 1 (/ 1 0))
+(if (= (/ 1 0) 1) 1 2)
+(and false (= (/ 1 0) 1))
+(and true (= (/ 1 0) 1))
+(or true (= (/ 1 0) 1))
+(or false (= (+ 4611686018427387903 1) 1))
+(and (= (/ 1 0) 1) false)
+(not true)
+(not false)
+(and true true)
+(and true false)
+(or false false)
+(not (= (/ 1 0) 1))
+(tens 0)
+(tens 2)
+(tens 3)
+(tens -1)
+(tens two)
+(tens five)
+(tens far)
+answer
+(grid 1 2)
+(grid 2 1)
+(rows 2 0 1)
+(columns 2 0 0 1)
+(columns 2 0 1 1)
+(grid -1 (/ 1 0))
+(grid 5 -1)
+(grid -1 5)
+(grid (/ 1 0) -1)
+(grid 0 -1)
+(grid 0 3)
+(lost 0)
+(squares 64)
+(squares 65)
+(numbers 1023)
+(numbers 1024)
+(odd 0)
+(odd 1)
+(odd 3)
+(odd -1)
+yes
+(below 0 1)
+(below 1 1)
+(sets 0)
+(sets 1)
+(sets 3)
+(sets -2)
+|thirds|
+(tens (next 0))
+(sum tens a)
+(sum tens none)
+(sum tens (~ a))
+(sum tens 1)
+(sum tens 3)
+(sum tens -1)
+(sum grid a a)
+(sum grid 1 a)
+(sum grid a 1)
+(sum grid none 3)
+(sum grid none -1)
+(sum grid 3 -1)
+(sum grid -1 none)
+(sum grid (/ 1 0) -1)
+(sum grid -1 (/ 1 0))
+(sum rows a one a)
+(sum columns a one one a)
+(sum columns 2 one 0 (~ a))
+(sum columns a 0 1 a)
+(sum wide a)
+(sum wide (~ (~ a)))
+(sum wide (~ none))
+(- (sum wide (~ none)) 4611686018427387903)
+(sum wide (union (remove 2 a) (add 1 none)))
+(sum squares ends)
+(sum numbers full)
+(sum numbers even)
+(sum numbers no)
+(sum numbers (~ no))
+(sum digits full one)
+(sum lost void)
+(sum lost_pairs 0 void)
+(sum lost_pairs 5 void)
+(sum lost_pairs none void)
+a
+none
+void
+one
+(~ a)
+(~ none)
+(~ void)
+(~ one)
+|all63|
+|all64|
+|ends|
+|full|
+|even|
+|no|
+(~ all63)
+|(~ all64)|
+|(~ ends)|
+|(~ full)|
+|(~ no)|
+|(~ even)|
+(union a (sets 1))
+(union a (~ a))
+(intersection a (sets 0))
+(difference a (sets 0))
+(difference a a)
+(intersection none a)
+|(difference full even)|
+|(intersection even thirds)|
+|(union even thirds)|
+|(difference even thirds)|
+(add 1 a)
+(add 0 a)
+(remove 2 a)
+(remove 1 a)
+(remove 0 none)
+(add 3 a)
+(add -1 a)
+(remove 3 a)
+(remove -1 a)
+(add 0 void)
+(add (/ 1 0) a)
+(add -1 (add (/ 1 0) a))
+(union (remove -1 a) none)
+(difference none (add 3 a))
+(if true a (add 3 a))
+(if false (add 3 a) none)
+(if (= (/ 1 0) 1) a none)
+|(remove 62 all63)|
+|(remove 63 all64)|
+(remove 64 ends)
+(add 64 all64)
+(add 65 ends)
+(add 1023 no)
+(add 1024 no)
+(= a a)
+(= a none)
+(!= a none)
+(= full (union even (~ even)))
+(!= even (~ even))
+(!= a a)
+(is_in 0 a)
+(is_in 1 a)
+(is_in 3 a)
+(is_in -1 a)
+(is_in 0 void)
+(is_in (/ 1 0) a)
+(is_in -1 (add 3 a))
+(is_in 1023 full)
+(is_in 1023 even)
+(is_in 63 ends)
+(is_in 62 ends)
+(is_subset none a)
+(is_subset a none)
+(is_subset a a)
+(is_subset even full)
+(is_subset full even)
+(is_empty none)
+(is_empty a)
+(is_empty void)
+(is_empty (~ void))
+(= (add -1 a) none)
+(!= none (add 3 a))
+(is_subset a (add -1 a))
+(is_empty (add 3 a))
+(if true (= i 7) false)
+(if false true (= i 8))
+(if true (= 1 1) (= (/ 1 0) 1))
+(if false (= 1 1) (= (/ 1 0) 1))
+(if false (= (+ 4611686018427387903 1) 1) true)
+(if (= (/ 1 0) 1) true false)
+(if (is_empty none) (is_empty a) (is_in 3 a))
+(if (is_empty a) (is_in 3 a) (is_in 2 a))
+(if (= two 2) (< (tens five) 0) true)
+(not (if true false true))
+(and (if false true false) true)
+(if (if true true (is_empty a)) 5 6)
+(if (if false true true) a none)
+(if true (if true false true) false)
+(+ 1 2 3 4)
+(+ most 1 (/ 1 0))
+(* 2 (/ 1 0) (tens 3))
+(max 1 5 3)
+(min 4 two 3 five)
+(and true true (= 1 1))
+(or false true (= (/ 1 0) 1))
+(union none a (add 1 a))
+(intersection (~ none) a (add 0 none))
+(intersection a (~ none) (add 3 a) (add -1 a))
+"""
+
+# Variables with what they range over, and a condition that must hold for each choice of them.
+FOR_ALLS = [
+    ([("j", "o3")], "(>= j 0)"),
+    ([("j", "o3")], "(< j 2)"),
+    ([("j", "a")], "(< j 2)"),
+    ([("j", "a")], "(!= j 1)"),
+    ([("j", "o3")], "(!= j 1)"),
+    ([("j", "o3")], "(<= (tens j) 30)"),
+    ([("j", "o0")], "false"),
+    ([("j", "none")], "false"),
+    ([("j", "void")], "false"),
+    ([("j", "a")], "true"),
+    ([("j", "o1")], "false"),
+    ([("j", "even")], "(is_in j even)"),
+    ([("j", "o1024")], "(is_in j even)"),
+    ([("j", "o64")], "(< j 64)"),
+    ([("j", "o3")], "(< (/ 10 (- j 1)) 0)"),
+    ([("j", "o3")], "(> (/ 10 j) 0)"),
+    ([("j", "o3")], "(< (/ 10 (- j 2)) 0)"),
+    ([("j", "o3")], "(or (= j 1) (< (/ 10 (- j 1)) 0))"),
+    ([("j", "o3"), ("k", "o3")], "(<= (+ j k) 4)"),
+    ([("j", "a"), ("k", "o3")], "(<= (+ j k) 3)"),
+    ([("j", "o3"), ("k", "o3")], "(or (below j k) (<= k j))"),
+    ([("j", "o3")], "(<= (+ j p) 3)"),
+    ([("j", "a")], "(<= (+ j q) 3)"),
+    ([("j", "o63")], "(> (tens j) 0)"),
+    ([("j", "o3")], "(not (is_in (+ j -1) a))"),
+    ([("j", "o3")], "(if (< j 1) (<= (/ 10 (- j 1)) 0) (>= (/ 10 j) 0))"),
+    ([("j", "o3")], "(if (= j 0) (= (/ 10 j) 0) true)"),
+    ([("j", "o1024")], "(if (is_in j even) (= (% j 2) 0) (= (% j 2) 1))"),
+]
+
+# Where an expression stands, its text, and why it is not typed, by hand: the refusal at the byte where its form begins.
+REFUSED = [
+    ("number", "missing", "refused UnknownName(0)"),
+    ("number", "(+ 1 (tens true))", "refused WrongKind(11)"),
+    ("set-0", "(add 1 even)", "refused WrongKind(7)"),
+    ("condition", "(not true false)", "refused WrongCount(0)"),
+    ("condition", "(< cost 1)", "refused CostPlace(3)"),
+    ("number", "(- 7 2.5)", "refused Continuous(5)"),
+    ("number", "(max 1 4611686018427387904)", "refused BadNumber(7)"),
+]
+
+# An operator over so many of an operand is a tree of as many levels. One of 1,200 levels is typed and evaluated, and at a
+# deeper one typing answers that it wants memory.
+MOST_LEVELS = 1200
+
+
+def repeated(head, operand, count):
+    return f"({head} {' '.join([operand] * count)})"
+
+
+DEEP = [("+", "1"), ("and", "yes"), ("union", "a")]
+LEVELS = [repeated(head, operand, MOST_LEVELS) for head, operand in DEEP]
+TOO_DEEP = [repeated(head, operand, MOST_LEVELS + 1) for head, operand in DEEP]
