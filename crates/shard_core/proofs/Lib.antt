@@ -1,0 +1,11 @@
+pub mod Rows
+pub mod Intakes
+pub mod Accepts
+pub mod Closes
+pub mod Posts
+pub mod Tells
+pub mod Best
+pub mod Ranges
+pub mod Sends
+pub mod Visits
+pub mod Starts

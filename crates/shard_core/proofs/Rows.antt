@@ -1,0 +1,153 @@
+-- The layers that are not closed, as one more comes, as one changes, and as the first is taken out.
+use Rattle.std.proofs.Common.{◌≡◌, ℕ, zero, suc, ◌+◌, ◌<◌, ◌⊎◌, inl, inr, Bool, true, false, not, List, [], ◌∷◌, ◌++◌, length, min, get_or, slice_get, slice_set, Option, Some, None, refl, sym, ap, subst, ◌∙◌, arith, if◌then◌else◌}
+use Rattle.std.specs.Prelude.{Result, Ok, Err, IfOk, OnErr, IfSome, ℤ}
+use Rattle.std.specs.List.{remove}
+use Rattle.std.specs.declared.alloc.AllocError.{AllocError}
+use Rattle.std.proofs.lemmas.Option.{slice_get-get_or}
+use Rattle.cost_laws.specs.Orders.{InWideRange, IsLawOf}
+use Rattle.state_layout.specs.Conditions.{IsNodeFor}
+use Rattle.dp_model.specs.declared.parts.JoinOp.{JoinOp}
+use Rattle.dp_model.specs.declared.whole.Model.{Model}
+use Rattle.dom_store.specs.Order.{IsOrdering, IsLeastFloor}
+use Rattle.pass_ledger.specs.Passes.{Pass}
+use Rattle.dp_claims.specs.Enough.{Has}
+use Rattle.state_layout.specs.declared.layout.Layout.{Layout}
+use Rattle.state_layout.specs.declared.node.Node.{Node}
+use Rattle.dom_store.specs.Contents.{IsCovered, Apart, with_node}
+use Rattle.dom_store.specs.declared.taking.Taken.{Taken}
+use Rattle.dom_store.proofs.Members.{has_filtered}
+use Rattle.pass_ledger.proofs.Lists.{has_none, has_head, has_cases, has_right}
+use Rattle.pass_ledger.proofs.Appends.{get_push}
+use Rattle.shard_core.specs.Layers.{nodes_at, busy_at, nodes_of, AreOf, Merges, Splits}
+use Rattle.shard_core.specs.declared.layers.Layer.{Layer}
+
+module _ {B : Type 0} where
+  -- one more layer, without nodes
+  pub push_nodes : (layers : List (Layer B)) (x : Layer B) → x.nodes.nodes ≡ [] → (d : ℕ) → nodes_at (layers ++ x ∷ []) d ≡ nodes_at layers d
+  push_nodes [] x e zero = e
+  push_nodes [] x e (suc d) = refl
+  push_nodes (y ∷ layers) x e zero = refl
+  push_nodes (y ∷ layers) x e (suc d) = push_nodes layers x e d
+
+  pub push_busy : (layers : List (Layer B)) (x : Layer B) → x.busy ≡ false → (d : ℕ) → busy_at (layers ++ x ∷ []) d ≡ busy_at layers d
+  push_busy [] x e zero = e
+  push_busy [] x e (suc d) = refl
+  push_busy (y ∷ layers) x e zero = refl
+  push_busy (y ∷ layers) x e (suc d) = push_busy layers x e d
+
+  pub push_layouts : (layout : Layout) (layers : List (Layer B)) (x : Layer B) → AreOf layout layers → x.nodes.layout ≡ layout → AreOf layout (layers ++ x ∷ [])
+  push_layouts layout layers x are e d y h =
+      elim (get_push layers x d y h) [
+        | inl old ↦ are d y old
+        | inr new ↦ subst (λ (z : Layer B). z.nodes.layout ≡ layout) new.1 e
+      ]
+
+  -- one layer changes
+  pub set_layouts : (layout : Layout) (layers : List (Layer B)) (k : ℕ) (x : Layer B) → AreOf layout layers → x.nodes.layout ≡ layout → AreOf layout (slice_set layers k x)
+  set_layouts layout [] k x are e d y h = are d y h
+  set_layouts layout (z ∷ layers) zero x are e zero y h = subst (λ (w : Layer B). w.nodes.layout ≡ layout) (some_is h) e
+    where
+      some_is : {a b : Layer B} → Some a ≡ Some b → a ≡ b
+      some_is h = cc
+  set_layouts layout (z ∷ layers) zero x are e (suc d) y h = are (suc d) y h
+  set_layouts layout (z ∷ layers) (suc k) x are e zero y h = are zero y h
+  set_layouts layout (z ∷ layers) (suc k) x are e (suc d) y h = set_layouts layout layers k x (λ d y h. are (suc d) y h) e d y h
+
+  pub set_at : {A : Type 0} (f : Option (Layer B) → A) (layers : List (Layer B)) (k : ℕ) (x : Layer B) → k < length layers → f (slice_get (slice_set layers k x) k) ≡ f (Some x)
+  set_at f [] k x lt = absurd (omega (arith, lt))
+  set_at f (y ∷ layers) zero x lt = refl
+  set_at f (y ∷ layers) (suc k) x lt = set_at f layers k x (omega (arith, lt))
+
+  pub set_off : {A : Type 0} (f : Option (Layer B) → A) (layers : List (Layer B)) (k : ℕ) (x : Layer B) (d : ℕ) → (d ≡ k → ⊥) → f (slice_get (slice_set layers k x) d) ≡ f (slice_get layers d)
+  set_off f [] k x d ne = refl
+  set_off f (y ∷ layers) zero x zero ne = absurd (ne refl)
+  set_off f (y ∷ layers) zero x (suc d) ne = refl
+  set_off f (y ∷ layers) (suc k) x zero ne = refl
+  set_off f (y ∷ layers) (suc k) x (suc d) ne = set_off f layers k x d (λ e. ne (ap suc e))
+
+  pub set_all : {A : Type 0} (f : Option (Layer B) → A) (layers : List (Layer B)) (k : ℕ) (x old : Layer B) → slice_get layers k ≡ Some old → f (Some x) ≡ f (Some old) → (d : ℕ) → f (slice_get (slice_set layers k x) d) ≡ f (slice_get layers d)
+  set_all f [] k x old at e d = refl
+  set_all f (y ∷ layers) zero x old at e zero = e ∙ ap f (sym at)
+  set_all f (y ∷ layers) zero x old at e (suc d) = refl
+  set_all f (y ∷ layers) (suc k) x old at e zero = refl
+  set_all f (y ∷ layers) (suc k) x old at e (suc d) = set_all f layers k x old at e d
+
+  pub set_merges : (p : Pass) (layers : List (Layer B)) (k : ℕ) (x old : Layer B) (node : Node) → k < length layers → slice_get layers k ≡ Some old → Merges p old.nodes.nodes node x.nodes.nodes → Merges p (nodes_at layers k) node (nodes_at (slice_set layers k x) k)
+  set_merges p layers k x old node lt at merges =
+      subst (λ (ns : List Node). Merges p (nodes_at layers k) node ns) (sym (set_at nodes_of layers k x lt)) (subst (λ (ns : List Node). Merges p ns node x.nodes.nodes) (sym (ap nodes_of at)) merges)
+
+  -- the first layer is taken out
+  pub rest_at : {A : Type 0} (f : Option (Layer B) → A) (layers : List (Layer B)) → 0 < length layers → (d : ℕ) → f (slice_get (remove layers 0) d) ≡ f (slice_get layers (d + 1))
+  rest_at f [] lt d = absurd (omega (arith, lt))
+  rest_at f (y ∷ layers) lt d = ap (λ (k : ℕ). f (slice_get (y ∷ layers) k)) (sym_suc d)
+    where
+      sym_suc : (d : ℕ) → suc d ≡ d + 1
+      sym_suc d = omega arith
+
+  pub rest_layouts : (layout : Layout) (layers : List (Layer B)) → AreOf layout layers → AreOf layout (remove layers 0)
+  rest_layouts layout [] are d y h = are d y h
+  rest_layouts layout (x ∷ layers) are d y h = are (suc d) y h
+
+-- ---- a law of costs that is the model's
+
+pub by_law : (m : Model) (minimize : Bool) (operator : JoinOp) (P : Bool → JoinOp → Type 0) → IsLawOf m minimize operator → P minimize operator → P m.minimize m.join
+by_law m minimize operator P law h = subst (λ (o : JoinOp). P m.minimize o) law.1 (subst (λ (b : Bool). P b operator) law.0 h)
+
+-- ---- what a call answers
+
+pub got : {A : Type 0} (xs : List A) (k : ℕ) (x : A) → k < length xs → x ≡ get_or xs k x → slice_get xs k ≡ Some x
+got xs k x lt e = slice_get-get_or xs k x lt ∙ ap Some (sym e)
+
+pub on_err : {A B : Type 0} (r : Result A B) (P : Type 0) → P → OnErr r P
+on_err (Ok x) P h = tt
+on_err (Err e) P h = h
+
+-- ---- a store
+
+-- the best floor of nodes is one of theirs
+pub floor_wide : (minimize : Bool) (operator : JoinOp) (ns : List Node) (floor : Option ℤ) → IsLeastFloor minimize operator ns floor → ((n : Node) → Has ns n → IfSome n.floor InWideRange) → IfSome floor InWideRange
+floor_wide minimize operator ns None h good = tt
+floor_wide minimize operator ns (Some floor) h good = subst (λ (f : Option ℤ). IfSome f InWideRange) h.0.2 (good h.0.0 h.0.1)
+
+pub wide : (minimize : Bool) (operator : JoinOp) (layout : Layout) (result : Result Taken AllocError) → IfOk result (λ t. IsLeastFloor minimize operator t.dropped t.least_floor) → IfOk result (λ t. (n : Node) → Has (t.kept ++ t.dropped) n → IsNodeFor layout n)
+    → IfOk result (λ t. IfSome t.least_floor InWideRange)
+wide minimize operator layout (Err x) floor fits = tt
+wide minimize operator layout (Ok t) floor fits = floor_wide minimize operator t.dropped t.least_floor floor (λ n h. (fits n (has_right t.kept t.dropped n h)).2.floor)
+
+pub merges : (p : Pass) (prune : Bool) → prune ≡ p.prune → (old : List Node) (node : Node) (new : List Node) → ((n : Node) → Has new n → Has old n ⊎ (n ≡ node)) → ((n : Node) → IsCovered p.model prune old n → IsCovered p.model prune new n)
+    → IsCovered p.model prune new node → Merges p old node new
+merges p prune e old node new only kept added =
+    record {
+      only = only;
+      kept = subst (λ (b : Bool). (n : Node) → IsCovered p.model b old n → IsCovered p.model b new n) e kept;
+      added = subst (λ (b : Bool). IsCovered p.model b new node) e added;
+    }
+
+-- a node that is added comes beside some of the others
+pub added_only : (test : Node → Node → Bool) (nodes : List Node) (node : Node) (b : Bool) (n : Node) → Has (if b then nodes else with_node test nodes node) n → Has nodes n ⊎ (n ≡ node)
+added_only test nodes node true n h = inl h
+added_only test nodes node false n h =
+    elim (has_cases _ (node ∷ []) n h) [
+      | inl old ↦ inl (has_filtered (λ held. not (test node held)) nodes n old).0
+      | inr new ↦ elim (has_head node [] n new) [ inl e ↦ inr (sym e) | inr gone ↦ absurd (has_none n gone) ]
+    ]
+
+-- something is dropped only where just the share is kept
+pub dropped_full : (share : ℕ) (nodes kept dropped : List Node) → length kept ≡ min share (length nodes) → length kept + length dropped ≡ length nodes → (n : Node) → Has dropped n → length kept ≡ share
+dropped_full share nodes kept [] kept_is all n h = absurd (has_none n h)
+dropped_full share nodes kept (m ∷ dropped) kept_is all n h = omega (arith, kept_is, all)
+
+pub splits : (p : Pass) (share : ℕ) (nodes : List Node) (minimize : Bool) (operator : JoinOp) (prune : Bool) → prune ≡ p.prune → IsLawOf p.model minimize operator → (result : Result Taken AllocError)
+    → IfOk result (λ t. IsOrdering minimize operator nodes (t.kept ++ t.dropped)) → IfOk result (λ t. length t.kept ≡ min share (length nodes)) → IfOk result (λ t. length t.kept + length t.dropped ≡ length nodes)
+    → IfOk result (λ t. IsLeastFloor minimize operator t.dropped t.least_floor) → ((n : Node) → IsCovered p.model prune nodes n → IfOk result (λ t. IsCovered p.model prune (t.kept ++ t.dropped) n))
+    → IfOk result (λ t. Apart p.model prune (t.kept ++ t.dropped)) → IfOk result (λ t. Splits p share nodes t)
+splits p share nodes minimize operator prune e law (Err x) order kept all floor covered apart = tt
+splits p share nodes minimize operator prune e law (Ok t) order kept all floor covered apart =
+    record {
+      from = order.from;
+      covered = subst (λ (b : Bool). (n : Node) → IsCovered p.model b nodes n → IsCovered p.model b (t.kept ++ t.dropped) n) e covered;
+      apart = subst (λ (b : Bool). Apart p.model b (t.kept ++ t.dropped)) e apart;
+      few = omega (arith, kept);
+      full = dropped_full share nodes t.kept t.dropped kept all;
+      floor = subst (λ (o : JoinOp). IsLeastFloor p.model.minimize o t.dropped t.least_floor) law.1 (subst (λ (b : Bool). IsLeastFloor b operator t.dropped t.least_floor) law.0 floor);
+    }

@@ -1,0 +1,24 @@
+use Rattle.std.proofs.Common.{ap, sym, ◌∙◌, subst}
+use Rattle.std.specs.Prelude.{List, IfOk}
+use Rattle.state_layout.specs.declared.node.Node.{Node}
+use Rattle.shard_core.specs.Layers.{nodes_of, AreOf, Splits}
+use Rattle.shard_core.specs.declared.layers.Layer.{Layer}
+use Rattle.shard_core.proofs.Rows.{got, rest_layouts, splits, wide}
+use Rattle.shard_core.proofs.layers.take_layer.Goals as goal
+
+pub returns-clause-layouts : goal.returns-clause-layouts
+returns-clause-layouts g c = subst (λ (xs : List (Layer g.row.K.Denot)). AreOf c.args.layout.now xs) (sym c.remove-layer.ensures.items) (rest_layouts c.args.layout.now c.open_layers.new.layers.items c.open_layers.ensures.layouts)
+
+pub returns-clause-split : goal.returns-clause-split
+returns-clause-split g c = λ p of law covering prune.
+    let at = got c.open_layers.new.layers.items 0 c.remove-layer.result c.in_ok-open_layers.ensures.long c.remove-layer.ensures.value in
+    let layout = c.open_layers.ensures.layouts 0 c.remove-layer.result at in
+    let nodes = sym (ap nodes_of at) ∙ c.open_layers.ensures.nodes 0 in
+    subst (λ (ns : List Node). IfOk c.take_best.result (λ taken. Splits p c.args.share ns taken)) nodes
+    (splits p c.args.share c.remove-layer.result.nodes.nodes g.L.CostLaw.minimize g.L.CostLaw.operator g.K.Covers.prune prune law c.take_best.result
+    c.take_best.ensures.order c.take_best.ensures.share c.take_best.ensures.all c.take_best.ensures.floor
+    (λ n there. c.take_best.ensures.covered p.model (layout ∙ of) covering n there)
+    (c.take_best.ensures.apart p.model (layout ∙ of) covering))
+
+pub returns-clause-wide : goal.returns-clause-wide
+returns-clause-wide g c = wide g.L.CostLaw.minimize g.L.CostLaw.operator _ c.take_best.result c.take_best.ensures.floor c.take_best.ensures.fits

@@ -1,0 +1,18 @@
+use Rattle.pass_ledger.specs.declared.mail.Letter.TheVariants.{State}
+use Rattle.std.proofs.Common.{refl}
+use Rattle.shard_core.proofs.Accepts.{not_closed, node_fits, state_of, accept_none}
+use Rattle.shard_core.proofs.shard.Shard.accept_state.Goals as goal
+
+pub overflow_sub-place : goal.overflow_sub-place
+overflow_sub-place g c = not_closed c.requires.0 c.args.self.now c.requires.1 c.requires.2 (State c.args.from c.args.layer c.args.node) c.requires.3
+
+pub collect-requires-clause-node : goal.collect-requires-clause-node
+collect-requires-clause-node g c = node_fits c.requires.0 c.args.self.now c.requires.1 c.requires.2 (State c.args.from c.args.layer c.args.node) c.requires.3 c.args.from c.args.layer c.args.node refl
+
+pub returns-in-Ok-clause-taken : goal.returns-in-Ok-clause-taken
+returns-in-Ok-clause-taken g c = λ p r suited st can.
+    state_of p c.args.self.now r st c.args.from c.args.layer c.args.node can c.collect.new.layers c.collect.ensures.layouts
+    (c.in-Ok.ensures.merged p st.belongs.layout_is suited.covering suited.prune_is) c.collect.ensures.others c.collect.ensures.busy
+
+pub returns-in-Err-clause-same : goal.returns-in-Err-clause-same
+returns-in-Err-clause-same g c = λ p r st. accept_none p c.args.self.now r st c.collect.new.layers c.collect.ensures.layouts c.in-Err.ensures.same c.collect.ensures.busy

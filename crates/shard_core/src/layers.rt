@@ -1,0 +1,196 @@
+//! The layers that are not closed, with the nodes that were received for them so far.
+
+ghost use Rattle.std.specs.Prelude.{◌≡◌, ℕ, ◌+◌, ◌<◌, true, false, List, [], length, option_to_list, IfOk, IfErr, OnErr, OnOk, IfSome, Option, Some, None};
+ghost use Rattle.cost_laws.specs.Orders.{InWideRange, IsLawOf};
+ghost use Rattle.state_layout.specs.Conditions.{IsLayoutOf, IsNodeFor};
+ghost use Rattle.state_layout.specs.declared.node.Node.{Node};
+ghost use Rattle.pass_ledger.specs.Passes.{Pass};
+ghost use Rattle.shard_core.specs.Layers.{nodes_at, busy_at, AreOf, Merges, Splits};
+
+use cost_laws::CostLaw;
+use dom_store::{Covers, DomStore, Taken};
+use state_layout::{Layout, Node};
+use std::alloc::{AllocError, Global};
+
+/// A layer that is not closed: its nodes so far, and whether a mark told that some shard has states of it.
+#[derive(Drop)]
+pub struct Layer<K: Covers> {
+    pub nodes: DomStore<K>,
+    pub busy: bool,
+}
+
+/// Room for one more layer.
+#[tactic(auto, using(crate::proofs::Rows::push_nodes, crate::proofs::Rows::push_busy, crate::proofs::Rows::push_layouts))]
+fn push_layer<K: Covers>(
+    alloc: Global,
+    layout: &Layout,
+    layers: &mut Vec<Layer<K>>,
+) -> Result<(), AllocError>
+    requires { AreOf layout.now layers.old.items }
+    ensures layouts { AreOf layout.now layers.new.items }
+    ensures long { OnOk result (length layers.new.items ≡ length layers.old.items + 1) }
+    ensures nodes { (d : ℕ) → nodes_at layers.new.items d ≡ nodes_at layers.old.items d }
+    ensures busy { (d : ℕ) → busy_at layers.new.items d ≡ busy_at layers.old.items d }
+{
+    let nodes = DomStore::new(alloc, layout)?;
+    layers.push(Layer { nodes, busy: false })?;
+    Ok(())
+}
+
+/// Room for the layer at a place.
+fn open_layers<K: Covers>(
+    alloc: Global,
+    layout: &Layout,
+    layers: &mut Vec<Layer<K>>,
+    place: u64,
+) -> Result<(), AllocError>
+    requires { AreOf layout.now layers.old.items }
+    ensures layouts { AreOf layout.now layers.new.items }
+    ensures long { OnOk result (place < length layers.new.items) }
+    ensures nodes { (d : ℕ) → nodes_at layers.new.items d ≡ nodes_at layers.old.items d }
+    ensures busy { (d : ℕ) → busy_at layers.new.items d ≡ busy_at layers.old.items d }
+{
+    while layers.len() as u64 <= place {
+        push_layer(alloc, layout, layers)?;
+    }
+    Ok(())
+}
+
+/// Adds a node to its layer. On `Err` memory ran out, and the node comes back.
+pub(crate) fn collect<K: Covers>(
+    alloc: Global,
+    layout: &Layout,
+    layers: &mut Vec<Layer<K>>,
+    place: u64,
+    node: Node,
+) -> Result<(), Node>
+    requires layouts { AreOf layout.now layers.old.items }
+    requires node { IsNodeFor layout.now node }
+    ensures layouts { AreOf layout.now layers.new.items }
+    ensures merged { (p : Pass) → IsLayoutOf p.model layout.now → IsLawOf p.model K.minimize K.operator → K.prune ≡ p.prune → OnOk result (Merges p (nodes_at layers.old.items place) node (nodes_at layers.new.items place)) }
+    ensures others { (d : ℕ) → (d ≡ place → ⊥) → nodes_at layers.new.items d ≡ nodes_at layers.old.items d }
+    ensures busy { (d : ℕ) → busy_at layers.new.items d ≡ busy_at layers.old.items d }
+    ensures same { OnErr result ((d : ℕ) → nodes_at layers.new.items d ≡ nodes_at layers.old.items d) }
+    ensures back { IfErr result (λ back. back ≡ node) }
+{
+    if open_layers(alloc, layout, layers, place).is_err() {
+        return Err(node);
+    }
+    add_at(layout, layers, place, node)
+}
+
+#[tactic(auto, using(crate::proofs::Rows::set_layouts, crate::proofs::Rows::set_at, crate::proofs::Rows::set_off, crate::proofs::Rows::added_only))]
+fn add_at<K: Covers>(
+    layout: &Layout,
+    layers: &mut Vec<Layer<K>>,
+    place: u64,
+    node: Node,
+) -> Result<(), Node>
+    requires layouts { AreOf layout.now layers.old.items }
+    requires node { IsNodeFor layout.now node }
+    requires there { place < length layers.old.items }
+    ensures layouts { AreOf layout.now layers.new.items }
+    ensures merged { (p : Pass) → IsLayoutOf p.model layout.now → IsLawOf p.model K.minimize K.operator → K.prune ≡ p.prune → OnOk result (Merges p (nodes_at layers.old.items place) node (nodes_at layers.new.items place)) }
+    ensures others { (d : ℕ) → (d ≡ place → ⊥) → nodes_at layers.new.items d ≡ nodes_at layers.old.items d }
+    ensures busy { (d : ℕ) → busy_at layers.new.items d ≡ busy_at layers.old.items d }
+    ensures same { OnErr result ((d : ℕ) → nodes_at layers.new.items d ≡ nodes_at layers.old.items d) }
+    ensures back { IfErr result (λ back. back ≡ node) }
+{
+    layers[place as usize].nodes.add(layout, node)?;
+    Ok(())
+}
+
+/// The layers of a shard that has taken no letter: layer 0 has the node that it starts with.
+pub(crate) fn first_layers<K: Covers>(
+    alloc: Global,
+    layout: &Layout,
+    start: Option<Node>,
+) -> Result<Vec<Layer<K>>, AllocError>
+    requires { IfSome start (IsNodeFor layout.now) }
+    ensures layouts { IfOk result (λ layers. AreOf layout.now layers.items) }
+    ensures merged { (p : Pass) (n : Node) → IsLayoutOf p.model layout.now → IsLawOf p.model K.minimize K.operator → K.prune ≡ p.prune → start ≡ Some n → IfOk result (λ layers. Merges p [] n (nodes_at layers.items 0)) }
+    ensures none { start ≡ None → IfOk result (λ layers. nodes_at layers.items 0 ≡ []) }
+    ensures later { IfOk result (λ layers. (d : ℕ) → 0 < d → nodes_at layers.items d ≡ []) }
+    ensures busy { IfOk result (λ layers. (d : ℕ) → busy_at layers.items d ≡ false) }
+{
+    let mut layers = Vec::new(alloc);
+    let Some(node) = start else {
+        return Ok(layers);
+    };
+    match collect(alloc, layout, &mut layers, 0, node) {
+        Ok(()) => Ok(layers),
+        Err(_) => Err(AllocError),
+    }
+}
+
+/// Notes that some shard has states of a layer.
+#[tactic(auto, using(crate::proofs::Rows::set_layouts, crate::proofs::Rows::set_at, crate::proofs::Rows::set_off))]
+pub(crate) fn mark_busy<K: Covers>(
+    alloc: Global,
+    layout: &Layout,
+    layers: &mut Vec<Layer<K>>,
+    place: u64,
+) -> Result<(), AllocError>
+    requires layouts { AreOf layout.now layers.old.items }
+    ensures layouts { AreOf layout.now layers.new.items }
+    ensures nodes { (d : ℕ) → nodes_at layers.new.items d ≡ nodes_at layers.old.items d }
+    ensures marked { OnOk result (busy_at layers.new.items place ≡ true) }
+    ensures others { (d : ℕ) → (d ≡ place → ⊥) → busy_at layers.new.items d ≡ busy_at layers.old.items d }
+    ensures same { OnErr result ((d : ℕ) → busy_at layers.new.items d ≡ busy_at layers.old.items d) }
+{
+    open_layers(alloc, layout, layers, place)?;
+    layers[place as usize].busy = true;
+    Ok(())
+}
+
+/// Notes the total that a mark told of a layer.
+pub(crate) fn note_total<K: Covers>(
+    alloc: Global,
+    layout: &Layout,
+    layers: &mut Vec<Layer<K>>,
+    place: u64,
+    total: u64,
+) -> Result<(), AllocError>
+    requires layouts { AreOf layout.now layers.old.items }
+    ensures layouts { AreOf layout.now layers.new.items }
+    ensures nodes { (d : ℕ) → nodes_at layers.new.items d ≡ nodes_at layers.old.items d }
+    ensures marked { OnOk result (0 < total → busy_at layers.new.items place ≡ true) }
+    ensures none { total ≡ 0 → busy_at layers.new.items place ≡ busy_at layers.old.items place }
+    ensures others { (d : ℕ) → (d ≡ place → ⊥) → busy_at layers.new.items d ≡ busy_at layers.old.items d }
+    ensures same { OnErr result ((d : ℕ) → busy_at layers.new.items d ≡ busy_at layers.old.items d) }
+{
+    if total > 0 {
+        mark_busy(alloc, layout, layers, place)?;
+    }
+    Ok(())
+}
+
+/// Whether some shard has states of the first layer.
+pub(crate) fn is_busy<K: Covers>(layers: &[Layer<K>]) -> bool
+    ensures { result ≡ busy_at layers.now 0 }
+{
+    match layers.first() {
+        Some(layer) => layer.busy,
+        None => false,
+    }
+}
+
+/// Takes the first layer out, with its best nodes kept up to the share.
+#[tactic(auto, using(crate::proofs::Rows::rest_at, crate::proofs::Rows::rest_layouts, crate::proofs::Rows::dropped_full))]
+pub(crate) fn take_layer<L: CostLaw, K: Covers>(
+    alloc: Global,
+    layout: &Layout,
+    layers: &mut Vec<Layer<K>>,
+    share: u64,
+) -> Result<Taken, AllocError>
+    requires layouts { AreOf layout.now layers.old.items }
+    ensures layouts { AreOf layout.now layers.new.items }
+    ensures split { (p : Pass) → IsLayoutOf p.model layout.now → IsLawOf p.model L.minimize L.operator → IsLawOf p.model K.minimize K.operator → K.prune ≡ p.prune → IfOk result (λ taken. Splits p share (nodes_at layers.old.items 0) taken) }
+    ensures nodes { OnOk result ((d : ℕ) → nodes_at layers.new.items d ≡ nodes_at layers.old.items (d + 1)) }
+    ensures busy { OnOk result ((d : ℕ) → busy_at layers.new.items d ≡ busy_at layers.old.items (d + 1)) }
+    ensures wide { IfOk result (λ taken. IfSome taken.least_floor InWideRange) }
+{
+    open_layers(alloc, layout, layers, 0)?;
+    let mut layer = layers.remove(0);
+    layer.nodes.take_best::<L>(alloc, share)
+}
