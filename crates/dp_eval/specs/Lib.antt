@@ -3,3 +3,4 @@ pub mod Places
 pub mod Terms
 pub mod Totals
 pub mod Fits
+pub mod Operands

@@ -6,6 +6,7 @@ ghost use Rattle.dp_model.specs.declared.whole.Model.{Model};
 ghost use Rattle.dp_model.specs.declared.parts.PlainState.{PlainState};
 ghost use Rattle.dp_model.specs.Evaluation.{count_of, each_holds, num_value, set_value, cond_value};
 ghost use Rattle.dp_eval.specs.Answers.{Answers, AnswersBy};
+ghost use Rattle.dp_eval.specs.Operands.{operated_by, complement_of, with_in, without_in, is_same_as, is_within, is_member_in, is_empty};
 ghost use Rattle.dp_eval.specs.Terms.{num_values, term_value, arg_value, term_values};
 
 use crate::ends::EvalEnd;
@@ -15,7 +16,7 @@ use crate::parameters::{parameter, range_of, with_more};
 use crate::sets::{CountedSet, has, is_subset, others, same_members, set_operation, with, without};
 use crate::sums::{Term, sum_of};
 use crate::tables::{number_cell, number_in, set_cell, set_in, truth_cell};
-use dp_model::{Arg, Cond, Model, Num, PlainState, Seq, SetEx};
+use dp_model::{Arg, Cond, Model, Num, PlainState, Seq, SetEx, SetOp};
 use std::alloc::Global;
 
 /// What expressions are evaluated in: a state of a model, with these values of the parameters.
@@ -94,6 +95,7 @@ pub fn eval_cond(
 
 /// The value of a number expression.
 #[cycle(eval)]
+#[inline(never)]
 fn number(at: &Scene<'_>, e: &Num) -> Result<i64, EvalEnd>
     ensures { Answers result (num_value at.now.model.now at.now.s.now e.now at.now.args.now) }
 {
@@ -123,6 +125,7 @@ fn number(at: &Scene<'_>, e: &Num) -> Result<i64, EvalEnd>
 
 /// The members of a set expression, with the count of its object type, so that no operator has to look for it.
 #[cycle(eval)]
+#[inline(never)]
 fn counted(at: &Scene<'_>, e: &SetEx) -> Result<CountedSet, EvalEnd>
     ensures count { IfOk result
         (λ set. set.count ≡ count_of at.now.model.now (set_value at.now.model.now at.now.s.now e.now).0) }
@@ -141,34 +144,90 @@ fn counted(at: &Scene<'_>, e: &SetEx) -> Result<CountedSet, EvalEnd>
         }
         SetEx::Op(op, a, b) => {
             let x = counted(at, a.get())?;
-            let y = counted(at, b.get())?;
-            Ok(set_operation(at.alloc, *op, &x, &y)?)
+            operated(at, *op, &x, b.get())
         }
-        SetEx::Not(a) => Ok(others(at.alloc, &counted(at, a.get())?)?),
+        SetEx::Not(a) => complement(at, a.get()),
         SetEx::With(n, a) => {
             let z = number(at, n.get())?;
-            let x = counted(at, a.get())?;
-            Ok(with(at.alloc, &x, member_of(x.count, z)?)?)
+            with_member(at, z, a.get())
         }
         SetEx::Without(n, a) => {
             let z = number(at, n.get())?;
-            let x = counted(at, a.get())?;
-            Ok(without(at.alloc, &x, member_of(x.count, z)?)?)
+            without_member(at, z, a.get())
         }
         SetEx::If(c, a, b) => {
             if holds(at, c.get())? {
                 counted(at, a.get())
             } else {
-                let CountedSet { members, .. } = counted(at, b.get())?;
-                let count = set_count(at.model, e, at.s);
-                Ok(CountedSet { count, members })
+                counted_as(at, set_count(at.model, e, at.s), b.get())
             }
         }
     }
 }
 
+/// A set operation on a set and its second operand.
+#[cycle(eval)]
+#[inline(never)]
+fn operated(at: &Scene<'_>, op: SetOp, x: &CountedSet, b: &SetEx) -> Result<CountedSet, EvalEnd>
+    ensures count { IfOk result (λ set. set.count ≡ x.now.count) }
+    ensures members { AnswersBy (λ (set : CountedSet). set.members) result
+        (operated_by op x.now.count x.now.members ((set_value at.now.model.now at.now.s.now b.now).1 at.now.args.now)) }
+{
+    let y = counted(at, b)?;
+    Ok(set_operation(at.alloc, op, x, &y)?)
+}
+
+/// The members of the object type that a set lacks.
+#[cycle(eval)]
+#[inline(never)]
+fn complement(at: &Scene<'_>, a: &SetEx) -> Result<CountedSet, EvalEnd>
+    ensures count { IfOk result (λ set. set.count ≡ (count_of at.now.model.now (set_value at.now.model.now at.now.s.now a.now).0)) }
+    ensures members { AnswersBy (λ (set : CountedSet). set.members) result
+        (complement_of (count_of at.now.model.now (set_value at.now.model.now at.now.s.now a.now).0) ((set_value at.now.model.now at.now.s.now a.now).1 at.now.args.now)) }
+{
+    let x = counted(at, a)?;
+    Ok(others(at.alloc, &x)?)
+}
+
+/// A set with the member of its object type that a number is.
+#[cycle(eval)]
+#[inline(never)]
+fn with_member(at: &Scene<'_>, z: i64, a: &SetEx) -> Result<CountedSet, EvalEnd>
+    ensures count { IfOk result (λ set. set.count ≡ (count_of at.now.model.now (set_value at.now.model.now at.now.s.now a.now).0)) }
+    ensures members { AnswersBy (λ (set : CountedSet). set.members) result
+        (with_in (count_of at.now.model.now (set_value at.now.model.now at.now.s.now a.now).0) z ((set_value at.now.model.now at.now.s.now a.now).1 at.now.args.now)) }
+{
+    let x = counted(at, a)?;
+    Ok(with(at.alloc, &x, member_of(x.count, z)?)?)
+}
+
+/// A set without the member of its object type that a number is.
+#[cycle(eval)]
+#[inline(never)]
+fn without_member(at: &Scene<'_>, z: i64, a: &SetEx) -> Result<CountedSet, EvalEnd>
+    ensures count { IfOk result (λ set. set.count ≡ (count_of at.now.model.now (set_value at.now.model.now at.now.s.now a.now).0)) }
+    ensures members { AnswersBy (λ (set : CountedSet). set.members) result
+        (without_in (count_of at.now.model.now (set_value at.now.model.now at.now.s.now a.now).0) z ((set_value at.now.model.now at.now.s.now a.now).1 at.now.args.now)) }
+{
+    let x = counted(at, a)?;
+    Ok(without(at.alloc, &x, member_of(x.count, z)?)?)
+}
+
+/// A set as one of an object type with this count.
+#[cycle(eval)]
+#[inline(never)]
+fn counted_as(at: &Scene<'_>, count: u32, b: &SetEx) -> Result<CountedSet, EvalEnd>
+    ensures count { IfOk result (λ set. set.count ≡ count) }
+    ensures members { AnswersBy (λ (set : CountedSet). set.members) result
+        (((set_value at.now.model.now at.now.s.now b.now).1 at.now.args.now)) }
+{
+    let CountedSet { members, .. } = counted(at, b)?;
+    Ok(CountedSet { count, members })
+}
+
 /// Whether a condition holds.
 #[cycle(eval)]
+#[inline(never)]
 fn holds(at: &Scene<'_>, e: &Cond) -> Result<bool, EvalEnd>
     ensures { Answers result (cond_value at.now.model.now at.now.s.now e.now at.now.args.now) }
 {
@@ -179,15 +238,23 @@ fn holds(at: &Scene<'_>, e: &Cond) -> Result<bool, EvalEnd>
             truth_cell(at.alloc, at.model, *t, &values)
         }
         Cond::Numbers(op, a, b) => Ok(compares(*op, number(at, a)?, number(at, b)?)),
-        Cond::SameSet(a, b) => Ok(same_members(&counted(at, a)?, &counted(at, b)?)),
-        Cond::OtherSet(a, b) => Ok(!same_members(&counted(at, a)?, &counted(at, b)?)),
+        Cond::SameSet(a, b) => {
+            let x = counted(at, a)?;
+            is_same(at, &x, b)
+        }
+        Cond::OtherSet(a, b) => {
+            let x = counted(at, a)?;
+            Ok(!is_same(at, &x, b)?)
+        }
         Cond::IsIn(n, a) => {
             let z = number(at, n)?;
-            let x = counted(at, a)?;
-            Ok(has(x.members.list(), member_of(x.count, z)?))
+            is_in(at, z, a)
         }
-        Cond::Subset(a, b) => Ok(is_subset(at.alloc, &counted(at, a)?, &counted(at, b)?)?),
-        Cond::Empty(a) => Ok(counted(at, a)?.members.list().is_empty()),
+        Cond::Subset(a, b) => {
+            let x = counted(at, a)?;
+            is_within(at, &x, b)
+        }
+        Cond::Empty(a) => is_empty(at, a),
         Cond::Not(c) => Ok(!holds(at, c.get())?),
         Cond::And(a, b) => Ok(holds(at, a.get())? && holds(at, b.get())?),
         Cond::Or(a, b) => Ok(holds(at, a.get())? || holds(at, b.get())?),
@@ -200,6 +267,46 @@ fn holds(at: &Scene<'_>, e: &Cond) -> Result<bool, EvalEnd>
             all_hold(at, c.get(), members.list())
         }
     }
+}
+
+/// Whether a set has the members of another.
+#[cycle(eval)]
+#[inline(never)]
+fn is_same(at: &Scene<'_>, x: &CountedSet, b: &SetEx) -> Result<bool, EvalEnd>
+    ensures { Answers result (is_same_as x.now.members ((set_value at.now.model.now at.now.s.now b.now).1 at.now.args.now)) }
+{
+    let y = counted(at, b)?;
+    Ok(same_members(x, &y))
+}
+
+/// Whether each member of a set is one of another.
+#[cycle(eval)]
+#[inline(never)]
+fn is_within(at: &Scene<'_>, x: &CountedSet, b: &SetEx) -> Result<bool, EvalEnd>
+    ensures { Answers result (is_within x.now.members ((set_value at.now.model.now at.now.s.now b.now).1 at.now.args.now)) }
+{
+    let y = counted(at, b)?;
+    Ok(is_subset(at.alloc, x, &y)?)
+}
+
+/// Whether a number is a member of a set.
+#[cycle(eval)]
+#[inline(never)]
+fn is_in(at: &Scene<'_>, z: i64, a: &SetEx) -> Result<bool, EvalEnd>
+    ensures { Answers result (is_member_in (count_of at.now.model.now (set_value at.now.model.now at.now.s.now a.now).0) z ((set_value at.now.model.now at.now.s.now a.now).1 at.now.args.now)) }
+{
+    let x = counted(at, a)?;
+    Ok(has(x.members.list(), member_of(x.count, z)?))
+}
+
+/// Whether a set has no members.
+#[cycle(eval)]
+#[inline(never)]
+fn is_empty(at: &Scene<'_>, a: &SetEx) -> Result<bool, EvalEnd>
+    ensures { Answers result (is_empty ((set_value at.now.model.now at.now.s.now a.now).1 at.now.args.now)) }
+{
+    let x = counted(at, a)?;
+    Ok(x.members.list().is_empty())
 }
 
 /// Whether a condition holds with each of these members as one more parameter, up to the first where it does not.
