@@ -16,11 +16,13 @@ const PRINTED: &str = concat!(
     "solution 3 2\nq\nd\npass 2 share 2 visited 3 dropped 0\nverdict optimal 3\n",
 );
 
+static WORDS: [&str; 5] = ["solve", "a", "a1", "--prune", "off"];
+
 /// The words of a run over `a` and `a1`.
 fn words_of(alloc: Global) -> Result<Vec<String>, AllocError> {
     let mut given = Vec::new(alloc);
-    for word in ["solve", "a", "a1", "--prune", "off"] {
-        given.push(String::from_str(alloc, word)?)?;
+    for word in WORDS.iter() {
+        given.push(String::from_str(alloc, *word)?)?;
     }
     Ok(given)
 }
@@ -136,12 +138,15 @@ fn a_failed_read_names_its_file(rt: HostRuntime) -> Result<(), Fail> {
     Ok(())
 }
 
+/// Whether the domain or the problem is too long, and what is printed.
+static LONG: [(bool, &str); 2] = [(true, "too long domain\n"), (false, "too long problem\n")];
+
 #[test]
 fn a_file_past_the_limit_is_too_long(rt: HostRuntime) -> Result<(), Fail> {
     let words = words_of(rt.alloc())?;
     let long = vec![in rt.alloc(); b'a'; 16_777_217]?;
-    for (is_domain, text) in [(true, "too long domain\n"), (false, "too long problem\n")] {
-        let (domain, problem) = if is_domain {
+    for (is_domain, text) in LONG.iter() {
+        let (domain, problem) = if *is_domain {
             (long.as_slice(), b"".as_slice())
         } else {
             (b"".as_slice(), long.as_slice())

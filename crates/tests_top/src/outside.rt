@@ -99,6 +99,14 @@ fn reads_files_of_a_fine_shelf(rt: HostRuntime) -> Result<(), Fail> {
     Ok(())
 }
 
+/// Where two bytes of a file are read, how many come, and what then stands in the room for them.
+static PIECES: [(u64, usize, [u8; 2]); 4] = [
+    (0, 2, *b"ab"),
+    (1, 2, *b"bc"),
+    (2, 1, *b"cc"),
+    (9, 0, *b"cc"),
+];
+
 #[test]
 fn reaches_the_system(rt: HostRuntime) -> Result<(), Fail> {
     let folder = env::temp_dir(&rt)?;
@@ -107,14 +115,10 @@ fn reaches_the_system(rt: HostRuntime) -> Result<(), Fail> {
     fs::write(&rt, name.as_str(), b"abc".as_slice())?;
     let mut shelf = FileShelf::new(&rt);
     let mut room = [0u8; 2];
-    for (place, want_count, want) in [
-        (0, 2usize, *b"ab"),
-        (1, 2, *b"bc"),
-        (2, 1, *b"cc"),
-        (9, 0, *b"cc"),
-    ] {
-        let count = shelf.read(name.as_str(), place, &mut room);
-        assert_eq!(rt; (count, room), (Ok(want_count), want), "{place}");
+    for (place, want_count, want) in PIECES.iter() {
+        let count = shelf.read(name.as_str(), *place, &mut room);
+        assert_eq!(rt; count, Ok(*want_count), "{place}");
+        assert_eq!(rt; room, *want, "{place}");
     }
     let read = read_all(rt.alloc(), &mut shelf, name.as_str(), 3)?;
     assert_eq!(rt; (read.as_slice(), shelf.faults()), (b"abc".as_slice(), 0));
