@@ -9,4 +9,4 @@ mod outbox;
 mod shard;
 
 pub use layers::Layer;
-pub use shard::{Closed, Shard, ShardEnd, Visited};
+pub use shard::{Closed, Shard, ShardEnd, Visited, merged_floor};

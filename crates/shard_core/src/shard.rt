@@ -158,6 +158,7 @@ impl<'m, L: CostLaw, K: Covers> Shard<'m, L, K> {
         ensures taken { (p : Pass) (r : ShardRecord) → Suited p L.minimize L.operator K.prune K.minimize K.operator → Stands p self.old r → CanTake p r letter → OnOk result (Stands p self.new (take r letter)) }
         ensures same { (p : Pass) (r : ShardRecord) → Stands p self.old r → OnErr result (Stands p self.new r) }
         ensures back { IfErr result (λ back. back ≡ letter) }
+        ensures me { self.new.me ≡ self.old.me }
     {
         match letter {
             Letter::State { from, layer, node } => self.accept_state(from, layer, node),
@@ -176,6 +177,7 @@ impl<'m, L: CostLaw, K: Covers> Shard<'m, L, K> {
         ensures taken { (p : Pass) (r : ShardRecord) → Suited p L.minimize L.operator K.prune K.minimize K.operator → Stands p self.old r → CanTake p r (Letter.State from layer node) → OnOk result (Stands p self.new (take r (Letter.State from layer node))) }
         ensures same { (p : Pass) (r : ShardRecord) → Stands p self.old r → OnErr result (Stands p self.new r) }
         ensures back { IfErr result (λ back. back ≡ Letter.State from layer node) }
+        ensures me { self.new.me ≡ self.old.me }
     {
         let place = layer - self.layer;
         match collect(self.alloc, &self.layout, &mut self.collected, place, node) {
@@ -190,6 +192,7 @@ impl<'m, L: CostLaw, K: Covers> Shard<'m, L, K> {
         ensures taken { (p : Pass) (r : ShardRecord) → Suited p L.minimize L.operator K.prune K.minimize K.operator → Stands p self.old r → CanTake p r (Letter.Mark from layer to_you total) → OnOk result (Stands p self.new (take r (Letter.Mark from layer to_you total))) }
         ensures same { (p : Pass) (r : ShardRecord) → Stands p self.old r → OnErr result (Stands p self.new r) }
         ensures back { IfErr result (λ back. back ≡ Letter.Mark from layer to_you total) }
+        ensures me { self.new.me ≡ self.old.me }
     {
         let back = Letter::Mark {
             from,
@@ -230,6 +233,7 @@ impl<'m, L: CostLaw, K: Covers> Shard<'m, L, K> {
         requires { (p : Pass) × (r : ShardRecord) × Stands p self.old r × IsReady p self.old.me r }
         ensures closed { (p : Pass) (r : ShardRecord) → Suited p L.minimize L.operator K.prune K.minimize K.operator → Stands p self.old r → IsReady p self.old.me r → IfOk result (λ closed. IsClosed p r closed self.new) }
         ensures ended { (p : Pass) (r : ShardRecord) → Stands p self.old r → OnErr result (EndsAs p self.new r) }
+        ensures me { self.new.me ≡ self.old.me }
     {
         let layer = sum(self.layer, 1)?;
         let taken = take_layer::<L, K>(self.alloc, &self.layout, &mut self.collected, self.share)?;
@@ -267,6 +271,7 @@ impl<'m, L: CostLaw, K: Covers> Shard<'m, L, K> {
         ensures pruned { (p : Pass) (r : ShardRecord) → Suited p L.minimize L.operator K.prune K.minimize K.operator → Stands p self.old r → result ≡ true → IsPruning p best r self.new }
         ensures kept { result ≡ false → self.new ≡ self.old }
         ensures not_pruned { (p : Pass) (r : ShardRecord) → Suited p L.minimize L.operator K.prune K.minimize K.operator → Stands p self.old r → result ≡ false → (n : Node) (rest : List Node) → r.waiting ≡ n ∷ rest → Prunes p best n → ⊥ }
+        ensures me { self.new.me ≡ self.old.me }
     {
         let Some(node) = self.waiting.front() else {
             return false;
@@ -284,6 +289,7 @@ impl<'m, L: CostLaw, K: Covers> Shard<'m, L, K> {
         requires { (p : Pass) × (r : ShardRecord) × Stands p self.old r × (0 < length r.waiting) }
         ensures visited { (p : Pass) (r : ShardRecord) → Suited p L.minimize L.operator K.prune K.minimize K.operator → Stands p self.old r → 0 < length r.waiting → IsVisited p self.old.me best r result self.new }
         ensures found { (p : Pass) (r : ShardRecord) → Stands p self.old r → (n : Node) (rest : List Node) → r.waiting ≡ n ∷ rest → Finds p.model (visit_in p self.old.me (length r.visits) n best) result }
+        ensures me { self.new.me ≡ self.old.me }
     {
         let Some(node) = self.waiting.pop_front() else {
             unreachable!()
@@ -379,6 +385,7 @@ impl<'m, L: CostLaw, K: Covers> Shard<'m, L, K> {
         ensures posted { (p : Pass) (r : ShardRecord) → Stands p self.old r → IfSome result (λ x. IsPosting p self.old.me r x.0 x.1 self.new) }
         ensures quiet { (p : Pass) (r : ShardRecord) → Stands p self.old r → IfNone result (IsQuiet p self.old.me r × Stands p self.new r) }
         ensures loud { (p : Pass) (r : ShardRecord) → Stands p self.old r → IsQuiet p self.old.me r → result ≡ None }
+        ensures me { self.new.me ≡ self.old.me }
     {
         if let Some(unsent) = self.letters.pop_front() {
             return Some(state_letter(self.me, self.layer, unsent));
@@ -466,8 +473,9 @@ fn is_pruned<L: CostLaw>(node: &Node, best: u64) -> bool
     }
 }
 
-/// The best floor of the nodes dropped before and of some more.
-fn merged_floor<L: CostLaw>(
+/// The best floor of the nodes dropped before and of some more, by how many there are of both. There is none where none was
+/// dropped, or where one has no floor.
+pub fn merged_floor<L: CostLaw>(
     before: u64,
     more: u64,
     floor: Option<i64>,

@@ -1,4 +1,4 @@
-use Rattle.std.proofs.Common.{refl, sym, subst, ◌∙◌}
+use Rattle.std.proofs.Common.{refl, sym, subst, ◌∙◌, rules}
 use Rattle.dp_model.specs.declared.whole.Model.{Model}
 use Rattle.state_layout.specs.Conditions.{IsNodeOf}
 use Rattle.shard_core.proofs.Ranges.{held_range}
@@ -28,6 +28,7 @@ returns-in-Ok-take_batch g c =
       visited = λ p r suited st _. took p g.L.CostLaw.minimize g.L.CostLaw.operator suited.law s r st c.in-Some.node c.pop_front.new.self.items c.in-Some.ensures.items c.args.best c.expand.new.batch c.expand.ensures.fits c.in-Ok.ensures.batch
           c.pop_front.new.self refl c.expand.new.self c.expand.ensures.same c.take_batch.new.self c.take_batch.ensures.frame e.letters e.sent e.long e.total e.log e.visited e.held c.in-Ok-take_batch.offer e.news e.word;
       found = λ p r st. finds_batch p s r st c.in-Some.node c.pop_front.new.self.items c.in-Some.ensures.items c.args.best c.expand.new.batch c.in-Ok.ensures.batch;
+      me = search rules;
     }
 
 pub returns-in-Ok-keep_fault : goal.returns-in-Ok-keep_fault
@@ -38,4 +39,5 @@ returns-in-Ok-keep_fault g c =
       visited = λ p r suited st _. met_fault p s r st c.in-Some.node c.pop_front.new.self.items c.in-Some.ensures.items c.args.best c.in-Err-Fault.spot c.in-Err-Fault.kind c.in-Err-Fault.last found
           c.pop_front.new.self c.expand.new.self c.expand.ensures.same c.keep_fault.new.self c.in-Ok-keep_fault.ensures.kept;
       found = λ p r st. finds_fault p s r st c.in-Some.node c.pop_front.new.self.items c.in-Some.ensures.items c.args.best c.in-Err-Fault.spot c.in-Err-Fault.kind c.in-Err-Fault.last found;
+      me = search rules;
     }
