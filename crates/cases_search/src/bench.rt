@@ -7,6 +7,7 @@ ghost use Rattle.state_layout.specs.Conditions.{IsNodeOf};
 ghost use Rattle.successors.specs.Starts.{StartFits};
 ghost use Rattle.cases_search.specs.Fits.{AllFit, FitsIn};
 
+use crate::numbers::scattered;
 use crate::shown::{cost_shown, id_shown, state_shown};
 use cost_laws::CostLaw;
 use dom_store::{Added, Covers, DomStore, Taken};
@@ -179,6 +180,25 @@ impl<'m, L: CostLaw, K: Covers> Bench<'m, L, K> {
     {
         let node = self.node(alloc, cost, floor)?;
         Ok(self.store.add(&self.layout, node).ok())
+    }
+
+    /// Adds nodes of the state at hand and of those that a ground transition leads to when it is taken again and again, with
+    /// costs so far in no order. It ends where so many are added, or the transition is not enabled.
+    pub(crate) fn add_along(
+        &mut self,
+        alloc: Global,
+        number: u32,
+        count: u32,
+    ) -> Result<(), ExpandEnd>
+        ensures { self.new ≡ self.old }
+    {
+        for index in 0..count {
+            self.add(alloc, scattered(index), None)?;
+            if !self.step(alloc, number)? {
+                return Ok(());
+            }
+        }
+        Ok(())
     }
 
     pub(crate) fn held(&self) -> u64 {

@@ -3,7 +3,7 @@
 ghost use Rattle.cases_search.specs.Fits.{AllFit};
 
 use crate::bench::Bench;
-use crate::layers::{add, take};
+use crate::layers::{add, many, take};
 use crate::numbers::{cost_of, count_of, floor_of, two_words};
 use crate::sessions::Command;
 use crate::shown::{cost_shown, end_shown, spot_end_shown, step_shown};
@@ -35,6 +35,7 @@ pub(crate) fn obey<R: Print + Alloc<A = Global>, L: CostLaw, K: Covers>(
         "owner" => owner(rt, bench, rest),
         "add" => add(rt, bench, rest),
         "take" => take(rt, bench, rest),
+        "many" => many(rt, bench, rest),
         word => println!(rt; "{word}: no such command"),
     }
 }

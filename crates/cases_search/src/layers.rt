@@ -45,6 +45,25 @@ pub(crate) fn take<R: Print + Alloc<A = Global>, L: CostLaw, K: Covers>(
     print_taken(rt, bench, "dropped", taken.dropped.list())
 }
 
+/// Adds so many nodes of the states that the first ground transition leads to, takes the better half of them, and prints how
+/// many there are.
+pub(crate) fn many<R: Print + Alloc<A = Global>, L: CostLaw, K: Covers>(
+    rt: &R,
+    bench: &mut Bench<'_, L, K>,
+    text: &str,
+) -> io::Result<()> {
+    let alloc = rt.alloc();
+    let count = text.parse::<u32>().unwrap_or(1);
+    if bench.add_along(alloc, 0, count).is_err() {
+        return println!(rt; "many {text}: a fault");
+    }
+    let held = bench.held();
+    let taken = bench.take_best(alloc, held / 2)?;
+    let kept = taken.kept.list().len();
+    let dropped = taken.dropped.list().len();
+    println!(rt; "many {text}: {held} held, {kept} kept, {dropped} dropped")
+}
+
 /// Prints nodes, each on a line, and whether its copy equals it.
 fn print_taken<R: Print + Alloc<A = Global>, L: CostLaw, K: Covers>(
     rt: &R,

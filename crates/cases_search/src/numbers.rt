@@ -34,6 +34,14 @@ pub(crate) fn floor_of(word: &str) -> Option<i64>
     }
 }
 
+/// Costs in no order, a different one for each index.
+pub(crate) fn scattered(index: u32) -> Option<i64>
+    ensures { IfSome result InRange }
+{
+    let cost = i64::from(index.wrapping_mul(2_654_435_761));
+    if cost <= GREATEST { Some(cost) } else { None }
+}
+
 /// How many shards there are, at least 1. Any word but such a number is 1.
 pub(crate) fn count_of(word: &str) -> u32
     ensures { 1 ≤ result }
