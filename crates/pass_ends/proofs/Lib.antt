@@ -1,0 +1,4 @@
+pub mod Best
+pub mod Founds
+pub mod Drops
+pub mod Endings

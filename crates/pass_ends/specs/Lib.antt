@@ -1,0 +1,4 @@
+pub mod Passes
+pub mod Ends
+pub mod Left
+pub mod Bests

@@ -1,0 +1,10 @@
+pub mod Places
+pub mod Joined
+pub mod Hands
+pub mod Mailing
+pub mod Fresh
+pub mod Turns
+pub mod Leaving
+pub mod Ended
+pub mod Telling
+pub mod Running

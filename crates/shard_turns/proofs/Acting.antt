@@ -1,0 +1,323 @@
+-- A shard that goes on after a step of its turn, and one that has ended.
+use Rattle.std.proofs.Common.{◌≡◌, ℕ, ◌+◌, ◌≤◌, ◌<◌, ◌⊎◌, min, inl, inr, List, [], ◌∷◌, ◌++◌, length, get_or, slice_get, Option, Some, None, refl, sym, ap, subst, ◌∙◌, arith}
+use Rattle.std.proofs.lemmas.Bool.{cases_eq}
+use Rattle.std.proofs.lemmas.Option.{slice_get_read}
+use Rattle.std.specs.Prelude.{Result, Ok, Err, OnOk, IfErr}
+use Rattle.std.specs.Global.{Vec}
+use Rattle.std.specs.Vec.{with_item}
+use Rattle.board_words.specs.Causes.{halt_number}
+use Rattle.board_words.specs.Rules.{no_word}
+use Rattle.board_words.specs.Seats.{BoardFacts, SeatFacts, IsSeatOf}
+use Rattle.board_words.specs.Steps.{after_look, after_offer, after_draw, after_halt, after_halted, IsBestFor, IsCountFor}
+use Rattle.board_words.specs.declared.halt.HaltCause.{HaltCause}
+use Rattle.board_words.specs.declared.halt.HaltCause.TheVariants as causes
+use Rattle.board_words.specs.declared.seat.View.{View}
+use Rattle.dp_claims.specs.Enough.{Has}
+use Rattle.dp_model.specs.contracts.whole.Model as models
+use Rattle.pass_ledger.specs.Counts.{row_pairs}
+use Rattle.pass_ledger.specs.Events.{take, CanTake, close, prune, visit, post}
+use Rattle.pass_ledger.specs.Letters.{of}
+use Rattle.pass_ledger.specs.Passes.{Pass}
+use Rattle.pass_ledger.specs.Records.{Own, Done}
+use Rattle.pass_ledger.specs.declared.mail.Letter.{Letter}
+use Rattle.pass_ledger.specs.declared.records.ShardRecord.{ShardRecord}
+use Rattle.pass_ledger.proofs.Appends.{append_same}
+use Rattle.pass_ledger.proofs.Lists.{has_last}
+use Rattle.shard_core.specs.Calls.{IsClosed, IsPruning, IsVisit, IsFaulted, IsPosting}
+use Rattle.shard_core.specs.Stands.{Stands, EndsAs}
+use Rattle.shard_core.specs.declared.shard.Closed.{Closed}
+use Rattle.shard_core.specs.declared.shard.Shard.{Shard}
+use Rattle.shard_mail.specs.Ends.{MailboxFacts, PosterFacts, TakerFacts, IsPosterOf, IsNextFor, posted_by, taken_by}
+use Rattle.shard_mail.specs.Mails.{LawfulUnder}
+use Rattle.shard_turns.specs.Envelopes.{sender_of, are_lawful}
+use Rattle.shard_turns.specs.Turners.{IsOfferOf, Sits, Sat, IsTakerFor, ArePostersFor, HasAllMail, HasSomeMail, Acts, Leaves}
+use Rattle.shard_turns.specs.declared.envelope.Envelope.{Envelope}
+use Rattle.shard_turns.specs.declared.turner.Ended.{Ended}
+use Rattle.shard_turns.specs.declared.turner.Ended.TheVariants as ends
+use Rattle.shard_turns.specs.declared.turner.Turner.{Turner}
+use Rattle.shard_turns.proofs.Kept.{fewer_visits}
+use Rattle.shard_turns.proofs.Mail.{enclosed, can_take, takes_mail, some_mail, vain_mail, posters_with, may_post, posts_mail, kept_mail}
+use Rattle.shard_turns.proofs.Sitting.{drawn_at, offered_after, offered_news, sits_same, sits_pruned, sits_visited, sat_met, sat_done, sat_memory, sat_budget, sat_drawn, sat_fault}
+use Rattle.spot_eval.specs.declared.ends.SpotFault.{SpotFault}
+use Rattle.state_layout.specs.declared.node.Node.{Node}
+
+-- ---- the seat
+
+-- the seat looked at the best word, and drew a number
+pub record Drew (board : BoardFacts) (old : SeatFacts) (best number : ℕ) (new : SeatFacts) : Type 0 where
+  pub on_board : IsSeatOf board new
+  pub view : new.view ≡ drawn_at old.view best number
+  pub least : IsBestFor old.view best
+  pub count : IsCountFor (after_look old.view best) number
+
+pub drew : (board : BoardFacts) (old looked new : SeatFacts) (best number : ℕ) → looked.view ≡ after_look old.view best → IsBestFor old.view best → IsSeatOf board new → new.view ≡ after_draw looked.view number → IsCountFor looked.view number → Drew board old best number new
+drew board old looked new best number look least on view count =
+    record { on_board = on; view = view ∙ ap (λ (v : View). after_draw v number) look; least = least; count = subst (λ (v : View). IsCountFor v number) look count }
+
+-- the seat raised the halt of a cause, and the shard has ended by it
+pub record Halts (board : BoardFacts) (old : SeatFacts) (cause : HaltCause) (end : Ended) (new : SeatFacts) : Type 0 where
+  pub ended : end ≡ ends.Halted cause
+  pub on_board : IsSeatOf board new
+  pub view : new.view ≡ after_halt old.view (halt_number cause)
+
+-- ---- a node that waits
+
+first_of : (ns : List Node) → 0 < length ns → (n : Node) × (rest : List Node) × (ns ≡ n ∷ rest)
+first_of [] lt = absurd (omega arith)
+first_of (n ∷ ns) lt = (n, ns, refl)
+
+none_waits : (waiting : List Node) → 0 < length waiting → waiting ≡ [] → ⊥
+none_waits waiting lt e = none (length waiting) lt (ap (λ (ns : List Node). length ns) e)
+  where
+    none : (a : ℕ) → 0 < a → a ≡ 0 → ⊥
+    none a lt e = absurd (omega arith)
+
+module _ {A B : Type 0} where
+  waits_kept : (p : Pass) (s : Shard A B) (r : ShardRecord) → Stands p s r → 0 < length r.waiting → length r.visits + 1 ≤ length (row_pairs 0 r.rows)
+  waits_kept p s r st waits =
+      let w = first_of r.waiting waits in
+      fewer_visits p s.me r st.ends.1.own (begun (cases_eq (length r.rows) 0)) w.0 w.1 w.2
+    where
+      some : (a : ℕ) → (a ≡ 0 → ⊥) → 0 < a
+      some a ne = omega arith
+
+      begun : (length r.rows ≡ 0) ⊎ (length r.rows ≡ 0 → ⊥) → 0 < length r.rows
+      begun (inl e) = absurd (none_waits r.waiting waits (st.begun (st.layer ∙ e)))
+      begun (inr ne) = some (length r.rows) ne
+
+  -- ---- where the ways of a step join again
+
+  module _ (p : Pass) (board : BoardFacts) (boxes : List MailboxFacts) (t : Turner A B) (joined seat : SeatFacts) (is : joined ≡ seat) {T : Type 0} (result : Result T Ended) where
+    pub on_acts : (x : T) → result ≡ Ok x → Acts p board boxes t seat → OnOk result (Acts p board boxes t joined)
+    on_acts x e acts = subst (λ (r : Result T Ended). OnOk r (Acts p board boxes t joined)) (sym e) (subst (λ (s : SeatFacts). Acts p board boxes t s) (sym is) acts)
+
+    pub on_none : (end : Ended) → result ≡ Err end → OnOk result (Acts p board boxes t joined)
+    on_none end e = subst (λ (r : Result T Ended). OnOk r (Acts p board boxes t joined)) (sym e) tt
+
+    pub on_leaves : (end : Ended) → result ≡ Err end → Leaves p board boxes end t seat → IfErr result (λ end. Leaves p board boxes end t joined)
+    on_leaves end e left = subst (λ (r : Result T Ended). IfErr r (λ end. Leaves p board boxes end t joined)) (sym e) (subst (λ (s : SeatFacts). Leaves p board boxes end t s) (sym is) left)
+
+    pub on_goes : (x : T) → result ≡ Ok x → IfErr result (λ end. Leaves p board boxes end t joined)
+    on_goes x e = subst (λ (r : Result T Ended). IfErr r (λ end. Leaves p board boxes end t joined)) (sym e) tt
+
+  -- ---- any step
+
+  module _ (p : Pass) (board : BoardFacts) (boxes : List MailboxFacts) (t : Turner A B) (seat : SeatFacts) (a : Acts p board boxes t seat) where
+    own : Own p t.shard.me a.shard_record
+    own = a.stands.ends.1.own
+
+    goes_on : (new : Shard A B) → new.me ≡ t.shard.me → (r : ShardRecord) → Stands p new r → (taker : TakerFacts Envelope) → IsTakerFor p boxes t.shard.me taker → (posters : Vec (PosterFacts Envelope)) → ArePostersFor p boxes t.shard.me posters.items
+        → HasAllMail p taker.taken posters.items r → (seat' : SeatFacts) → IsSeatOf board seat' → Sits p t.budget seat'.view r → Acts p board boxes (record t { shard = new; taker = taker; posters = posters }) seat'
+    goes_on new me r st taker takes posters post mail seat' on sits =
+        record {
+          shard_record = r;
+          shared = a.shared;
+          stands = st;
+          on_board = on;
+          sits = sits;
+          taker = subst (λ (i : ℕ). IsTakerFor p boxes i taker) (sym me) takes;
+          posters = subst (λ (i : ℕ). ArePostersFor p boxes i posters.items) (sym me) post;
+          mail = mail;
+        }
+
+    ends_with : (new : Shard A B) → new.me ≡ t.shard.me → (r : ShardRecord) → EndsAs p new r → (taker : TakerFacts Envelope) → IsTakerFor p boxes t.shard.me taker → (posters : Vec (PosterFacts Envelope)) → ArePostersFor p boxes t.shard.me posters.items
+        → HasSomeMail p taker.taken posters.items r → (seat' : SeatFacts) → IsSeatOf board seat' → (end : Ended) → Sat p t.shard.me end seat'.view r → Leaves p board boxes end (record t { shard = new; taker = taker; posters = posters }) seat'
+    ends_with new me r left taker takes posters post mail seat' on end sat =
+        record {
+          shard_record = r;
+          below = subst (λ (i : ℕ). i < p.shards) (sym me) a.stands.belongs.below;
+          ends = left;
+          on_board = on;
+          sat = subst (λ (i : ℕ). Sat p i end seat'.view r) (sym me) sat;
+          taker = subst (λ (i : ℕ). IsTakerFor p boxes i taker) (sym me) takes;
+          posters = subst (λ (i : ℕ). ArePostersFor p boxes i posters.items) (sym me) post;
+          mail = mail;
+        }
+
+    halts_with : (new : Shard A B) → new.me ≡ t.shard.me → (r : ShardRecord) → EndsAs p new r → (taker : TakerFacts Envelope) → IsTakerFor p boxes t.shard.me taker → (posters : Vec (PosterFacts Envelope)) → ArePostersFor p boxes t.shard.me posters.items
+        → HasSomeMail p taker.taken posters.items r → (before seat' : SeatFacts) (cause : HaltCause) (end : Ended) → Halts board before cause end seat' → (v : View) → before.view ≡ v → Sat p t.shard.me (ends.Halted cause) (after_halt v (halt_number cause)) r
+        → Leaves p board boxes end (record t { shard = new; taker = taker; posters = posters }) seat'
+    halts_with new me r left taker takes posters post mail before seat' cause end h v is sat =
+        ends_with new me r left taker takes posters post mail seat' h.on_board end
+        (subst (λ (e : Ended). Sat p t.shard.me e seat'.view r) (sym h.ended)
+        (subst (λ (w : View). Sat p t.shard.me (ends.Halted cause) w r) (sym (h.view ∙ ap (λ (w : View). after_halt w (halt_number cause)) is)) sat))
+
+    -- the mail is as before
+    same_mail : (r : ShardRecord) → r.received ≡ a.shard_record.received → r.posted ≡ a.shard_record.posted → HasAllMail p t.taker.taken t.posters.items r
+    same_mail r received posted =
+        record {
+          received = λ j lt. ap (λ (ls : List (List Letter)). of ls j) received ∙ a.mail.received j lt;
+          posted = λ k q at. a.mail.posted k q at ∙ ap (λ (ls : List (List Letter)). of ls k) (sym posted);
+        }
+
+    -- ---- a halt is met, or the shard is done
+
+    pub meets : (seat' : SeatFacts) (word : ℕ) → 0 < word → IsSeatOf board seat' → seat'.view ≡ after_halted seat.view word → Leaves p board boxes ends.Met t seat'
+    meets seat' word some on view =
+        ends_with t.shard refl a.shard_record a.stands.ends t.taker a.taker t.posters a.posters (some_mail p t.taker.taken t.posters.items a.shard_record a.mail) seat' on ends.Met
+        (subst (λ (v : View). Sat p t.shard.me ends.Met v a.shard_record) (sym view) (sat_met p t.shard.me t.budget seat.view a.shard_record own a.sits word some))
+
+    pub is_done : Done p t.shard.me a.shard_record → Leaves p board boxes ends.Done t seat
+    is_done done =
+        ends_with t.shard refl a.shard_record a.stands.ends t.taker a.taker t.posters a.posters (some_mail p t.taker.taken t.posters.items a.shard_record a.mail) seat a.on_board ends.Done
+        (sat_done p t.shard.me t.budget seat.view a.shard_record own a.sits done)
+
+    -- ---- a layer is closed
+
+    pub closes : (new : Shard A B) → new.me ≡ t.shard.me → (closed : Closed) → IsClosed p a.shard_record closed new → Acts p board boxes (record t { shard = new }) seat
+    closes new me closed is =
+        goes_on new me (close a.shard_record is.row) is.stands t.taker a.taker t.posters a.posters (same_mail (close a.shard_record is.row) refl refl) seat a.on_board
+        (sits_same p t.budget seat.view a.shard_record (close a.shard_record is.row) refl refl refl a.sits)
+
+    -- memory ran out, and the shard is only ended
+    pub runs_out : (new : Shard A B) → new.me ≡ t.shard.me → EndsAs p new a.shard_record → (seat' : SeatFacts) (end : Ended) → Halts board seat causes.Memory end seat' → Leaves p board boxes end (record t { shard = new }) seat'
+    runs_out new me left seat' end h =
+        halts_with new me a.shard_record left t.taker a.taker t.posters a.posters (some_mail p t.taker.taken t.posters.items a.shard_record a.mail) seat seat' causes.Memory end h seat.view refl
+        (sat_memory p t.shard.me t.budget seat.view a.shard_record own a.sits)
+
+    -- ---- a node is pruned or visited
+
+    pub prunes : (new : Shard A B) → new.me ≡ t.shard.me → (best : ℕ) → IsPruning p best a.shard_record new → IsBestFor seat.view best → (seat' : SeatFacts) → IsSeatOf board seat' → seat'.view ≡ after_look seat.view best → Acts p board boxes (record t { shard = new }) seat'
+    prunes new me best is least seat' on view =
+        let r = prune a.shard_record is.node is.rest best in
+        goes_on new me r is.stands t.taker a.taker t.posters a.posters (same_mail r refl refl) seat' on
+        (subst (λ (v : View). Sits p t.budget v r) (sym view) (sits_pruned p t.budget seat.view a.shard_record is.node is.rest best a.sits least))
+
+    visits_with : (new : Shard A B) → new.me ≡ t.shard.me → (j best number : ℕ) (offer : Option ℕ) → IsVisit p j best a.shard_record offer new → (drawn : SeatFacts) → Drew board seat best number drawn → number < t.budget
+        → (seat' : SeatFacts) → IsSeatOf board seat' → (offered : ℕ) → seat'.view ≡ record (drawn_at seat.view best number) { offered = offered } → IsOfferOf p offered new.held → Acts p board boxes (record t { shard = new }) seat'
+    visits_with new me j best number offer is drawn d lt seat' on offered view offers =
+        let r = visit a.shard_record is.layer is.node is.rest is.made is.prunes new.held None in
+        goes_on new me r is.stands t.taker a.taker t.posters a.posters (same_mail r refl refl) seat' on
+        (subst (λ (v : View). Sits p t.budget v r) (sym view)
+        (sits_visited p t.budget seat.view a.shard_record best number a.sits d.least d.count lt is.layer is.node is.rest is.made is.prunes is.by_best new.held offered offers))
+
+    pub visits : (new : Shard A B) → new.me ≡ t.shard.me → (j best number : ℕ) → IsVisit p j best a.shard_record None new → (drawn : SeatFacts) → Drew board seat best number drawn → number < t.budget → Acts p board boxes (record t { shard = new }) drawn
+    visits new me j best number is drawn d lt =
+        visits_with new me j best number None is drawn d lt drawn d.on_board seat.view.offered d.view (offered_after p seat.view.offered a.shard_record.held new.held a.sits.offered is.offer_is)
+
+    pub visits_news : (new : Shard A B) → new.me ≡ t.shard.me → (j best number word : ℕ) → word ≤ no_word → IsVisit p j best a.shard_record (Some word) new → (drawn : SeatFacts) → Drew board seat best number drawn → number < t.budget
+        → (seat' : SeatFacts) → IsSeatOf board seat' → seat'.view ≡ after_offer drawn.view word → Acts p board boxes (record t { shard = new }) seat'
+    visits_news new me j best number word fits is drawn d lt seat' on view =
+        visits_with new me j best number (Some word) is drawn d lt seat' on (min seat.view.offered word) (view ∙ ap (λ (v : View). after_offer v word) d.view)
+        (offered_news p seat.view.offered word a.shard_record.held new.held fits a.sits.offered is.offer_is)
+
+    -- ---- a halt after a number was drawn for a node that waits
+
+    module _ (waits : 0 < length a.shard_record.waiting) (best number : ℕ) (drawn : SeatFacts) (d : Drew board seat best number drawn) (seat' : SeatFacts) (end : Ended) where
+      room : length a.shard_record.visits + 1 ≤ length (row_pairs 0 a.shard_record.rows)
+      room = waits_kept p t.shard a.shard_record a.stands waits
+
+      pub spends : t.budget ≤ number → Halts board drawn causes.Budget end seat' → Leaves p board boxes end t seat'
+      spends le h =
+          halts_with t.shard refl a.shard_record a.stands.ends t.taker a.taker t.posters a.posters (some_mail p t.taker.taken t.posters.items a.shard_record a.mail) drawn seat' causes.Budget end h (drawn_at seat.view best number) d.view
+          (sat_budget p t.shard.me t.budget seat.view a.shard_record own a.sits best number d.least room le)
+
+      pub loses : (new : Shard A B) → new.me ≡ t.shard.me → number < t.budget → EndsAs p new a.shard_record → Halts board drawn causes.Memory end seat' → Leaves p board boxes end (record t { shard = new }) seat'
+      loses new me lt left h =
+          halts_with new me a.shard_record left t.taker a.taker t.posters a.posters (some_mail p t.taker.taken t.posters.items a.shard_record a.mail) drawn seat' causes.Memory end h (drawn_at seat.view best number) d.view
+          (sat_drawn p t.shard.me t.budget seat.view a.shard_record own a.sits best number d.least room lt)
+
+      pub faults : (new : Shard A B) → new.me ≡ t.shard.me → number < t.budget → (j : ℕ) (fault : SpotFault) → IsFaulted p j a.shard_record fault new → Halts board drawn causes.Fault end seat' → Leaves p board boxes end (record t { shard = new }) seat'
+      faults new me lt j fault is h =
+          let r = visit a.shard_record is.layer is.node is.rest [] [] a.shard_record.held (Some is.met) in
+          halts_with new me r is.ends t.taker a.taker t.posters a.posters (some_mail p t.taker.taken t.posters.items r (same_mail r refl refl)) drawn seat' causes.Fault end h (drawn_at seat.view best number) d.view
+          (sat_fault p t.shard.me t.budget seat.view a.shard_record own a.sits best number d.least room lt is.layer is.node is.rest is.met)
+
+    -- ---- a letter is taken
+
+    pub own_box : (b : MailboxFacts) → b ≡ get_or boxes t.shard.me b → slice_get boxes t.shard.me ≡ Some b
+    own_box b read = slice_get_read boxes p.shards t.shard.me b (sym a.shared.long) a.stands.belongs.below read
+
+    module _ (b : MailboxFacts) (at : slice_get boxes t.shard.me ≡ Some b) (x : Envelope) (next : IsNextFor models.the_row.coded are_lawful sender_of t.taker x) where
+      pub may_take : CanTake p a.shard_record x.letter
+      may_take =
+          can_take p t.taker.taken t.posters.items a.shard_record a.mail t.taker x refl (ap (λ (m : MailboxFacts). m.senders) (a.taker.of_box b at) ∙ a.shared.senders t.shard.me b at) a.taker.terms next
+
+      took : (taker : TakerFacts Envelope) → taker ≡ taken_by t.taker x → IsTakerFor p boxes t.shard.me taker
+      took taker is =
+          record {
+            of_box = λ c box. ap (λ (f : TakerFacts Envelope). f.mailbox) is ∙ a.taker.of_box c box;
+            terms = ap (λ (f : TakerFacts Envelope). f.terms) is ∙ a.taker.terms;
+          }
+
+      pub takes : (taker : TakerFacts Envelope) → taker ≡ taken_by t.taker x → (new : Shard A B) → new.me ≡ t.shard.me → Stands p new (take a.shard_record x.letter) → Acts p board boxes (record t { shard = new; taker = taker }) seat
+      takes taker is new me st =
+          let r = take a.shard_record x.letter in
+          goes_on new me r st taker (took taker is) t.posters a.posters
+          (subst (λ (xs : List Envelope). HasAllMail p xs t.posters.items r) (sym (ap (λ (f : TakerFacts Envelope). f.taken) is)) (takes_mail p t.taker.taken t.posters.items a.shard_record a.mail x own.sizes.0 may_take.from)) seat a.on_board
+          (sits_same p t.budget seat.view a.shard_record r refl refl refl a.sits)
+
+      -- it was taken in vain
+      pub takes_in_vain : (taker : TakerFacts Envelope) → taker ≡ taken_by t.taker x → (new : Shard A B) → new.me ≡ t.shard.me → EndsAs p new a.shard_record → (seat' : SeatFacts) (end : Ended) → Halts board seat causes.Memory end seat' → Leaves p board boxes end (record t { shard = new; taker = taker }) seat'
+      takes_in_vain taker is new me left seat' end h =
+          halts_with new me a.shard_record left taker (took taker is) t.posters a.posters
+          (subst (λ (xs : List Envelope). HasSomeMail p xs t.posters.items a.shard_record) (sym (ap (λ (f : TakerFacts Envelope). f.taken) is)) (vain_mail p t.taker.taken t.posters.items a.shard_record a.mail x)) seat seat' causes.Memory end h seat.view refl
+          (sat_memory p t.shard.me t.budget seat.view a.shard_record own a.sits)
+
+    -- ---- nothing is posted
+
+    pub rests : (new : Shard A B) → new.me ≡ t.shard.me → Stands p new a.shard_record → Acts p board boxes (record t { shard = new }) seat
+    rests new me st = goes_on new me a.shard_record st t.taker a.taker t.posters a.posters a.mail seat a.on_board a.sits
+
+    -- ---- a letter is posted
+
+    module _ (to : ℕ) (x : Letter) (new : Shard A B) (is : IsPosting p t.shard.me a.shard_record to x new) where
+      posted_now : ShardRecord
+      posted_now = post a.shard_record to x is.rest
+
+      within : to < length a.shard_record.posted
+      within = subst (λ (n : ℕ). to < n) (sym own.sizes.1) is.can.receiver
+
+      -- the letter is signed by the shard before and after, so it has its number
+      pub same_number : new.me ≡ t.shard.me
+      same_number =
+          sym (is.stands.ends.1.own.sends.signed to x (subst (λ (xs : List Letter). Has xs x) (sym (append_same a.shard_record.posted to x within)) (has_last (of a.shard_record.posted to) x)))
+          ∙ is.can.signed
+
+      pub box_there : to < length boxes
+      box_there = subst (λ (n : ℕ). to < n) (sym a.shared.long) is.can.receiver
+
+      pub box_at : (b : MailboxFacts) → b ≡ get_or boxes to b → slice_get boxes to ≡ Some b
+      box_at b read = slice_get_read boxes (length boxes) to b refl box_there read
+
+      pub poster_there : to < length t.posters.items
+      poster_there = subst (λ (n : ℕ). to < n) (sym a.posters.long) is.can.receiver
+
+      pub poster_at : (q : PosterFacts Envelope) → q ≡ get_or t.posters.items to q → slice_get t.posters.items to ≡ Some q
+      poster_at q read = slice_get_read t.posters.items (length t.posters.items) to q refl poster_there read
+
+      module _ (b : MailboxFacts) (box : slice_get boxes to ≡ Some b) (q : PosterFacts Envelope) (at : slice_get t.posters.items to ≡ Some q) where
+        pub poster_of : IsPosterOf b q
+        poster_of = a.posters.of_box to b q box at
+
+        pub poster_named : sender_of (enclosed x) ≡ q.number
+        poster_named = is.can.signed ∙ sym (a.posters.number to q at)
+
+        pub poster_lawful : LawfulUnder models.the_row.coded are_lawful q.terms (q.posted ++ enclosed x ∷ [])
+        poster_lawful = may_post p t.posters.items to q at t.taker.taken a.shard_record x a.mail within (a.posters.terms to q at) (is.stands.ends.1.own.sends.lawful to)
+
+        pub posts : (q' : PosterFacts Envelope) → q' ≡ posted_by q (enclosed x) → Acts p board boxes (record t { shard = new; posters = with_item t.posters to q' }) seat
+        posts q' same =
+            let r = post a.shard_record to x is.rest in
+            goes_on new same_number r is.stands t.taker a.taker (with_item t.posters to q')
+            (posters_with p t.posters.items to q at boxes t.shard.me a.posters q' (ap (λ (f : PosterFacts Envelope). f.mailbox) same) (ap (λ (f : PosterFacts Envelope). f.number) same) (ap (λ (f : PosterFacts Envelope). f.terms) same))
+            (posts_mail p t.posters.items to q at t.taker.taken a.shard_record x a.mail within is.rest q' same) seat a.on_board (sits_same p t.budget seat.view a.shard_record r refl refl refl a.sits)
+
+        -- it was handed out in vain
+        pub posts_in_vain : (q' : PosterFacts Envelope) → q' ≡ q → (seat' : SeatFacts) (end : Ended) → Halts board seat causes.Memory end seat' → Leaves p board boxes end (record t { shard = new; posters = with_item t.posters to q' }) seat'
+        posts_in_vain q' same seat' end h =
+            let r = post a.shard_record to x is.rest in
+            halts_with new same_number r is.stands.ends t.taker a.taker (with_item t.posters to q')
+            (posters_with p t.posters.items to q at boxes t.shard.me a.posters q' (ap (λ (f : PosterFacts Envelope). f.mailbox) same) (ap (λ (f : PosterFacts Envelope). f.number) same) (ap (λ (f : PosterFacts Envelope). f.terms) same))
+            (kept_mail p t.posters.items to q at t.taker.taken a.shard_record x a.mail within is.rest q' same) seat seat' causes.Memory end h seat.view refl
+            (sat_memory p t.shard.me t.budget seat.view r (subst (λ (i : ℕ). Own p i r) same_number is.stands.ends.1.own) (sits_same p t.budget seat.view a.shard_record r refl refl refl a.sits))
+
+  -- ---- the count of turns, and why it has ended, change nothing of the rest
+
+  pub turned : (p : Pass) (board : BoardFacts) (boxes : List MailboxFacts) (t : Turner A B) (seat : SeatFacts) → Acts p board boxes t seat → (turns : ℕ) → Acts p board boxes (record t { turns = turns }) seat
+  turned p board boxes t seat a turns =
+      record { shard_record = a.shard_record; shared = a.shared; stands = a.stands; on_board = a.on_board; sits = a.sits; taker = a.taker; posters = a.posters; mail = a.mail }
+
+  pub left_turned : (p : Pass) (board : BoardFacts) (boxes : List MailboxFacts) (t : Turner A B) (seat : SeatFacts) (end : Ended) → Leaves p board boxes end t seat → (ended : Option Ended) → Leaves p board boxes end (record t { ended = ended }) seat
+  left_turned p board boxes t seat end left ended =
+      record { shard_record = left.shard_record; below = left.below; ends = left.ends; on_board = left.on_board; sat = left.sat; taker = left.taker; posters = left.posters; mail = left.mail }

@@ -1,0 +1,4 @@
+pub mod Kept
+pub mod Sitting
+pub mod Mail
+pub mod Acting

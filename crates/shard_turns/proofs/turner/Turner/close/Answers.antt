@@ -1,0 +1,21 @@
+use Rattle.std.proofs.Common.{refl}
+use Rattle.shard_turns.proofs.Acting.{is_done, closes, runs_out}
+use Rattle.shard_turns.proofs.turner.Turner.close.Goals as goal
+
+pub returns-then-is_done-clause-ends : goal.returns-then-is_done-clause-ends
+returns-then-is_done-clause-ends g c = λ p _ a. is_done p c.args.board.now c.args.boxes.now.items c.args.self.now c.args.seat.now a ((c.if-is_done.ensures p a.shard_record a.stands).0 refl)
+
+pub close-requires : goal.close-requires
+close-requires g c =
+    let a = c.requires.2 in
+    (c.requires.0, a.shard_record, a.stands, (c.if-not-ready.ensures c.requires.0 a.shard_record a.stands).0 refl)
+
+pub returns-in-Ok-clause-acts : goal.returns-in-Ok-clause-acts
+returns-in-Ok-clause-acts g c = λ p suited a.
+    let me = c.close.ensures.me in
+    closes p c.args.board.now c.args.boxes.now.items c.args.self.now c.args.seat.now a c.close.new.self me c.in-Ok.field-0 (c.in-Ok.ensures.closed p a.shard_record suited a.stands ((c.if-not-ready.ensures p a.shard_record a.stands).0 refl))
+
+pub returns-in-Err-clause-ends : goal.returns-in-Err-clause-ends
+returns-in-Err-clause-ends g c = λ p _ a.
+    let me = c.close.ensures.me in
+    runs_out p c.args.board.now c.args.boxes.now.items c.args.self.now c.args.seat.now a c.close.new.self me (c.in-Err.ensures.ended p a.shard_record a.stands) c.halt.new.seat c.halt.result (record { ended = c.halt.ensures.ended; on_board = c.halt.ensures.seat; view = c.halt.ensures.view })

@@ -1,0 +1,15 @@
+use Rattle.std.proofs.Common.{Option, Some, sym, subst, ◌∙◌}
+use Rattle.shard_turns.proofs.Acting.{turned, left_turned}
+use Rattle.shard_turns.specs.Turners.{KeepsAs}
+use Rattle.shard_turns.specs.declared.turner.Ended.{Ended}
+use Rattle.shard_turns.proofs.turner.Turner.turn.Goals as goal
+
+pub returns-in-Err-clause-keeps : goal.returns-in-Err-clause-keeps
+returns-in-Err-clause-keeps g c = λ p suited a.
+    let before = turned p c.args.board.now c.args.boxes.now.items c.args.self.now c.args.seat.now a c.saturating_add-self.result in
+    left_turned p c.args.board.now c.args.boxes.now.items c.act.new.self c.act.new.seat c.in-Err.end (c.in-Err.ensures.ends p suited before) (Some c.in-Err.end)
+
+pub returns-in_default-clause-keeps : goal.returns-in_default-clause-keeps
+returns-in_default-clause-keeps g c = λ p suited a.
+    let before = turned p c.args.board.now c.args.boxes.now.items c.args.self.now c.args.seat.now a c.saturating_add-self.result in
+    subst (λ (ended : Option Ended). KeepsAs p c.args.board.now c.args.boxes.now.items ended c.act.new.self c.act.new.seat) (sym (c.act.ensures.same ∙ c.requires.goes_on)) (c.in_default.ensures.acts p suited before)

@@ -1,0 +1,263 @@
+//! A shard with its ends of the mailboxes, and its turns.
+
+ghost use Rattle.std.specs.Prelude.{◌≡◌, None, IfErr, OnOk};
+ghost use Rattle.board_words.specs.Causes.{halt_number};
+ghost use Rattle.board_words.specs.Seats.{IsSeatOf};
+ghost use Rattle.board_words.specs.Steps.{after_halt};
+ghost use Rattle.pass_ledger.specs.Passes.{Pass};
+ghost use Rattle.shard_core.specs.Stands.{Suited};
+ghost use Rattle.shard_turns.specs.Turners.{Acts, Leaves, Keeps};
+
+use crate::envelope::Envelope;
+use board_words::{Board, BoardSeat, HaltCause};
+use cost_laws::CostLaw;
+use dom_store::Covers;
+use dp_outside::Gate;
+use shard_core::{Shard, Visited};
+use shard_mail::{Mailbox, Poster, Taker};
+use std::sync::Wait;
+
+/// Why a shard takes no more turns.
+#[derive(Clone, Copy, Debug, PartialEq, Eq)]
+pub enum Ended {
+    /// All its letters are posted, and no shard has a state of the next layer.
+    Done,
+    /// Another shard halted the pass.
+    Met,
+    /// It halted the pass.
+    Halted(HaltCause),
+}
+
+/// A shard, its taker of the mailbox that has its number, and its poster of each mailbox.
+#[derive(Drop)]
+pub struct Turner<'m, L: CostLaw, K: Covers> {
+    pub shard: Shard<'m, L, K>,
+    pub taker: Taker<Envelope>,
+    pub posters: Vec<Poster<Envelope>>,
+    /// How many nodes the shards of all passes may visit together.
+    pub budget: u64,
+    /// How many turns it took. The count stands still at its greatest number.
+    pub turns: u64,
+    pub ended: Option<Ended>,
+}
+
+impl<'m, L: CostLaw, K: Covers> Turner<'m, L, K> {
+    /// One turn: after the gate, the shard looks for a halt, takes a letter, closes its layer if it can, visits or prunes a node
+    /// if one waits, and posts what is ready. It waits for nobody but within the mailboxes' queues.
+    pub fn turn<R: Wait, G: Gate>(
+        &mut self,
+        rt: &R,
+        board: &Board,
+        boxes: &Vec<Mailbox<Envelope>>,
+        gate: &G,
+        seat: &mut BoardSeat,
+    )
+        requires acts { (p : Pass) × Suited p L.minimize L.operator K.prune K.minimize K.operator × Acts p board.now boxes.now.items self.old seat.old }
+        requires goes_on { self.old.ended ≡ None }
+        ensures keeps { (p : Pass) → Suited p L.minimize L.operator K.prune K.minimize K.operator → Acts p board.now boxes.now.items self.old seat.old
+            → Keeps p board.now boxes.now.items self.new seat.new }
+        ensures me { self.new.shard.me ≡ self.old.shard.me }
+    {
+        gate.turn(self.shard.me, self.turns);
+        self.turns = self.turns.saturating_add(1);
+        if let Err(end) = self.act(rt, board, boxes, seat) {
+            self.ended = Some(end);
+        }
+    }
+
+    // what a shard does in a turn, in this order; what ends it ends the turn
+    fn act<R: Wait>(
+        &mut self,
+        rt: &R,
+        board: &Board,
+        boxes: &Vec<Mailbox<Envelope>>,
+        seat: &mut BoardSeat,
+    ) -> Result<(), Ended>
+        requires { (p : Pass) × Suited p L.minimize L.operator K.prune K.minimize K.operator × Acts p board.now boxes.now.items self.old seat.old }
+        ensures acts { (p : Pass) → Suited p L.minimize L.operator K.prune K.minimize K.operator → Acts p board.now boxes.now.items self.old seat.old
+            → OnOk result (Acts p board.now boxes.now.items self.new seat.new) }
+        ensures ends { (p : Pass) → Suited p L.minimize L.operator K.prune K.minimize K.operator → Acts p board.now boxes.now.items self.old seat.old
+            → IfErr result (λ end. Leaves p board.now boxes.now.items end self.new seat.new) }
+        ensures same { self.new.ended ≡ self.old.ended }
+        ensures me { self.new.shard.me ≡ self.old.shard.me }
+    {
+        self.look_for_halt(board, boxes, seat)?;
+        self.take(rt, board, boxes, seat)?;
+        self.close(board, boxes, seat)?;
+        self.visit(board, boxes, seat)?;
+        self.post(rt, board, boxes, seat)
+    }
+
+    // ends where some shard halted the pass
+    fn look_for_halt(
+        &mut self,
+        board: &Board,
+        boxes: &Vec<Mailbox<Envelope>>,
+        seat: &mut BoardSeat,
+    ) -> Result<(), Ended>
+        requires { (p : Pass) × Suited p L.minimize L.operator K.prune K.minimize K.operator × Acts p board.now boxes.now.items self.old seat.old }
+        ensures acts { (p : Pass) → Suited p L.minimize L.operator K.prune K.minimize K.operator → Acts p board.now boxes.now.items self.old seat.old
+            → OnOk result (Acts p board.now boxes.now.items self.new seat.new) }
+        ensures ends { (p : Pass) → Suited p L.minimize L.operator K.prune K.minimize K.operator → Acts p board.now boxes.now.items self.old seat.old
+            → IfErr result (λ end. Leaves p board.now boxes.now.items end self.new seat.new) }
+        ensures same { self.new.ended ≡ self.old.ended }
+        ensures me { self.new.shard.me ≡ self.old.shard.me }
+    {
+        let _ = boxes;
+        if board.halted(seat) > 0 {
+            return Err(Ended::Met);
+        }
+        Ok(())
+    }
+
+    // takes a letter, if there is one
+    fn take<R: Wait>(
+        &mut self,
+        rt: &R,
+        board: &Board,
+        boxes: &Vec<Mailbox<Envelope>>,
+        seat: &mut BoardSeat,
+    ) -> Result<(), Ended>
+        requires { (p : Pass) × Suited p L.minimize L.operator K.prune K.minimize K.operator × Acts p board.now boxes.now.items self.old seat.old }
+        ensures acts { (p : Pass) → Suited p L.minimize L.operator K.prune K.minimize K.operator → Acts p board.now boxes.now.items self.old seat.old
+            → OnOk result (Acts p board.now boxes.now.items self.new seat.new) }
+        ensures ends { (p : Pass) → Suited p L.minimize L.operator K.prune K.minimize K.operator → Acts p board.now boxes.now.items self.old seat.old
+            → IfErr result (λ end. Leaves p board.now boxes.now.items end self.new seat.new) }
+        ensures same { self.new.ended ≡ self.old.ended }
+        ensures me { self.new.shard.me ≡ self.old.shard.me }
+    {
+        let Some(envelope) = boxes[self.shard.me as usize].take(rt, &mut self.taker) else {
+            return Ok(());
+        };
+        match self.shard.accept(envelope.letter) {
+            Ok(()) => Ok(()),
+            Err(_) => Err(halt(board, seat, HaltCause::Memory)),
+        }
+    }
+
+    // ends where the shard is done, and else closes its layer where it is ready
+    fn close(
+        &mut self,
+        board: &Board,
+        boxes: &Vec<Mailbox<Envelope>>,
+        seat: &mut BoardSeat,
+    ) -> Result<(), Ended>
+        requires { (p : Pass) × Suited p L.minimize L.operator K.prune K.minimize K.operator × Acts p board.now boxes.now.items self.old seat.old }
+        ensures acts { (p : Pass) → Suited p L.minimize L.operator K.prune K.minimize K.operator → Acts p board.now boxes.now.items self.old seat.old
+            → OnOk result (Acts p board.now boxes.now.items self.new seat.new) }
+        ensures ends { (p : Pass) → Suited p L.minimize L.operator K.prune K.minimize K.operator → Acts p board.now boxes.now.items self.old seat.old
+            → IfErr result (λ end. Leaves p board.now boxes.now.items end self.new seat.new) }
+        ensures same { self.new.ended ≡ self.old.ended }
+        ensures me { self.new.shard.me ≡ self.old.shard.me }
+    {
+        let _ = boxes;
+        if self.shard.is_done() {
+            return Err(Ended::Done);
+        }
+        if !self.shard.ready() {
+            return Ok(());
+        }
+        match self.shard.close() {
+            Ok(_) => Ok(()),
+            Err(_) => Err(halt(board, seat, HaltCause::Memory)),
+        }
+    }
+
+    // prunes or visits the first waiting node, if there is one
+    fn visit(
+        &mut self,
+        board: &Board,
+        boxes: &Vec<Mailbox<Envelope>>,
+        seat: &mut BoardSeat,
+    ) -> Result<(), Ended>
+        requires { (p : Pass) × Suited p L.minimize L.operator K.prune K.minimize K.operator × Acts p board.now boxes.now.items self.old seat.old }
+        ensures acts { (p : Pass) → Suited p L.minimize L.operator K.prune K.minimize K.operator → Acts p board.now boxes.now.items self.old seat.old
+            → OnOk result (Acts p board.now boxes.now.items self.new seat.new) }
+        ensures ends { (p : Pass) → Suited p L.minimize L.operator K.prune K.minimize K.operator → Acts p board.now boxes.now.items self.old seat.old
+            → IfErr result (λ end. Leaves p board.now boxes.now.items end self.new seat.new) }
+        ensures same { self.new.ended ≡ self.old.ended }
+        ensures me { self.new.shard.me ≡ self.old.shard.me }
+    {
+        let _ = boxes;
+        if !self.shard.waits() {
+            return Ok(());
+        }
+        let best = board.look(seat);
+        if self.shard.prune_head(best) {
+            return Ok(());
+        }
+        if board.draw(seat) >= self.budget {
+            return Err(halt(board, seat, HaltCause::Budget));
+        }
+        match self.shard.visit(best) {
+            Visited::Done { offer: Some(word) } => {
+                board.offer(seat, word);
+                Ok(())
+            }
+            Visited::Done { offer: None } => Ok(()),
+            Visited::Fault(_) => Err(halt(board, seat, HaltCause::Fault)),
+            Visited::Memory => Err(halt(board, seat, HaltCause::Memory)),
+        }
+    }
+
+    // posts the letters and marks that are ready
+    fn post<R: Wait>(
+        &mut self,
+        rt: &R,
+        board: &Board,
+        boxes: &Vec<Mailbox<Envelope>>,
+        seat: &mut BoardSeat,
+    ) -> Result<(), Ended>
+        requires { (p : Pass) × Suited p L.minimize L.operator K.prune K.minimize K.operator × Acts p board.now boxes.now.items self.old seat.old }
+        ensures acts { (p : Pass) → Suited p L.minimize L.operator K.prune K.minimize K.operator → Acts p board.now boxes.now.items self.old seat.old
+            → OnOk result (Acts p board.now boxes.now.items self.new seat.new) }
+        ensures ends { (p : Pass) → Suited p L.minimize L.operator K.prune K.minimize K.operator → Acts p board.now boxes.now.items self.old seat.old
+            → IfErr result (λ end. Leaves p board.now boxes.now.items end self.new seat.new) }
+        ensures same { self.new.ended ≡ self.old.ended }
+        ensures me { self.new.shard.me ≡ self.old.shard.me }
+    {
+        for _ in 0..u64::MAX {
+            if !self.post_next(rt, board, boxes, seat)? {
+                break;
+            }
+        }
+        Ok(())
+    }
+
+    // posts the next letter that is ready, and answers whether there was one
+    fn post_next<R: Wait>(
+        &mut self,
+        rt: &R,
+        board: &Board,
+        boxes: &Vec<Mailbox<Envelope>>,
+        seat: &mut BoardSeat,
+    ) -> Result<bool, Ended>
+        requires { (p : Pass) × Suited p L.minimize L.operator K.prune K.minimize K.operator × Acts p board.now boxes.now.items self.old seat.old }
+        ensures acts { (p : Pass) → Suited p L.minimize L.operator K.prune K.minimize K.operator → Acts p board.now boxes.now.items self.old seat.old
+            → OnOk result (Acts p board.now boxes.now.items self.new seat.new) }
+        ensures ends { (p : Pass) → Suited p L.minimize L.operator K.prune K.minimize K.operator → Acts p board.now boxes.now.items self.old seat.old
+            → IfErr result (λ end. Leaves p board.now boxes.now.items end self.new seat.new) }
+        ensures same { self.new.ended ≡ self.old.ended }
+        ensures me { self.new.shard.me ≡ self.old.shard.me }
+    {
+        let Some((to, letter)) = self.shard.next_letter() else {
+            return Ok(false);
+        };
+        let to = to as usize;
+        match boxes[to].post(rt, &mut self.posters[to], Envelope { letter }) {
+            Ok(()) => Ok(true),
+            Err(_) => Err(halt(board, seat, HaltCause::Memory)),
+        }
+    }
+}
+
+/// Halts the pass, and answers why a shard has ended.
+fn halt(board: &Board, seat: &mut BoardSeat, cause: HaltCause) -> Ended
+    requires { IsSeatOf board.now seat.old }
+    ensures ended { result ≡ Ended.Halted cause }
+    ensures seat { IsSeatOf board.now seat.new }
+    ensures view { seat.new.view ≡ after_halt seat.old.view (halt_number cause) }
+{
+    board.halt(seat, cause);
+    Ended::Halted(cause)
+}
