@@ -144,7 +144,6 @@ refusals =
     ∷ (52, codes "LeftOut")
     ∷ (70, codes "UnknownStep")
     ∷ (71, codes "BadArguments")
-    ∷ (90, codes "NotYet")
     ∷ []
 
 abbrev pub name_among : List (ℕ × List ℕ) → ℕ → List ℕ

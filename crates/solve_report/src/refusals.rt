@@ -59,7 +59,6 @@ fn refusal_name(number: u8) -> &'static str
         52 => "LeftOut",
         70 => "UnknownStep",
         71 => "BadArguments",
-        90 => "NotYet",
         _ => "",
     }
 }

@@ -1,14 +1,7 @@
-pub mod Values
-pub mod Layers
-pub mod Steps
-pub mod Paths
-pub mod Expanding
-pub mod Exhausting
-pub mod Passing
-pub mod AtTarget
-pub mod PlainModels
 pub mod StepCounts
 pub mod TextCauses
 pub mod OneMeaning
 pub mod Programs
-pub mod Concluding
+pub mod Generated
+pub mod Fitting
+pub mod Settling

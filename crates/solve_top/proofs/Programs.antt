@@ -3,7 +3,6 @@ use Rattle.std.proofs.Common.{◌≡◌, ℕ, ◌≤◌, true, false, List, [], 
 use Rattle.std.specs.Prelude.{IfSome, IfOk, IfErr, Result, Ok, Err}
 use Rattle.std.specs.Result.{IsErrAnd}
 use Rattle.std.proofs.lemmas.Bool.{cases_Bool}
-use Rattle.command_line.specs.Jobs.{job_of}
 use Rattle.command_line.specs.declared.jobs.Job.{Job}
 use Rattle.command_line.specs.declared.jobs.Job.TheVariants as jobs
 use Rattle.dp_model.specs.declared.answers.Options.{Options}
@@ -11,27 +10,24 @@ use Rattle.dp_model.specs.declared.answers.Verdict.TheVariants as verdicts
 use Rattle.dp_model.specs.declared.whole.Model.{Model}
 use Rattle.replay_list.specs.Replays.{replayed}
 use Rattle.solve_top.specs.Files.{IsText, IsShort, IsLong, AreTexts, OfTexts}
-use Rattle.solve_top.specs.Jobs.{Asks, AskNothing, is_built, names_of}
-use Rattle.solve_top.specs.Outcomes.{NoMemory, Solving, NotYet, Replayed, Shown, ComesOf, Does, Printed}
-use Rattle.solve_top.specs.PlainTest.{is_plain}
-use Rattle.solve_top.specs.Records.{Ending, Ended, OutOfMemory, ending_status}
+use Rattle.solve_passes.specs.Ongoing.{Concluded}
+use Rattle.solve_passes.specs.Records.{Ending, Ended, OutOfMemory, ending_status}
+use Rattle.solve_passes.specs.Statuses.{code_of}
+use Rattle.solve_passes.specs.declared.progress.Printing.{Printing}
+use Rattle.solve_passes.specs.declared.progress.Printing.TheVariants.{All}
+use Rattle.solve_passes.specs.declared.status.Status.{Status}
+use Rattle.solve_passes.specs.declared.status.Status.TheVariants as statuses
+use Rattle.solve_top.specs.Jobs.{Asks, names_of}
+use Rattle.solve_top.specs.Outcomes.{NoMemory, Solving, Replayed, Shown, ComesOf, Does, Printed}
 use Rattle.solve_top.specs.Runs.{outcome_of, RefusedBy, IsUnread, GiveNothing}
-use Rattle.solve_top.specs.Solving.{Concluded}
-use Rattle.solve_top.specs.Statuses.{code_of}
 use Rattle.solve_top.specs.Texts.{Means, IsRefused, MeanModel, MeanSteps, AreRefused}
 use Rattle.solve_top.specs.declared.causes.NoModel.{NoModel}
 use Rattle.solve_top.specs.declared.causes.NoModel.TheVariants as causes
-use Rattle.solve_top.specs.declared.status.Status.{Status}
-use Rattle.solve_top.specs.declared.status.Status.TheVariants as statuses
 
--- a model that was loaded was solved, or the plain search does not take it
-pub attempted : (files : List ℕ → Option (List ℕ)) (domain problem : List ℕ) (options : Options) (m : Model) (before after : Option (List ℕ)) (status : Status) →
-    OfTexts files (domain ∷ problem ∷ []) (λ texts. MeanModel texts m) → (is_plain m ≡ true → Concluded m options before after status) → (is_plain m ≡ false → Printed before after (NotYet m) status) →
-    Does (jobs.Solve domain problem options) files before after status
-attempted files domain problem options m before after status texts plain other = λ words asks. elim (cases_Bool (is_plain m)) [
-  | inl is ↦ let c = plain is in (Solving m options c.run, (domain, problem, asks, texts, c.right, c.word), c.printed)
-  | inr isnt ↦ (NotYet m, (domain, problem, options, asks, texts, isnt), other isnt)
-]
+-- a model that was loaded was searched
+pub searched : (files : List ℕ → Option (List ℕ)) (domain problem : List ℕ) (options : Options) (m : Model) (before after : Option (List ℕ)) (status : Status) →
+    OfTexts files (domain ∷ problem ∷ []) (λ texts. MeanModel texts m) → Concluded m options All before after status → Does (jobs.Solve domain problem options) files before after status
+searched files domain problem options m before after status texts c = λ words asks. (Solving m options c.run, (domain, problem, asks, texts, c.right, c.word), c.printed)
 
 -- a list was replayed, or memory ran out
 pub was_replayed : (files : List ℕ → Option (List ℕ)) (domain problem list : List ℕ) (m : Model) (steps : List ℕ) (before after : Option (List ℕ)) (status : Status) →
@@ -55,18 +51,6 @@ gave_nothing files job words causes.Memory asks h = tt
 pub did_nothing : (files : List ℕ → Option (List ℕ)) (job : Job) (e : NoModel) (before after : Option (List ℕ)) (status : Status) → GiveNothing files (names_of job) e → Printed before after (outcome_of e) status → Does job files before after status
 did_nothing files job e before after status h printed = λ words asks. (outcome_of e, gave_nothing files job words e asks h, printed)
 
--- words ask for a job that is not built
-asked_nothing : (told : Option Job) (job : Job) → told ≡ Some job → is_built job ≡ false → IfSome told (λ j. is_built j ≡ false)
-asked_nothing None job e h = tt
-asked_nothing (Some other) job e h = let same : other ≡ job = cc in subst (λ (x : Job). is_built x ≡ false) (sym same) h
-
-pub asks_nothing : (words : List (List ℕ)) (job : Job) → job_of words ≡ Some job → is_built job ≡ false → AskNothing words
-asks_nothing words job e h = asked_nothing (job_of words) job e h
-
--- words ask for no job
-pub ask_none : (words : List (List ℕ)) → job_of words ≡ None → AskNothing words
-ask_none words e = subst (λ (told : Option Job). IfSome told (λ j. is_built j ≡ false)) (sym e) tt
-
 not_read_fault : (e : Ending) → ending_status e ≡ statuses.ReadFault → ⊥
 not_read_fault (Ended (verdicts.Optimal c)) h = absurd cc
 not_read_fault (Ended verdicts.Infeasible) h = absurd cc
@@ -77,8 +61,8 @@ not_read_fault (Ended (verdicts.Illegal n r)) h = absurd cc
 not_read_fault OutOfMemory h = absurd cc
 
 -- no search ends with the status of a read fault
-pub no_read_fault : (m : Model) (options : Options) (before after : Option (List ℕ)) (status : Status) → Concluded m options before after status → status ≡ statuses.ReadFault → ⊥
-no_read_fault m options before after status c h = elim c.printed [ inl p ↦ not_read_fault c.run.ending (sym p.0 ∙ h) | inr p ↦ let e : statuses.WriteFault ≡ statuses.ReadFault = sym p.0 ∙ h in absurd cc ]
+pub no_read_fault : (m : Model) (options : Options) (printing : Printing) (before after : Option (List ℕ)) (status : Status) → Concluded m options printing before after status → status ≡ statuses.ReadFault → ⊥
+no_read_fault m options printing before after status c h = elim c.printed [ inl p ↦ not_read_fault c.run.ending (sym p.0 ∙ h) | inr p ↦ let e : statuses.WriteFault ≡ statuses.ReadFault = sym p.0 ∙ h in absurd cc ]
 
 -- a status is known by its number
 

@@ -1,27 +1,19 @@
--- Which jobs are built, and which files a job reads.
-use Rattle.std.specs.Prelude.{◌≡◌, ℕ, Bool, true, false, not, ◌&&◌, ◌==◌, nat_le, List, [], ◌∷◌, Some, IfSome}
+-- Which jobs words ask for, what fits in them, and which files they read.
+use Rattle.std.specs.Prelude.{◌≡◌, ℕ, ◌≤◌, true, List, [], ◌∷◌, None, Some}
 use Rattle.dp_model.specs.declared.answers.Options.{Options}
 use Rattle.command_line.specs.Jobs.{job_of}
 use Rattle.command_line.specs.declared.jobs.Job.{Job}
 use Rattle.command_line.specs.declared.jobs.Job.TheVariants.{Solve, Replay, Show, Gen}
+use Rattle.model_gen.specs.Kinds.{least_size, most_size}
+use Rattle.pass_ends.specs.Passes.{AreOptions}
 
--- the plain search takes one worker, at most 1,000,000,000 visits and no pruning
-abbrev pub are_plain_options : Options → Bool
-are_plain_options options = options.workers == 1 && (nat_le options.budget 1000000000 && not options.prune)
-
-abbrev pub is_built : Job → Bool
-is_built (Solve domain problem options) = are_plain_options options
-is_built (Replay domain problem list) = true
-is_built (Show domain problem) = true
-is_built (Gen kind size seed workers) = false
-
--- the words ask for this job, which is built
+-- the words ask for this job
 abbrev pub Asks : List (List ℕ) → Job → Type 0
-Asks words job = (job_of words ≡ Some job) × (is_built job ≡ true)
+Asks words job = job_of words ≡ Some job
 
--- words that ask for nothing, or for what is not built
+-- words that ask for nothing
 abbrev pub AskNothing : List (List ℕ) → Type 0
-AskNothing words = IfSome (job_of words) (λ job. is_built job ≡ false)
+AskNothing words = job_of words ≡ None
 
 -- the names of the files that a job reads, in the order in which they are read: the domain, the problem, and the list
 abbrev pub names_of : Job → List (List ℕ)
@@ -29,3 +21,14 @@ names_of (Solve domain problem options) = domain ∷ problem ∷ []
 names_of (Replay domain problem list) = domain ∷ problem ∷ list ∷ []
 names_of (Show domain problem) = domain ∷ problem ∷ []
 names_of (Gen kind size seed workers) = []
+
+-- how a generated model is searched: with pruning, and with the budget that is taken where none is given
+abbrev pub gen_options : ℕ → Options
+gen_options workers = record { workers = workers; budget = 10000000; prune = true }
+
+-- what is asked for lies in its range
+abbrev pub JobFits : Job → Type 0
+JobFits (Solve domain problem options) = AreOptions options
+JobFits (Replay domain problem list) = Unit {0}
+JobFits (Show domain problem) = Unit {0}
+JobFits (Gen kind size seed workers) = (least_size kind ≤ size) × (size ≤ most_size kind) × AreOptions (gen_options workers)

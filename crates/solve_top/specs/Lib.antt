@@ -1,11 +1,6 @@
-pub mod Statuses
-pub mod Records
 pub mod Texts
-pub mod PlainTest
 pub mod Jobs
 pub mod Files
 pub mod Outcomes
-pub mod Plain
-pub mod Search
-pub mod Solving
 pub mod Runs
+pub mod Answers

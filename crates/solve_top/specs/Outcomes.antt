@@ -1,16 +1,14 @@
 -- What a run of the program may come to: the text that it prints, its status, and when it may come.
-use Rattle.std.specs.Prelude.{◌≡◌, ℕ, false, ◌⊎◌, List, [], ◌∷◌, ◌++◌, take, Option, None, codes, ℤ}
+use Rattle.std.specs.Prelude.{◌≡◌, ℕ, ◌⊎◌, List, [], ◌∷◌, ◌++◌, length, take, Option, Some, None, codes, decimal}
 use Rattle.dp_outside.specs.Outside.{Takes, TakesFront}
-use Rattle.dp_base.specs.declared.place.Place.{Place}
 use Rattle.dp_model.specs.declared.answers.Options.{Options}
 use Rattle.dp_model.specs.declared.whole.Model.{Model}
-use Rattle.dp_model.specs.Costs.{IsBetter}
-use Rattle.dp_steps.specs.Lists.{Solution}
-use Rattle.solve_top.specs.Records.{Record, Ending, Ended, OutOfMemory, Right, record_text, ending_status, verdict_status}
+use Rattle.solve_passes.specs.Records.{Record, Right, KeepsWord, record_text, ending_status, verdict_status}
+use Rattle.solve_passes.specs.declared.progress.Printing.TheVariants.{All, VerdictAlone}
+use Rattle.solve_passes.specs.declared.status.Status.{Status}
+use Rattle.solve_passes.specs.declared.status.Status.TheVariants as statuses
 use Rattle.dp_base.specs.Bytes.{line}
 use Rattle.solve_report.specs.Lines.{file_name, refusal_text, verdict_text, show_text}
-use Rattle.solve_top.specs.declared.status.Status.{Status}
-use Rattle.solve_top.specs.declared.status.Status.TheVariants as statuses
 use Rattle.dp_model.specs.declared.answers.Verdict.{Verdict}
 use Rattle.dp_model.specs.declared.answers.Verdict.TheVariants as verdicts
 use Rattle.dypdl_nodes.specs.Reads.{Refusal}
@@ -19,13 +17,15 @@ use Rattle.command_line.specs.declared.jobs.Job.TheVariants as jobs
 use Rattle.replay_list.specs.Replays.{replayed}
 use Rattle.replay_list.specs.declared.replayed.Replayed.{Replayed as Told}
 use Rattle.replay_list.specs.declared.replayed.Replayed.TheVariants as tellings
-use Rattle.solve_top.specs.Jobs.{Asks, AskNothing, names_of}
+use Rattle.model_gen.specs.Texts.{domain_text, problem_text}
+use Rattle.model_gen.specs.declared.kinds.GenKind.{GenKind}
+use Rattle.model_gen.specs.declared.kinds.GenKind.TheVariants as kinds
+use Rattle.solve_top.specs.Jobs.{Asks, AskNothing, gen_options, names_of}
 use Rattle.solve_top.specs.Files.{IsReached, IsFirstLong, OfTexts}
-use Rattle.solve_top.specs.Texts.{MeanModel, MeanSteps, AreRefused}
-use Rattle.solve_top.specs.PlainTest.{is_plain}
+use Rattle.solve_top.specs.Texts.{Means, MeanModel, MeanSteps, AreRefused, IsRefused}
 
 pub data Outcome : Type 0 where
-  -- the words ask for nothing that is built
+  -- the words ask for nothing
   NoMeaning : Outcome
   -- a read of that file failed
   ReadFault : (file : ℕ) → Outcome
@@ -33,8 +33,6 @@ pub data Outcome : Type 0 where
   TooLong : (file : ℕ) → Outcome
   -- a text, or what the texts mean, is refused
   Refused : (refusal : Refusal) → Outcome
-  -- the model is one that no search takes yet
-  NotYet : (model : Model) → Outcome
   -- memory ran out before a model was loaded
   NoMemory : Outcome
   -- the model was searched
@@ -43,10 +41,32 @@ pub data Outcome : Type 0 where
   Replayed : (model : Model) (steps : List ℕ) (told : Told) → Outcome
   -- it was said what was understood of the model
   Shown : (model : Model) → Outcome
+  -- a model was generated, and its texts mean none, or memory ran out before a model was loaded
+  NoGenerated : (kind : GenKind) (size seed : ℕ) (refusal : Option Refusal) → Outcome
+  -- a model was generated and searched
+  Generated : (kind : GenKind) (size seed : ℕ) (model : Model) (options : Options) (run : Record) → Outcome
 
--- where a domain begins
-abbrev pub domain_start : Place
-domain_start = record { file = 1; line = 1; column = 1 }
+-- the word that names a kind of generated models
+abbrev pub kind_text : GenKind → List ℕ
+kind_text kinds.Path = codes "path"
+kind_text kinds.Pack = codes "pack"
+kind_text kinds.Tour = codes "tour"
+
+-- the line of a generated model, and that of its number of ground transitions
+abbrev pub gen_line : GenKind → (size seed : ℕ) → List ℕ
+gen_line kind size seed = line (codes "gen " ++ kind_text kind ++ codes " " ++ decimal size ++ codes " " ++ decimal seed)
+
+abbrev pub ground_line : Model → List ℕ
+ground_line m = line (codes "ground " ++ decimal (length m.dp_ground))
+
+-- what is printed in place of a model: a refusal, or that memory ran out
+abbrev pub no_model_text : Option Refusal → List ℕ
+no_model_text (Some r) = refusal_text r.place r.offset r.number
+no_model_text None = line (codes "memory")
+
+abbrev pub no_model_status : Option Refusal → Status
+no_model_status (Some r) = statuses.Refused
+no_model_status None = statuses.Memory
 
 -- what is told of the replay of a list, as a verdict: a fault stands behind the steps that were done before it
 abbrev pub replay_verdict : (steps : List ℕ) → Told → Verdict
@@ -59,32 +79,29 @@ outcome_text NoMeaning = line (codes "usage: solve DOMAIN PROBLEM; replay DOMAIN
 outcome_text (ReadFault file) = line (codes "read fault " ++ file_name file)
 outcome_text (TooLong file) = line (codes "too long " ++ file_name file)
 outcome_text (Refused r) = refusal_text r.place r.offset r.number
-outcome_text (NotYet model) = refusal_text domain_start None 90
 outcome_text NoMemory = line (codes "memory")
-outcome_text (Solving model options run) = record_text model run
+outcome_text (Solving model options run) = record_text All model run
 outcome_text (Replayed model steps told) = verdict_text model (replay_verdict steps told)
 outcome_text (Shown model) = show_text model
+outcome_text (NoGenerated kind size seed refusal) = gen_line kind size seed ++ no_model_text refusal
+outcome_text (Generated kind size seed model options run) = gen_line kind size seed ++ ground_line model ++ record_text VerdictAlone model run
 
 abbrev pub outcome_status : Outcome → Status
 outcome_status NoMeaning = statuses.Usage
 outcome_status (ReadFault file) = statuses.ReadFault
 outcome_status (TooLong file) = statuses.TooLong
 outcome_status (Refused r) = statuses.Refused
-outcome_status (NotYet model) = statuses.Refused
 outcome_status NoMemory = statuses.Memory
 outcome_status (Solving model options run) = ending_status run.ending
 outcome_status (Replayed model steps told) = verdict_status (replay_verdict steps told)
 outcome_status (Shown model) = statuses.Success
+outcome_status (NoGenerated kind size seed refusal) = no_model_status refusal
+outcome_status (Generated kind size seed model options run) = ending_status run.ending
 
--- what a verdict says of all legal lists: of `optimal`, that none is better; of `infeasible`, that there is none
-abbrev pub KeepsWord : Model → Ending → Type 0
-KeepsWord model (Ended (verdicts.Optimal cost)) = (steps : List ℕ) (other : ℤ) → Solution model steps other → IsBetter model.minimize other cost → ⊥
-KeepsWord model (Ended verdicts.Infeasible) = (steps : List ℕ) (cost : ℤ) → Solution model steps cost → ⊥
-KeepsWord model (Ended (verdicts.Stopped visits)) = Unit {0}
-KeepsWord model (Ended (verdicts.Fault fault)) = Unit {0}
-KeepsWord model (Ended (verdicts.Legal cost)) = Unit {0}
-KeepsWord model (Ended (verdicts.Illegal done reason)) = Unit {0}
-KeepsWord model OutOfMemory = Unit {0}
+-- the texts of a generated model are refused so, where they are
+abbrev pub IsRefusedOf : GenKind → (size seed : ℕ) → Option Refusal → Type 0
+IsRefusedOf kind size seed None = Unit {0}
+IsRefusedOf kind size seed (Some r) = IsRefused (domain_text kind) (problem_text kind size seed) r
 
 -- When an outcome may come of these words, over these files. First all files are read, in order; then the domain's text is
 -- looked at, the problem's text, the model that both mean, and the list.
@@ -93,18 +110,19 @@ ComesOf words files NoMeaning = AskNothing words
 ComesOf words files (ReadFault file) = (job : Job) × Asks words job × IsReached files (names_of job) file
 ComesOf words files (TooLong file) = (job : Job) × Asks words job × IsFirstLong files (names_of job) file
 ComesOf words files (Refused r) = (job : Job) × Asks words job × OfTexts files (names_of job) (λ texts. AreRefused texts r)
-ComesOf words files (NotYet model) =
-    (domain : List ℕ) × (problem : List ℕ) × (options : Options) × Asks words (jobs.Solve domain problem options)
-    × OfTexts files (domain ∷ problem ∷ []) (λ texts. MeanModel texts model) × (is_plain model ≡ false)
 ComesOf words files NoMemory = Unit {0}
 ComesOf words files (Solving model options run) =
     (domain : List ℕ) × (problem : List ℕ) × Asks words (jobs.Solve domain problem options)
-    × OfTexts files (domain ∷ problem ∷ []) (λ texts. MeanModel texts model) × Right model options run × KeepsWord model run.ending
+    × OfTexts files (domain ∷ problem ∷ []) (λ texts. MeanModel texts model) × Right model options run × KeepsWord model options run.ending
 ComesOf words files (Replayed model steps told) =
     (domain : List ℕ) × (problem : List ℕ) × (list : List ℕ) × Asks words (jobs.Replay domain problem list)
     × OfTexts files (domain ∷ problem ∷ list ∷ []) (λ texts. MeanSteps texts model steps) × (told ≡ replayed model steps)
 ComesOf words files (Shown model) =
     (domain : List ℕ) × (problem : List ℕ) × Asks words (jobs.Show domain problem) × OfTexts files (domain ∷ problem ∷ []) (λ texts. MeanModel texts model)
+ComesOf words files (NoGenerated kind size seed refusal) = (workers : ℕ) × Asks words (jobs.Gen kind size seed workers) × IsRefusedOf kind size seed refusal
+ComesOf words files (Generated kind size seed model options run) =
+    (workers : ℕ) × Asks words (jobs.Gen kind size seed workers) × (options ≡ gen_options workers)
+    × Means (domain_text kind) (problem_text kind size seed) model × Right model options run × KeepsWord model options run.ending
 
 -- The sink took the outcome's text and the status is the outcome's; or a write failed, the status is that, and the sink took a front of the text.
 abbrev pub Printed : Option (List ℕ) → Option (List ℕ) → Outcome → Status → Type 0
@@ -114,3 +132,10 @@ Printed before after outcome status =
 -- over these files a job comes to some outcome, which was printed
 abbrev pub Does : Job → (List ℕ → Option (List ℕ)) → Option (List ℕ) → Option (List ℕ) → Status → Type 0
 Does job files before after status = (words : List (List ℕ)) → Asks words job → (outcome : Outcome) × ComesOf words files outcome × Printed before after outcome status
+
+-- A generated model was searched: its number of ground transitions and the verdict of a right record were printed, or a write failed
+-- and a front of them was.
+abbrev pub SolvesGenerated : Model → (workers : ℕ) → Option (List ℕ) → Option (List ℕ) → Status → Type 0
+SolvesGenerated m workers before after status =
+    (run : Record) × Right m (gen_options workers) run × KeepsWord m (gen_options workers) run.ending
+    × (((status ≡ ending_status run.ending) × Takes before after (ground_line m ++ record_text VerdictAlone m run)) ⊎ ((status ≡ statuses.WriteFault) × TakesFront before after (ground_line m ++ record_text VerdictAlone m run)))

@@ -3,18 +3,13 @@
 
 mod causes;
 mod files;
-mod jobs;
+mod generating;
 mod laws;
 mod loading;
-mod plain;
 mod program;
 mod replaying;
-mod search;
-mod solving;
-mod status;
 mod texts;
 
 pub use laws::one_model;
 pub use program::run;
-pub use solving::run_out;
-pub use status::Status;
+pub use solve_passes::{Status, run_out};

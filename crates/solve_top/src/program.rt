@@ -1,41 +1,41 @@
 //! The top call: what the program does with its words.
 
-ghost use Rattle.std.specs.Prelude.{◌≡◌, ◌≤◌, ◌<◌, ◌^◌, ◌⊎◌, ◌++◌, true, false, ℕ, List, Option, Some, None, map, string_bytes, length};
+ghost use Rattle.std.specs.Prelude.{◌≡◌, ◌≤◌, ◌<◌, ◌^◌, ◌⊎◌, ◌++◌, ℕ, List, Option, Some, None, map, string_bytes, length};
 ghost use Rattle.dp_outside.specs.Outside.{Rose};
+ghost use Rattle.dp_base.specs.Bytes.{line};
 ghost use Rattle.command_line.specs.Jobs.{job_of};
 ghost use Rattle.command_line.specs.declared.jobs.Job.TheVariants as jobs;
+ghost use Rattle.model_gen.specs.Kinds.{least_size, most_size};
+ghost use Rattle.pass_ends.specs.Passes.{AreOptions};
 ghost use Rattle.replay_list.specs.Replays.{replayed};
-ghost use Rattle.solve_top.specs.Jobs.{is_built as built_test};
+ghost use Rattle.solve_passes.specs.Statuses.{code_of};
+ghost use Rattle.solve_passes.specs.declared.status.Status.{Status};
 ghost use Rattle.solve_report.specs.Lines.{file_name as name_of_file};
 ghost use Rattle.solve_report.specs.Puts.{Puts};
-ghost use Rattle.dp_base.specs.Bytes.{line};
-ghost use Rattle.solve_top.specs.Statuses.{code_of};
-ghost use Rattle.solve_top.specs.declared.status.Status.{Status};
-ghost use Rattle.solve_top.specs.Outcomes.{Outcome, NoMeaning, NotYet, ComesOf, Does, Printed};
+ghost use Rattle.solve_top.specs.Answers.{SettlesFiles, SettlesGenerated};
+ghost use Rattle.solve_top.specs.Jobs.{JobFits, gen_options};
+ghost use Rattle.solve_top.specs.Outcomes.{Outcome, NoMeaning, ComesOf, Does, Printed, SolvesGenerated, gen_line, ground_line};
 ghost use Rattle.solve_top.specs.Outcomes as outcomes;
 ghost use Rattle.solve_top.specs.Runs.{outcome_of};
 ghost use Rattle.solve_top.specs.declared.causes.NoModel.TheVariants as causes;
-ghost use Rattle.solve_top.specs.PlainTest.{is_plain as plain_test};
-ghost use Rattle.solve_top.specs.Solving.{Concluded};
 
 use crate::causes::NoModel;
-use crate::jobs::is_built;
+use crate::generating::{generate_model, kind_name};
 use crate::loading::{Listed, load, load_listed};
-use crate::plain::is_plain;
 use crate::replaying::verdict_on;
-use crate::solving::{conclude, run_out, solve};
-use crate::status::{Status, status_after};
 use command_line::{Job, WordsEnd, read_words};
-use dp_base::{Place, Text};
+use dp_base::Text;
 use dp_model::{Model, Options};
 use dp_outside::{Failed, Gate, Shelf, Sink};
+use model_gen::GenKind;
+use solve_passes::{Printing, Status, conclude, run_out, solve, status_after};
 use solve_report::{Piece, file_name, put_line, put_pieces, put_refusal, put_show};
 use std::alloc::{AllocError, Global};
 use std::sync::Wait;
 use std::thread::Threads;
 
-/// What is told of a model that no search takes yet.
-const NOT_YET: u8 = 90;
+/// How many visits a search of a generated model makes at most: as many as where no budget is given.
+const GENERATED_BUDGET: u64 = 10_000_000;
 
 /// Prints a line of words and the name of a file.
 fn put_file_line<S: Sink>(out: &mut S, words: &str, file: u8) -> Result<(), Failed>
@@ -50,6 +50,7 @@ fn put_cause<S: Sink>(out: &mut S, cause: &NoModel) -> Status
     ensures printed { Printed (S.taken out.old) (S.taken out.new) (outcome_of cause.now) result }
     ensures read_fault { result ≡ Status.ReadFault → (file : ℕ) × (cause.now ≡ causes.ReadFault file) }
     ensures failed { result ≡ Status.WriteFault → Rose (S.faults out.old) (S.faults out.new) }
+    ensures count { S.faults out.old ≤ S.faults out.new }
 {
     match cause {
         NoModel::ReadFault(file) => {
@@ -80,51 +81,24 @@ fn put_usage<S: Sink>(out: &mut S) -> Status
     status_after(written, Status::Usage)
 }
 
-/// Prints that no search takes the model yet, where the domain begins, and answers the status.
-fn put_not_yet<S: Sink>(out: &mut S) -> Status
-    ensures printed { (model : Model) → Printed (S.taken out.old) (S.taken out.new) (NotYet model) result }
-    ensures read_fault { result ≡ Status.ReadFault → ⊥ }
-    ensures failed { result ≡ Status.WriteFault → Rose (S.faults out.old) (S.faults out.new) }
-{
-    let start = Place {
-        file: 1,
-        line: 1,
-        column: 1,
-    };
-    status_after(put_refusal(out, start, None, NOT_YET), Status::Refused)
-}
-
-/// Solves a model that the plain search takes.
-fn try_search<S: Sink>(alloc: Global, out: &mut S, model: &Model, options: &Options) -> Status
-    requires { options.now.budget ≤ 1000000000 }
-    ensures plain { plain_test model.now ≡ true → Concluded model.now options.now (S.taken out.old) (S.taken out.new) result }
-    ensures not_yet { plain_test model.now ≡ false → Printed (S.taken out.old) (S.taken out.new) (NotYet model.now) result }
-    ensures read_fault { result ≡ Status.ReadFault → ⊥ }
-    ensures failed { result ≡ Status.WriteFault → Rose (S.faults out.old) (S.faults out.new) }
-{
-    if is_plain(model) {
-        solve(alloc, out, model, options)
-    } else {
-        put_not_yet(out)
-    }
-}
-
 /// Solves the model in two files.
-fn solve_files<F: Shelf, S: Sink>(
+fn solve_files<R: Wait, F: Shelf, S: Sink, G: Gate>(
+    rt: &R,
     alloc: Global,
     shelf: &mut F,
     out: &mut S,
+    gate: &G,
     domain: &Text,
     problem: &Text,
     options: &Options,
 ) -> Status
-    requires { options.now.budget ≤ 1000000000 }
+    requires { AreOptions options.now }
     ensures printed { Does (jobs.Solve domain.now problem.now options.now) (F.bytes_under shelf.old) (S.taken out.old) (S.taken out.new) result }
     ensures read_fault { result ≡ Status.ReadFault → Rose (F.faults shelf.old) (F.faults shelf.new) }
     ensures write_fault { result ≡ Status.WriteFault → Rose (S.faults out.old) (S.faults out.new) }
 {
     match load(alloc, shelf, domain, problem) {
-        Ok(model) => try_search(alloc, out, &model, options),
+        Ok(model) => solve(rt, alloc, out, &model, options, Printing::All, gate),
         Err(cause) => put_cause(out, &cause),
     }
 }
@@ -190,9 +164,101 @@ fn show_files<F: Shelf, S: Sink>(
     }
 }
 
-/// Does a job that is built.
-fn perform_job<F: Shelf, S: Sink>(alloc: Global, shelf: &mut F, out: &mut S, job: &Job) -> Status
-    requires { built_test job.now ≡ true }
+/// Prints which model is generated.
+fn put_generated<S: Sink>(out: &mut S, kind: GenKind, size: u32, seed: u64) -> Result<(), Failed>
+    ensures { Puts (S.taken out.old) (S.taken out.new) (S.faults out.old) (S.faults out.new)
+        (gen_line kind size seed) result }
+{
+    let pieces = [
+        Piece::Text("gen "),
+        Piece::Text(kind_name(kind)),
+        Piece::Text(" "),
+        Piece::Number(u64::from(size)),
+        Piece::Text(" "),
+        Piece::Number(seed),
+    ];
+    put_pieces(out, &pieces)
+}
+
+/// Prints how many ground transitions a model has.
+fn put_ground<S: Sink>(out: &mut S, model: &Model) -> Result<(), Failed>
+    ensures { Puts (S.taken out.old) (S.taken out.new) (S.faults out.old) (S.faults out.new)
+        (ground_line model.now) result }
+{
+    let count = model.dp_ground.list().len() as u64;
+    put_pieces(out, &[Piece::Text("ground "), Piece::Number(count)])
+}
+
+/// Searches a generated model, and prints its number of ground transitions and the verdict.
+fn solve_generated<R: Wait, S: Sink, G: Gate>(
+    rt: &R,
+    alloc: Global,
+    out: &mut S,
+    gate: &G,
+    model: &Model,
+    workers: u32,
+) -> Status
+    requires { AreOptions (gen_options workers) }
+    ensures printed { SolvesGenerated model.now workers (S.taken out.old) (S.taken out.new) result }
+    ensures read_fault { result ≡ Status.ReadFault → ⊥ }
+    ensures failed { result ≡ Status.WriteFault → Rose (S.faults out.old) (S.faults out.new) }
+{
+    if put_ground(out, model).is_err() {
+        return Status::WriteFault;
+    }
+    let options = Options {
+        workers,
+        budget: GENERATED_BUDGET,
+        prune: true,
+    };
+    solve(
+        rt,
+        alloc,
+        out,
+        model,
+        &options,
+        Printing::VerdictAlone,
+        gate,
+    )
+}
+
+/// Generates a model and searches it.
+fn generate_and_solve<R: Wait, S: Sink, G: Gate>(
+    rt: &R,
+    alloc: Global,
+    out: &mut S,
+    gate: &G,
+    kind: GenKind,
+    size: u32,
+    seed: u64,
+    workers: u32,
+) -> Status
+    requires least { least_size kind ≤ size }
+    requires most { size ≤ most_size kind }
+    requires options { AreOptions (gen_options workers) }
+    ensures printed { (files : List ℕ → Option (List ℕ)) → Does (jobs.Gen kind size seed workers) files (S.taken out.old) (S.taken out.new) result }
+    ensures read_fault { result ≡ Status.ReadFault → ⊥ }
+    ensures failed { result ≡ Status.WriteFault → Rose (S.faults out.old) (S.faults out.new) }
+{
+    if put_generated(out, kind, size, seed).is_err() {
+        return Status::WriteFault;
+    }
+    match generate_model(alloc, kind, size, seed) {
+        Ok(model) => solve_generated(rt, alloc, out, gate, &model, workers),
+        Err(cause) => put_cause(out, &cause),
+    }
+}
+
+/// Does a job.
+fn perform_job<R: Wait, F: Shelf, S: Sink, G: Gate>(
+    rt: &R,
+    alloc: Global,
+    shelf: &mut F,
+    out: &mut S,
+    gate: &G,
+    job: &Job,
+) -> Status
+    requires { JobFits job.now }
     ensures printed { Does job.now (F.bytes_under shelf.old) (S.taken out.old) (S.taken out.new) result }
     ensures read_fault { result ≡ Status.ReadFault → Rose (F.faults shelf.old) (F.faults shelf.new) }
     ensures write_fault { result ≡ Status.WriteFault → Rose (S.faults out.old) (S.faults out.new) }
@@ -202,28 +268,19 @@ fn perform_job<F: Shelf, S: Sink>(alloc: Global, shelf: &mut F, out: &mut S, job
             domain,
             problem,
             options,
-        } => solve_files(alloc, shelf, out, domain, problem, options),
+        } => solve_files(rt, alloc, shelf, out, gate, domain, problem, options),
         Job::Replay {
             domain,
             problem,
             list,
         } => replay_files(alloc, shelf, out, domain, problem, list),
         Job::Show { domain, problem } => show_files(alloc, shelf, out, domain, problem),
-        Job::Gen { .. } => unreachable!(),
-    }
-}
-
-/// Does a job, if it is built.
-fn take_job<F: Shelf, S: Sink>(alloc: Global, shelf: &mut F, out: &mut S, job: &Job) -> Status
-    ensures printed { (words : List (List ℕ)) → job_of words ≡ Some job.now
-        → (outcome : Outcome) × ComesOf words (F.bytes_under shelf.old) outcome × Printed (S.taken out.old) (S.taken out.new) outcome result }
-    ensures read_fault { result ≡ Status.ReadFault → Rose (F.faults shelf.old) (F.faults shelf.new) }
-    ensures write_fault { result ≡ Status.WriteFault → Rose (S.faults out.old) (S.faults out.new) }
-{
-    if is_built(job) {
-        perform_job(alloc, shelf, out, job)
-    } else {
-        put_usage(out)
+        Job::Gen {
+            kind,
+            size,
+            seed,
+            workers,
+        } => generate_and_solve(rt, alloc, out, gate, *kind, *size, *seed, *workers),
     }
 }
 
@@ -241,11 +298,13 @@ fn put_no_job<S: Sink>(out: &mut S, end: WordsEnd) -> Status
 }
 
 /// Does what the words ask for.
-fn perform<F: Shelf, S: Sink>(
+fn perform<R: Wait, F: Shelf, S: Sink, G: Gate>(
+    rt: &R,
     alloc: Global,
     words: &Vec<String>,
     shelf: &mut F,
     out: &mut S,
+    gate: &G,
 ) -> Status
     ensures printed { (outcome : Outcome) × ComesOf (map string_bytes words.now.items) (F.bytes_under shelf.old) outcome
         × Printed (S.taken out.old) (S.taken out.new) outcome result }
@@ -253,25 +312,29 @@ fn perform<F: Shelf, S: Sink>(
     ensures write_fault { result ≡ Status.WriteFault → Rose (S.faults out.old) (S.faults out.new) }
 {
     match read_words(alloc, words) {
-        Ok(job) => take_job(alloc, shelf, out, &job),
+        Ok(job) => perform_job(rt, alloc, shelf, out, gate, &job),
         Err(end) => put_no_job(out, end),
     }
 }
 
-/// Runs the program: reads the words of the command line, without the program's own name, and does what they ask
-/// for. Prints to the sink and answers the status, as a number that `Status` has a name for.
+/// Runs the program: reads the words of the command line, without the program's own name, and does what they ask for. Prints to
+/// the sink and answers the status, as a number that `Status` has a name for.
+///
+/// A search calls the gate at each turn of a shard, and waits for nobody but within its mailboxes.
 pub fn run<R: Threads + Wait + Sync, F: Shelf, S: Sink, G: Gate>(
-    _rt: &R,
+    rt: &R,
     alloc: Global,
     words: &Vec<String>,
     shelf: &mut F,
     out: &mut S,
-    _gate: &G,
+    gate: &G,
 ) -> u8
     ensures printed { (outcome : Outcome) × (status : Status) × ComesOf (map string_bytes words.now.items) (F.bytes_under shelf.old) outcome
         × Printed (S.taken out.old) (S.taken out.new) outcome status × (result ≡ code_of status) }
     ensures read_fault { result ≡ 4 → Rose (F.faults shelf.old) (F.faults shelf.new) }
     ensures write_fault { result ≡ 5 → Rose (S.faults out.old) (S.faults out.new) }
+    ensures settles { SettlesFiles (map string_bytes words.now.items) (F.bytes_under shelf.old) result }
+    ensures settles_generated { SettlesGenerated (map string_bytes words.now.items) result }
 {
-    perform(alloc, words, shelf, out).code()
+    perform(rt, alloc, words, shelf, out, gate).code()
 }

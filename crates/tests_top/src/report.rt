@@ -128,7 +128,7 @@ fn writes_other_lines(rt: HostRuntime) -> Result<(), Fail> {
 }
 
 /// Refusals: a number, an offset, and how the line reads for line 10, column 3 of the problem.
-static REFUSALS: [(u8, Option<u32>, &str); 36] = [
+static REFUSALS: [(u8, Option<u32>, &str); 35] = [
     (10, None, "refused problem:10:3 10 NotUtf8\n"),
     (11, None, "refused problem:10:3 11 TabIndent\n"),
     (13, None, "refused problem:10:3 13 BadQuote\n"),
@@ -162,7 +162,6 @@ static REFUSALS: [(u8, Option<u32>, &str); 36] = [
     (52, None, "refused problem:10:3 52 LeftOut\n"),
     (70, None, "refused problem:10:3 70 UnknownStep\n"),
     (71, None, "refused problem:10:3 71 BadArguments\n"),
-    (90, None, "refused problem:10:3 90 NotYet\n"),
     (30, Some(0), "refused problem:10:3+0 30 UnknownName\n"),
     (
         31,

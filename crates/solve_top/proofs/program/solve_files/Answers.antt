@@ -1,11 +1,15 @@
 use Rattle.command_line.specs.declared.jobs.Job.TheVariants as jobs
-use Rattle.solve_top.proofs.Programs.{attempted, did_nothing}
+use Rattle.solve_passes.specs.declared.progress.Printing.TheVariants.{All}
+use Rattle.solve_top.proofs.Programs.{searched, did_nothing, no_read_fault}
 use Rattle.solve_top.proofs.program.solve_files.Goals as goal
 
 pub returns-in-Ok-clause-printed : goal.returns-in-Ok-clause-printed
 returns-in-Ok-clause-printed g c =
-    attempted (g.F.Shelf.bytes_under c.args.shelf.now) c.args.domain.now c.args.problem.now c.args.options.now c.in-Ok.model (g.S.Sink.taken c.args.out.now) (g.S.Sink.taken c.try_search.new.out) c.try_search.result
-    c.in-Ok.ensures.model c.try_search.ensures.plain c.try_search.ensures.not_yet
+    searched (g.F.Shelf.bytes_under c.args.shelf.now) c.args.domain.now c.args.problem.now c.args.options.now c.in-Ok.model (g.S.Sink.taken c.args.out.now) (g.S.Sink.taken c.solve.new.out) c.solve.result
+    c.in-Ok.ensures.model c.solve.ensures.concluded
+
+pub returns-in-Ok-clause-read_fault : goal.returns-in-Ok-clause-read_fault
+returns-in-Ok-clause-read_fault g c = λ fault. absurd (no_read_fault c.in-Ok.model c.args.options.now All (g.S.Sink.taken c.args.out.now) (g.S.Sink.taken c.solve.new.out) c.solve.result c.solve.ensures.concluded fault)
 
 pub returns-in-Err-clause-printed : goal.returns-in-Err-clause-printed
 returns-in-Err-clause-printed g c =

@@ -1,0 +1,5 @@
+use Rattle.solve_passes.proofs.AtTarget.{no_memory}
+use Rattle.solve_passes.proofs.solving.search.Goals as goal
+
+pub returns-in-Err-clause-concluded : goal.returns-in-Err-clause-concluded
+returns-in-Err-clause-concluded g c = no_memory c.args.model.now c.args.options.now c.args.printing (g.S.Sink.taken c.args.out.now) (g.S.Sink.taken c.run_out.new.out) c.run_out.result c.run_out.ensures.printed

@@ -1,0 +1,154 @@
+-- What a run has printed so far, how far it has come, and what it came to.
+use Rattle.std.specs.Prelude.{◌≡◌, ℕ, ◌+◌, ◌*◌, ◌^◌, ◌<◌, ◌≤◌, ◌⊎◌, List, [], ◌∷◌, length, Option, Some, None, IfSome, pos}
+use Rattle.std.specs.List.{flat_map, AllByRecursion}
+use Rattle.std.specs.Option.{option_map, option_to_list}
+use Rattle.board_words.specs.Rules.{no_word, IsWhole}
+use Rattle.board_words.specs.Seats.{BoardFacts, SeatFacts, IsSeatOf}
+use Rattle.board_words.specs.Steps.{best_known}
+use Rattle.dp_claims.specs.Enough.{AreReachedAtMost, IsAtMostReached, IsWidthAtMost}
+use Rattle.dp_model.specs.Costs.{IsBetter, order_word}
+use Rattle.dp_model.specs.declared.answers.Cause.{Cause}
+use Rattle.dp_model.specs.declared.answers.Cause.TheVariants as causes
+use Rattle.dp_model.specs.declared.answers.Found.{Found}
+use Rattle.dp_model.specs.declared.answers.Options.{Options}
+use Rattle.dp_model.specs.declared.answers.Verdict.{Verdict}
+use Rattle.dp_model.specs.declared.answers.Verdict.TheVariants as verdicts
+use Rattle.dp_model.specs.declared.whole.Model.{Model}
+use Rattle.dp_outside.specs.Outside.{Takes, TakesFront}
+use Rattle.dp_steps.specs.Lists.{Solution}
+use Rattle.pass_ends.specs.declared.answers.PassEnd.{PassEnd}
+use Rattle.pass_ends.specs.declared.answers.PassEnd.TheVariants as ends
+use Rattle.solve_passes.specs.Records.{Pass, Ending, Ended, OutOfMemory, Record, NumberedFrom, Improving, Right, KeepsWord, last_cost, visits, passes_text, ending_text, record_text, ending_status}
+use Rattle.solve_passes.specs.declared.progress.Printing.{Printing}
+use Rattle.solve_passes.specs.declared.progress.Progress.{Progress}
+use Rattle.solve_passes.specs.declared.progress.Tally.{Tally}
+use Rattle.solve_passes.specs.declared.status.Status.{Status}
+use Rattle.solve_passes.specs.declared.status.Status.TheVariants as statuses
+
+-- ---- the passes so far
+
+-- the solutions of the passes, in order
+abbrev pub solutions_of : List Pass → List Found
+solutions_of ps = flat_map (λ (p : Pass). option_to_list p.found) ps
+
+-- The passes so far. The last solution that was found is held.
+pub record Passes (m : Model) (held : Option Found) (count visited : ℕ) (ps : List Pass) : Type 0 where
+  pub counted : length ps ≡ count
+  pub numbered : NumberedFrom 1 ps
+  pub spent : visits ps ≡ visited
+  pub reached : AllByRecursion (λ (p : Pass). IsAtMostReached m p.visited) ps
+  pub legal : AllByRecursion (λ (f : Found). Solution m f.steps f.cost) (solutions_of ps)
+  pub improving : Improving m.minimize (solutions_of ps)
+  pub last : last_cost (solutions_of ps) ≡ option_map (λ (f : Found). f.cost) held
+
+-- the sink took the text of the passes so far, each of which dropped a node
+pub record History (m : Model) (printing : Printing) (before after : Option (List ℕ)) (held : Option Found) (count visited : ℕ) : Type 0 where
+  pub passes : List Pass
+  pub told : Takes before after (passes_text printing m passes)
+  pub known : Passes m held count visited passes
+  pub dropping : AllByRecursion (λ (p : Pass). 0 < p.dropped) passes
+
+abbrev pub HistoryOf : Model → Printing → Option (List ℕ) → Option (List ℕ) → Progress → Type 0
+HistoryOf m printing before after progress = History m printing before after progress.held progress.passes progress.visited
+
+-- ---- how far a run has come
+
+-- the best word is that of the solution that is held, or that of no solution
+abbrev pub IsWordOf : Model → ℕ → Option Found → Type 0
+IsWordOf m best None = best ≡ no_word
+IsWordOf m best (Some f) = pos best ≡ order_word m.minimize m.join (Some f.cost)
+
+-- The shares doubled from 1 on. The whole seat drew as many numbers as there were visits, none of them late, and raised no halt;
+-- each pass drew no more than can be reached, and dropped nodes, so that its share was less than the width.
+pub record IsOngoing (m : Model) (options : Options) (board : BoardFacts) (progress : Progress) (seat : SeatFacts) : Type 0 where
+  pub share : progress.schedule.share ≡ 2 ^ progress.passes
+  pub few_passes : progress.passes ≤ 56
+  pub on_board : IsSeatOf board seat
+  pub limit : board.limit ≡ options.budget
+  pub whole : IsWhole seat.view
+  pub no_halt : seat.view.raised ≡ 0
+  pub drawn : seat.view.drawn ≡ progress.visited
+  pub within : progress.visited ≤ options.budget
+  pub best : IsWordOf m (best_known seat.view) progress.held
+  pub few_drawn : (r : ℕ) → AreReachedAtMost m r → progress.visited ≤ progress.passes * r
+  pub narrow : (w : ℕ) → IsWidthAtMost m w → 0 < progress.passes → 2 ^ progress.passes < 2 * w
+
+-- ---- one more pass
+
+-- the pass that was made, as it is printed
+abbrev pub pass_of : Progress → Option Found → ℕ → ℕ → Pass
+pass_of progress found visited dropped = record { found = found; number = progress.passes + 1; share = progress.schedule.share; visited = visited; dropped = dropped }
+
+-- the solution that is held after a pass
+abbrev pub held_after : Option Found → Option Found → Option Found
+held_after held None = held
+held_after held (Some f) = Some f
+
+-- the progress after a pass, before the share is doubled
+abbrev pub progress_after : Progress → Option Found → ℕ → Progress
+progress_after progress found visited = record { passes = progress.passes + 1; schedule = progress.schedule; visited = progress.visited + visited; held = held_after progress.held found }
+
+-- the best solution of a pass, where it is strictly better than what is held
+abbrev pub IsImproved : Model → (held best found : Option Found) → Type 0
+IsImproved m held best None = IfSome best (λ f. (h : Found) × (held ≡ Some h) × (IsBetter m.minimize f.cost h.cost → ⊥))
+IsImproved m held best (Some f) = (best ≡ Some f) × IfSome held (λ h. IsBetter m.minimize f.cost h.cost)
+
+-- ---- what follows a pass
+
+-- what the shards of a pass did, and why it was halted, if it was
+abbrev pub tally_in : PassEnd → Tally
+tally_in (ends.Closed visited dropped floor best) = record { visited = visited; dropped = dropped; best = best }
+tally_in (ends.Halted cause visited dropped best) = record { visited = visited; dropped = dropped; best = best }
+
+abbrev pub halt_in : PassEnd → Option Cause
+halt_in (ends.Closed visited dropped floor best) = None
+halt_in (ends.Halted cause visited dropped best) = Some cause
+
+-- the progress before the next pass
+abbrev pub doubled : Progress → Progress
+doubled progress = record progress { schedule = record { share = progress.schedule.share * 2 } }
+
+-- the verdict of a search that lost nothing
+abbrev pub verdict_of : Option Found → Verdict
+verdict_of None = verdicts.Infeasible
+verdict_of (Some f) = verdicts.Optimal f.cost
+
+-- how a run of so many visits ends that was halted
+abbrev pub halt_ending : ℕ → Cause → Ending
+halt_ending visited causes.Budget = Ended (verdicts.Stopped visited)
+halt_ending visited (causes.Fault fault) = Ended (verdicts.Fault fault)
+halt_ending visited causes.Memory = OutOfMemory
+
+-- a run goes on after a pass that was closed and dropped nodes
+abbrev pub GoesOn : Tally → (halt : Option Cause) → Type 0
+GoesOn tally None = 0 < tally.dropped
+GoesOn tally (Some cause) = ⊥
+
+-- a run that has come so far ends so after a pass that was halted, or closed without a dropped node
+abbrev pub IsLast : Tally → (halt : Option Cause) → Progress → Ending → Type 0
+IsLast tally None progress ending = (tally.dropped ≡ 0) × (ending ≡ Ended (verdict_of progress.held))
+IsLast tally (Some cause) progress ending = ending ≡ halt_ending progress.visited cause
+
+-- the text of an ending was printed, or a write failed, and a front of it was
+abbrev pub IsTold : Model → (before after : Option (List ℕ)) → Status → Ending → Type 0
+IsTold m before after status ending = ((status ≡ ending_status ending) × Takes before after (ending_text m ending)) ⊎ ((status ≡ statuses.WriteFault) × TakesFront before after (ending_text m ending))
+
+-- the printed lines of a pass, with the better solution that it found
+abbrev pub lines_of : Printing → Model → Progress → Tally → (found : Option Found) → List ℕ
+lines_of printing m progress tally found = passes_text printing m (pass_of progress found tally.visited tally.dropped ∷ [])
+
+-- What follows a pass: its lines are printed, and then the run goes on, or it ends and this is printed too. Or a write failed.
+abbrev pub IsFollowed : Printing → Model → (before after : Option (List ℕ)) → (old new : Progress) → Tally → (halt : Option Cause) → (found : Option Found) → Option Status → Type 0
+IsFollowed printing m before after old new tally halt found None = GoesOn tally halt × (new ≡ doubled (progress_after old found tally.visited)) × Takes before after (lines_of printing m old tally found)
+IsFollowed printing m before after old new tally halt found (Some status) =
+    ((mid : Option (List ℕ)) × (ending : Ending) × Takes before mid (lines_of printing m old tally found) × IsLast tally halt (progress_after old found tally.visited) ending × IsTold m mid after status ending)
+    ⊎ ((status ≡ statuses.WriteFault) × TakesFront before after (lines_of printing m old tally found))
+
+-- ---- the end
+
+-- A record that is right was printed, or a write failed, and a front of it was.
+pub record Concluded (m : Model) (options : Options) (printing : Printing) (before after : Option (List ℕ)) (status : Status) : Type 0 where
+  pub run : Record
+  pub right : Right m options run
+  pub word : KeepsWord m options run.ending
+  pub printed : ((status ≡ ending_status run.ending) × Takes before after (record_text printing m run)) ⊎ ((status ≡ statuses.WriteFault) × TakesFront before after (record_text printing m run))

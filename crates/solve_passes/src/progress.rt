@@ -1,0 +1,148 @@
+//! How far a run has come, and what it prints of each pass.
+
+ghost use Rattle.std.specs.Prelude.{◌≡◌, ◌≤◌, ◌+◌, ◌^◌, ◌∷◌, [], IsTrue, ◌↔◌, Option, OnOk, OnErr};
+ghost use Rattle.dp_model.specs.declared.answers.Found.{Found};
+ghost use Rattle.dp_model.specs.Costs.{IsBetter};
+ghost use Rattle.dp_model.specs.declared.whole.Model.{Model};
+ghost use Rattle.solve_report.specs.Puts.{Puts};
+ghost use Rattle.solve_passes.specs.Records.{found_text, passes_text};
+ghost use Rattle.solve_passes.specs.Ongoing.{IsImproved, pass_of, progress_after};
+
+use dp_model::{Found, Model};
+use dp_outside::{Failed, Sink};
+use solve_report::{put_pass, put_solution};
+use width_loop::Schedule;
+
+/// What is printed of a run: its solutions, passes and verdict, or its verdict alone.
+#[derive(Clone, Copy, Debug, PartialEq, Eq)]
+pub enum Printing {
+    All,
+    VerdictAlone,
+}
+
+/// How far a run has come: the passes made, the share of the next one, the visits of all passes, and the best solution.
+#[derive(Debug, Drop)]
+pub struct Progress {
+    pub passes: u32,
+    pub schedule: Schedule,
+    pub visited: u64,
+    pub held: Option<Found>,
+}
+
+/// What the shards of a pass did: how many nodes they visited and dropped, and the best solution that they hold.
+#[derive(Debug, Drop)]
+pub struct Tally {
+    pub visited: u64,
+    pub dropped: u64,
+    pub best: Option<Found>,
+}
+
+/// Whether a cost is strictly better than another.
+fn is_better(model: &Model, cost: i64, other: i64) -> bool
+    ensures { IsTrue result ↔ IsBetter model.now.minimize cost other }
+{
+    if model.minimize() {
+        cost < other
+    } else {
+        other < cost
+    }
+}
+
+/// The best solution of a pass, if it is strictly better than the held one.
+fn improved(model: &Model, held: &Option<Found>, best: Option<Found>) -> Option<Found>
+    ensures { IsImproved model.now held.now best result }
+{
+    let found = best?;
+    match held {
+        Some(held) if !is_better(model, found.cost, held.cost) => None,
+        _ => Some(found),
+    }
+}
+
+/// Prints the lines of a solution, if there is one and not the verdict alone is printed.
+pub(crate) fn put_found<S: Sink>(
+    out: &mut S,
+    model: &Model,
+    printing: Printing,
+    found: &Option<Found>,
+) -> Result<(), Failed>
+    ensures { Puts (S.taken out.old) (S.taken out.new) (S.faults out.old) (S.faults out.new)
+        (found_text printing model.now found.now) result }
+{
+    match (printing, found) {
+        (Printing::All, Some(found)) => put_solution(out, model, found),
+        _ => Ok(()),
+    }
+}
+
+/// Prints the line of a pass, if not the verdict alone is printed.
+fn put_pass_line<S: Sink>(
+    out: &mut S,
+    printing: Printing,
+    progress: &Progress,
+    visited: u64,
+    dropped: u64,
+) -> Result<(), Failed>
+    requires { progress.now.passes ≤ 56 }
+    ensures { (m : Model) → Puts (S.taken out.old) (S.taken out.new) (S.faults out.old) (S.faults out.new)
+        (passes_text printing m (pass_of progress.now None visited dropped ∷ [])) result }
+{
+    match printing {
+        Printing::All => put_pass(
+            out,
+            progress.passes + 1,
+            progress.schedule.share,
+            visited,
+            dropped,
+        ),
+        Printing::VerdictAlone => Ok(()),
+    }
+}
+
+/// Prints the solution of a pass, if it found a better one, and the pass.
+fn put_pass_lines<S: Sink>(
+    out: &mut S,
+    model: &Model,
+    printing: Printing,
+    progress: &Progress,
+    found: &Option<Found>,
+    visited: u64,
+    dropped: u64,
+) -> Result<(), Failed>
+    requires { progress.now.passes ≤ 56 }
+    ensures { Puts (S.taken out.old) (S.taken out.new) (S.faults out.old) (S.faults out.new)
+        (passes_text printing model.now (pass_of progress.now found.now visited dropped ∷ [])) result }
+{
+    put_found(out, model, printing, found)?;
+    put_pass_line(out, printing, progress, visited, dropped)
+}
+
+/// Prints a pass, counts it, and keeps its solution if it found a better one. Where a write fails the progress stays.
+pub(crate) fn add_pass<S: Sink>(
+    out: &mut S,
+    model: &Model,
+    printing: Printing,
+    progress: &mut Progress,
+    tally: Tally,
+) -> Result<(), Failed>
+    requires few { progress.old.passes ≤ 56 }
+    requires fits { progress.old.visited + tally.visited ≤ 2 ^ 41 }
+    ensures { (found : Option Found) × IsImproved model.now progress.old.held tally.best found
+        × Puts (S.taken out.old) (S.taken out.new) (S.faults out.old) (S.faults out.new)
+        (passes_text printing model.now (pass_of progress.old found tally.visited tally.dropped ∷ [])) result
+        × OnOk result (progress.new ≡ progress_after progress.old found tally.visited) × OnErr result (progress.new ≡ progress.old) }
+{
+    let Tally {
+        visited,
+        dropped,
+        best,
+    } = tally;
+    let found = improved(model, &progress.held, best);
+    put_pass_lines(out, model, printing, progress, &found, visited, dropped)?;
+    progress.passes += 1;
+    progress.visited += visited;
+    if found.is_some() {
+        progress.held = found;
+    }
+    Ok(())
+}

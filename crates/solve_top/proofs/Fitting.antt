@@ -1,0 +1,168 @@
+-- What words ask for lies in its range.
+use Rattle.std.proofs.Common.{◌≡◌, ℕ, ◌≤◌, ◌^◌, ◌&&◌, ◌⊎◌, inl, inr, true, false, Bool, cond, List, [], ◌∷◌, Option, Some, None, refl, sym, subst, ◌∙◌, nat_le, arith}
+use Rattle.std.specs.Prelude.{codes, option_and_then, option_map}
+use Rattle.std.specs.Str.{bytes_eq}
+use Rattle.std.specs.Str.Parse.{digits_value}
+use Rattle.std.proofs.lemmas.Bool.Decides.{nat_tests}
+use Rattle.clap.specs.Words.{Kinds}
+use Rattle.command_line.specs.Commands.{value_in, faults_in, solve, replay, show, generate}
+use Rattle.command_line.specs.Jobs.{is_number, number_in, number_or, on_or_off, options_of, unless_fault, solve_job, replay_job, show_job, sized_job, gen_job, solve_words, replay_words, show_words, gen_words, by_command, job_of}
+use Rattle.command_line.specs.declared.jobs.Job.{Job}
+use Rattle.command_line.specs.declared.jobs.Job.TheVariants as jobs
+use Rattle.dp_model.specs.declared.answers.Options.{Options}
+use Rattle.model_gen.specs.Kinds.{kind_named, least_size, most_size}
+use Rattle.model_gen.specs.declared.kinds.GenKind.{GenKind}
+use Rattle.pass_ends.specs.Passes.{AreOptions}
+use Rattle.solve_top.specs.Jobs.{JobFits, gen_options}
+
+-- ---- options of values
+
+some_one : {A : Type 0} (a b : A) → Some a ≡ Some b → a ≡ b
+some_one a b e = cc
+
+then_some : {A B : Type 0} (f : A → Option B) (o : Option A) (y : B) → option_and_then f o ≡ Some y → (x : A) × (o ≡ Some x) × (f x ≡ Some y)
+then_some f None y e = absurd cc
+then_some f (Some x) y e = (x, refl, e)
+
+map_some : {A B : Type 0} (f : A → B) (o : Option A) (y : B) → option_map f o ≡ Some y → (x : A) × (o ≡ Some x) × (f x ≡ y)
+map_some f None y e = absurd cc
+map_some f (Some x) y e = (x, refl, some_one (f x) y e)
+
+chosen : (test : Bool) (v n : ℕ) → cond test (Some v) None ≡ Some n → (test ≡ true) × (v ≡ n)
+chosen true v n e = (refl, some_one v n e)
+chosen false v n e = absurd cc
+
+both : (a b : Bool) → (a && b) ≡ true → (a ≡ true) × (b ≡ true)
+both true b h = (refl, h)
+both false b h = absurd cc
+
+-- ---- numbers in their bounds
+
+le_of : (a b : ℕ) → nat_le a b ≡ true → a ≤ b
+le_of a b h = grind (arith, nat_tests)
+
+pub record Within (least most n : ℕ) : Type 0 where
+  pub low : least ≤ n
+  pub high : n ≤ most
+
+in_bounds : (least most : ℕ) (text : List ℕ) (n : ℕ) → number_in least most text ≡ Some n → Within least most n
+in_bounds least most text n e =
+    let v = digits_value 10 text in
+    let c = chosen (is_number text && (nat_le least v && nat_le v most)) v n e in
+    let t = both (is_number text) (nat_le least v && nat_le v most) c.0 in
+    let u = both (nat_le least v) (nat_le v most) t.1 in
+    record { low = subst (λ (k : ℕ). least ≤ k) c.1 (le_of least v u.0); high = subst (λ (k : ℕ). k ≤ most) c.1 (le_of v most u.1) }
+
+or_bounds : (otherwise least most : ℕ) (text : Option (List ℕ)) (n : ℕ) → Within least most otherwise → number_or otherwise least most text ≡ Some n → Within least most n
+or_bounds otherwise least most None n known e = subst (Within least most) (some_one otherwise n e) known
+or_bounds otherwise least most (Some text) n known e = in_bounds least most text n e
+
+workers_bounds : (text : Option (List ℕ)) (n : ℕ) → number_or 1 1 64 text ≡ Some n → Within 1 64 n
+workers_bounds text n e = or_bounds 1 1 64 text n (record { low = omega arith; high = omega arith }) e
+
+budget_bounds : (text : Option (List ℕ)) (n : ℕ) → number_or 10000000 1 1099511627776 text ≡ Some n → Within 1 1099511627776 n
+budget_bounds text n e = or_bounds 10000000 1 1099511627776 text n (record { low = omega arith; high = omega arith }) e
+
+-- ---- options of a search
+
+are_options : (w b : ℕ) (p : Bool) → Within 1 64 w → Within 1 1099511627776 b → AreOptions (record { workers = w; budget = b; prune = p })
+are_options w b p h k = record { some_workers = h.low; few_workers = h.high; some_budget = k.low; small_budget = k.high }
+
+options_fit : (workers budget prune : Option (List ℕ)) (options : Options) → options_of workers budget prune ≡ Some options → AreOptions options
+options_fit workers budget prune options e =
+    let with_workers = λ (w : ℕ). option_and_then (λ (b : ℕ). option_map (λ (p : Bool). record { workers = w; budget = b; prune = p }) (on_or_off prune)) (number_or 10000000 1 1099511627776 budget) in
+    let w = then_some with_workers (number_or 1 1 64 workers) options e in
+    let with_budget = λ (b : ℕ). option_map (λ (p : Bool). record { workers = w.0; budget = b; prune = p }) (on_or_off prune) in
+    let b = then_some with_budget (number_or 10000000 1 1099511627776 budget) options w.2 in
+    let whole : Bool → Options = λ (p : Bool). record { workers = w.0; budget = b.0; prune = p } in
+    let p = map_some whole (on_or_off prune) options b.2 in
+    subst AreOptions p.2 (are_options w.0 b.0 p.0 (workers_bounds workers w.0 w.1) (budget_bounds budget b.0 b.1))
+
+gen_options_fit : (workers : ℕ) → Within 1 64 workers → AreOptions (gen_options workers)
+gen_options_fit workers h = are_options workers 10000000 true h (record { low = omega arith; high = omega arith })
+
+-- ---- jobs
+
+free_job : (kinds : Kinds) (told : Option Job) (job : Job) → unless_fault kinds told ≡ Some job → told ≡ Some job
+free_job [] told job e = e
+free_job (kind ∷ kinds) told job e = absurd cc
+
+solve_fits : (domain problem workers budget prune : Option (List ℕ)) (job : Job) → solve_job domain problem workers budget prune ≡ Some job → JobFits job
+solve_fits (Some domain) (Some problem) workers budget prune job e =
+    let whole : Options → Job = λ (options : Options). jobs.Solve domain problem options in
+    let o = map_some whole (options_of workers budget prune) job e in
+    subst JobFits o.2 (options_fit workers budget prune o.0 o.1)
+solve_fits (Some domain) None workers budget prune job e = absurd cc
+solve_fits None problem workers budget prune job e = absurd cc
+
+replay_fits : (domain problem list : Option (List ℕ)) (job : Job) → replay_job domain problem list ≡ Some job → JobFits job
+replay_fits (Some domain) (Some problem) (Some list) job e = subst JobFits (some_one (jobs.Replay domain problem list) job e) tt
+replay_fits (Some domain) (Some problem) None job e = absurd cc
+replay_fits (Some domain) None list job e = absurd cc
+replay_fits None problem list job e = absurd cc
+
+show_fits : (domain problem : Option (List ℕ)) (job : Job) → show_job domain problem ≡ Some job → JobFits job
+show_fits (Some domain) (Some problem) job e = subst JobFits (some_one (jobs.Show domain problem) job e) tt
+show_fits (Some domain) None job e = absurd cc
+show_fits None problem job e = absurd cc
+
+sized_fits : (seed : Option ℕ) (workers : Option (List ℕ)) (size : List ℕ) (kind : GenKind) (job : Job) → sized_job seed (number_or 1 1 64 workers) size kind ≡ Some job → JobFits job
+sized_fits seed workers size kind job e =
+    let with_size = λ (n : ℕ). option_and_then (λ (s : ℕ). option_map (λ (w : ℕ). jobs.Gen kind n s w) (number_or 1 1 64 workers)) seed in
+    let n = then_some with_size (number_in (least_size kind) (most_size kind) size) job e in
+    let with_seed = λ (s : ℕ). option_map (λ (w : ℕ). jobs.Gen kind n.0 s w) (number_or 1 1 64 workers) in
+    let s = then_some with_seed seed job n.2 in
+    let whole : ℕ → Job = λ (w : ℕ). jobs.Gen kind n.0 s.0 w in
+    let w = map_some whole (number_or 1 1 64 workers) job s.2 in
+    let bounds = in_bounds (least_size kind) (most_size kind) size n.0 n.1 in
+    subst JobFits w.2 (bounds.low, bounds.high, gen_options_fit w.0 (workers_bounds workers w.0 w.1))
+
+gen_fits : (kind size seed workers : Option (List ℕ)) (job : Job) → gen_job kind size seed workers ≡ Some job → JobFits job
+gen_fits (Some kind) (Some size) (Some seed) workers job e =
+    let k = then_some (sized_job (number_in 0 18446744073709551615 seed) (number_or 1 1 64 workers) size) (kind_named kind) job e in
+    sized_fits (number_in 0 18446744073709551615 seed) workers size k.0 job k.2
+gen_fits (Some kind) (Some size) None workers job e = absurd cc
+gen_fits (Some kind) None seed workers job e = absurd cc
+gen_fits None size seed workers job e = absurd cc
+
+solve_words_fit : (ws : List (List ℕ)) (job : Job) → solve_words ws ≡ Some job → JobFits job
+unfolding solve_words
+solve_words_fit ws job e = solve_fits (value_in solve ws (codes "domain")) (value_in solve ws (codes "problem")) (value_in solve ws (codes "workers")) (value_in solve ws (codes "budget")) (value_in solve ws (codes "prune")) job (free_job (faults_in solve ws) (solve_job (value_in solve ws (codes "domain")) (value_in solve ws (codes "problem")) (value_in solve ws (codes "workers")) (value_in solve ws (codes "budget")) (value_in solve ws (codes "prune"))) job e)
+
+replay_words_fit : (ws : List (List ℕ)) (job : Job) → replay_words ws ≡ Some job → JobFits job
+unfolding replay_words
+replay_words_fit ws job e = replay_fits (value_in replay ws (codes "domain")) (value_in replay ws (codes "problem")) (value_in replay ws (codes "list")) job (free_job (faults_in replay ws) (replay_job (value_in replay ws (codes "domain")) (value_in replay ws (codes "problem")) (value_in replay ws (codes "list"))) job e)
+
+show_words_fit : (ws : List (List ℕ)) (job : Job) → show_words ws ≡ Some job → JobFits job
+unfolding show_words
+show_words_fit ws job e = show_fits (value_in show ws (codes "domain")) (value_in show ws (codes "problem")) job (free_job (faults_in show ws) (show_job (value_in show ws (codes "domain")) (value_in show ws (codes "problem"))) job e)
+
+gen_words_fit : (ws : List (List ℕ)) (job : Job) → gen_words ws ≡ Some job → JobFits job
+unfolding gen_words
+gen_words_fit ws job e = gen_fits (value_in generate ws (codes "kind")) (value_in generate ws (codes "size")) (value_in generate ws (codes "seed")) (value_in generate ws (codes "workers")) job (free_job (faults_in generate ws) (gen_job (value_in generate ws (codes "kind")) (value_in generate ws (codes "size")) (value_in generate ws (codes "seed")) (value_in generate ws (codes "workers"))) job e)
+
+one_of : (test : Bool) (x y : Option Job) (job : Job) → cond test x y ≡ Some job → (x ≡ Some job) ⊎ (y ≡ Some job)
+one_of true x y job e = inl e
+one_of false x y job e = inr e
+
+command_fits : (command : List ℕ) (ws : List (List ℕ)) (job : Job) → by_command command ws ≡ Some job → JobFits job
+command_fits command ws job e =
+    let last = cond (bytes_eq command (codes "gen")) (gen_words ws) None in
+    let third = cond (bytes_eq command (codes "show")) (show_words ws) last in
+    let second = cond (bytes_eq command (codes "replay")) (replay_words ws) third in
+    elim (one_of (bytes_eq command (codes "solve")) (solve_words ws) second job e) [
+      | inl a ↦ solve_words_fit ws job a
+      | inr b ↦ elim (one_of (bytes_eq command (codes "replay")) (replay_words ws) third job b) [
+        | inl a ↦ replay_words_fit ws job a
+        | inr c ↦ elim (one_of (bytes_eq command (codes "show")) (show_words ws) last job c) [
+          | inl a ↦ show_words_fit ws job a
+          | inr d ↦ elim (one_of (bytes_eq command (codes "gen")) (gen_words ws) None job d) [ inl a ↦ gen_words_fit ws job a | inr nothing ↦ absurd cc ]
+        ]
+      ]
+    ]
+
+-- the job that words ask for lies in its range
+pub job_fits : (words : List (List ℕ)) (job : Job) → job_of words ≡ Some job → JobFits job
+unfolding job_of
+job_fits [] job e = absurd cc
+job_fits (command ∷ words) job e = command_fits command (command ∷ words) job e

@@ -1,0 +1,40 @@
+-- When a search has to end with what is known of all lists, or for want of memory.
+use Rattle.std.specs.Prelude.{◌≡◌, ℕ, ◌⊎◌, Bool, true, List, Option, Some}
+use Rattle.dp_claims.specs.Enough.{IsEnough}
+use Rattle.dp_model.specs.declared.answers.FaultKind.{FaultKind}
+use Rattle.dp_model.specs.declared.answers.Options.{Options}
+use Rattle.dp_model.specs.declared.answers.Spot.{Spot}
+use Rattle.dp_model.specs.declared.whole.Model.{Model}
+use Rattle.dp_steps.specs.Faults.{Meets}
+use Rattle.command_line.specs.declared.jobs.Job.TheVariants as jobs
+use Rattle.model_gen.specs.Texts.{domain_text, problem_text}
+use Rattle.model_gen.specs.declared.kinds.GenKind.{GenKind}
+use Rattle.solve_top.specs.Files.{IsShort}
+use Rattle.solve_top.specs.Jobs.{Asks, gen_options}
+use Rattle.solve_top.specs.Texts.{Means}
+
+-- no list of the model meets a fault
+abbrev pub MeetsNone : Model → (prune : Bool) → Type 0
+MeetsNone m prune = (steps : List ℕ) (spot : Spot) (kind : FaultKind) → Meets m prune steps spot kind → ⊥
+
+-- the model can be searched to the end with these options
+pub record CanEnd (m : Model) (options : Options) : Type 0 where
+  pub no_fault : MeetsNone m options.prune
+  pub enough : IsEnough m options.budget
+
+-- optimal, infeasible, or want of memory; or a read or a write failed
+abbrev pub IsSettled : ℕ → Type 0
+IsSettled code = (code ≡ 0) ⊎ ((code ≡ 10) ⊎ ((code ≡ 6) ⊎ ((code ≡ 4) ⊎ (code ≡ 5))))
+
+-- Where the words ask for a search of the model that two files mean, which the shelf tells and which are short, the model meets no
+-- fault and the budget is enough, the search is settled.
+abbrev pub SettlesFiles : List (List ℕ) → (List ℕ → Option (List ℕ)) → ℕ → Type 0
+SettlesFiles words files code =
+    (domain problem first second : List ℕ) (options : Options) (m : Model) → Asks words (jobs.Solve domain problem options)
+    → files domain ≡ Some first → IsShort first → files problem ≡ Some second → IsShort second → Means first second m → CanEnd m options → IsSettled code
+
+-- So is that of a generated model.
+abbrev pub SettlesGenerated : List (List ℕ) → ℕ → Type 0
+SettlesGenerated words code =
+    (kind : GenKind) (size seed workers : ℕ) (m : Model) → Asks words (jobs.Gen kind size seed workers)
+    → Means (domain_text kind) (problem_text kind size seed) m → CanEnd m (gen_options workers) → IsSettled code
