@@ -12,7 +12,12 @@ def escaped(data):
 
 
 def unescaped(text):
-    """A text without its escapes, as `case_files::unescaped` reads it; it has to be UTF-8."""
+    """A text without its escapes, which has to be UTF-8."""
+    return unescaped_bytes(text).decode()
+
+
+def unescaped_bytes(text):
+    """The bytes of a text without its escapes, as `case_files::unescaped` reads it."""
     names = {"n": b"\n", "r": b"\r", "t": b"\t"}
 
     def meant(escape):
@@ -21,7 +26,7 @@ def unescaped(text):
 
     parts = re.split(r"(\\(?:x[0-9a-f]{2}|.))", text)
     pieces = [meant(re.fullmatch(r"\\(.*)", it)) if it.startswith("\\") else it.encode() for it in parts]
-    return b"".join(pieces).decode()
+    return b"".join(pieces)
 
 
 def guarded(text):

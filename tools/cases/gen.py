@@ -1,5 +1,7 @@
 #!/usr/bin/env python3
-"""Writes the cases of the generated models: data/models.txt of cases_gen and its stdout. It shares nothing with the crate."""
+"""Writes the cases of the generated models: data/models.txt of cases_gen and its stdout. It shares nothing with the crate.
+
+`printed` gives what `gen` must print, with the best cost by a table from the end; small_runs.py has cases of it."""
 import pathlib
 
 CASES = [("path", 1, 0), ("path", 2, 0), ("path", 12, 2147483645), ("path", 3, 2147483646), ("path", 3, 18446744073709551615),
@@ -100,6 +102,42 @@ def problem(kind, size, seed):
     return "\n".join(lines) + "\n"
 
 
+def best_of_path(draw, size):
+    """Nodes from the last on: one step costs a, a step over the next node b."""
+    costs = [(next(draw), next(draw)) for _ in range(size)]
+    rest = [0]
+    for a, b in reversed(costs):
+        rest.insert(0, min(a + rest[0], b + rest[1]) if len(rest) > 1 else a + rest[0])
+    return rest[0]
+
+
+def best_of_pack(draw, size):
+    """Items from the last on, for each room that may be left."""
+    items = [(next(draw), next(draw)) for _ in range(size)]
+    rest = [0] * (40 * size + 1)
+    for weight, profit in reversed(items):
+        rest = [max(worth, profit + rest[room - weight]) if weight <= room else worth for room, worth in enumerate(rest)]
+    return rest[-1]
+
+
+def best_of_tour(draw, size):
+    """Sets of towns, as numbers in binary, from the empty one on: the least way from a town through all of them to town 0."""
+    way = {(i, j): next(draw) for i in range(size) for j in range(size) if i != j}
+    rest = {}
+    for towns in range(0, 1 << size, 2):
+        for at in range(size):
+            further = [way[at, to] + rest[towns & ~(1 << to), to] for to in range(1, size) if towns >> to & 1 and to != at]
+            rest[towns, at] = min(further) if further else way.get((at, 0), 0)
+    return rest[(1 << size) - 2, 0]
+
+
+def printed(kind, size, seed):
+    """What `gen` prints of a model that is solved to the end."""
+    best = {"path": best_of_path, "pack": best_of_pack, "tour": best_of_tour}[kind](draws(seed), size)
+    ground = size + 1 if kind == "tour" else 2
+    return f"gen {kind} {size} {seed}\nground {ground}\nverdict optimal {best}\n"
+
+
 def main():
     crate = pathlib.Path(__file__).resolve().parents[2] / "crates" / "cases_gen"
     (crate / "data").mkdir(exist_ok=True)
@@ -107,4 +145,5 @@ def main():
     (crate / "stdout").write_text("".join(f"== {k} {n} {s}\n{DOMAINS[k]}--\n{problem(k, n, s)}" for k, n, s in CASES))
 
 
-main()
+if __name__ == "__main__":
+    main()

@@ -3,13 +3,21 @@
 
 VECTORS is a folder with the files that TABLES names: lists of models, each with the words of a run and with the output
 and the status that a program which shares no code with the solver worked out. The other runs, with their answers, stand
-in small_runs.py, written by hand."""
+in small_runs.py, written by hand; in docs/GUIDE.md, from where guide_runs.py takes them; and models_check.py works out
+those of the models of models/.
+
+A case is its title, its texts, its runs (words, output, status), and its runs of which the last line is shown alone, since
+the lines before it depend on how the workers of a search take turns."""
 
 import json
 import sys
 from collections import Counter
+from pathlib import Path
 
+import guide_runs
+import models_check
 from case_lines import block, entry
+from model_problems import PROBLEMS
 from small_runs import ORDERS, RUNS
 
 CRATE = "crates/cases_runs"
@@ -19,38 +27,70 @@ TABLES = [
     ("first_form", "first_form", None),
     ("refusals", "refusals", 6),
     ("replay", "replay", 4),
+    ("whole", "models", 3),
+    ("pruned", "pruned", 3),
+    ("field", "field", None),
 ]
+# The gate gives a program two minutes: a run that makes more visits is left out, which are four of `field`.
+MOST_VISITS = 20_000
 TEXTS = ("domain", "problem", "list")
 
 
-def kind(case):
-    """What a run comes to, without its numbers: a refusal, a verdict, an illegal list's reason, a fault and its spot."""
-    words = case["stdout"].splitlines()[0].split(" ")
+def told(words):
+    """What a line tells, without its numbers: a refusal, a verdict, an illegal list's reason, a fault and its spot."""
     if words[0] == "refused":
         return words[2:]
     if words[:2] == ["verdict", "fault"]:
-        places = ("constraint", "base", "total", "precondition", "weight", "cost", "effect")
+        places = ("constraint", "base", "total", "bound", "precondition", "weight", "cost", "effect")
         return words[:3] + [word for word in words[4:] if word in places]
     return [word for word in words if not word.lstrip("-").isdigit()]
+
+
+def kind(case):
+    """What a run comes to; of a search also whether it found no solution, one or more, and made no pass, one, two or more."""
+    lines = [line.split(" ") for line in case["stdout"].splitlines()]
+    found = [told(words) for words in lines if words[0] in ("refused", "verdict")]
+    counts = [sum(words[0] == name for words in lines) for name in ("solution", "pass")]
+    return [*found[0], str(min(counts[0], 2)), str(min(counts[1], 3))]
+
+
+def visits(case):
+    return sum(int(line.split(" ")[5]) for line in case["stdout"].splitlines() if line.startswith("pass "))
 
 
 def chosen(cases, most):
     """The cases with their numbers, of each kind the first few."""
     seen = Counter()
     for number, case in enumerate(cases, 1):
+        if visits(case) > MOST_VISITS:
+            continue
         name = " ".join(kind(case))
         seen[name] += 1
         if most is None or seen[name] <= most:
             yield number, case
 
 
-def of_vectors(folder, name, most):
-    with open(f"{folder}/{name}.json", encoding="utf-8") as file:
+def of_vectors(folder, name, table, most):
+    with open(f"{folder}/{table}.json", encoding="utf-8") as file:
         for number, case in chosen(json.load(file), most):
             command = case.get("command", "solve")
             words = [command, "d", "p", *["l"] * ("list" in case), *case["words"]]
             texts = [(key, case[key]) for key in TEXTS if key in case]
-            yield f"{name} {number}", texts, [(words, case["stdout"], case["status"])]
+            title = " ".join([name, str(number), *([case["name"]] if "name" in case else [])])
+            yield title, texts, [(words, case["stdout"], case["status"])]
+
+
+def of_models():
+    """The runs of the models of models/, with the answers that models_check.py works out from the problems themselves."""
+    for problem in PROBLEMS:
+        names = models_check.files_of(problem)
+        texts = list(zip(TEXTS, (Path(name).read_text(encoding="utf-8") for name in names)))
+        solve, replay = ["solve", "d", "p"], ["replay", "d", "p", "l"]
+        runs = [([*solve, *words], text, status) for words, text, status in models_check.solve_runs(problem)]
+        lasts = [([*solve, *words], f"{line}\n", status) for words, line, status in models_check.last_runs(problem)]
+        yield problem.folder, texts, runs, lasts
+        for number, (steps, text, status) in enumerate(models_check.replay_runs(problem), 1):
+            yield f"{problem.folder}, list {number}", [("list", steps)], [(replay, text, status)]
 
 
 def text_entry(key, text):
@@ -59,23 +99,30 @@ def text_entry(key, text):
 
 
 def write(name, cases):
-    """Writes the cases of one file, and returns what they must give."""
-    out = []
+    """Writes the cases of one file, and returns what they must give. A text that stands is not written again."""
+    out, standing = [], {}
     with open(f"{CRATE}/data/{name}.txt", "w", encoding="ascii") as file:
-        for title, texts, runs in cases:
-            file.write(f"case {title}\n" + "".join(text_entry(key, text) for key, text in texts))
+        for title, texts, runs, *more in cases:
+            changed = [(key, text) for key, text in texts if standing.get(key) != text]
+            standing.update(changed)
+            file.write(f"case {title}\n" + "".join(text_entry(key, text) for key, text in changed))
             out.append(f"== {title}\n")
             for words, stdout, status in runs:
                 file.write(entry("run", " ".join(words)))
                 out.append(f"-- {' '.join(words)}\n{stdout}status {status}\n")
+            for words, line, status in more[0] if more else []:
+                file.write(entry("last", " ".join(words)))
+                out.append(f"-- {' '.join(words)}\n..\n{line}status {status}\n")
             file.write("\n")
     return "".join(out)
 
 
 def main(folder):
-    out = [write(name, of_vectors(folder, table, most)) for name, table, most in TABLES]
+    out = [write(name, of_vectors(folder, name, table, most)) for name, table, most in TABLES]
     out.append(write("small", RUNS))
     out.append(write("orders", ORDERS))
+    out.append(write("models", of_models()))
+    out.append(write("guide", guide_runs.cases()))
     with open(f"{CRATE}/stdout", "w", encoding="utf-8") as file:
         file.writelines(out)
 

@@ -1,6 +1,10 @@
-"""Runs whose answers were worked out by hand: the words that have a meaning, budgets, and ways to end early.
+"""Runs whose answers were worked out by hand: the words that have a meaning, budgets, ways to end early, and small models
+that each show one rule. What `gen` prints is worked out by gen.py.
 
-Each case is a title, its texts, and its runs: words, output and status. A text stays until another takes its place."""
+Each case is a title, its texts, its runs (words, output and status), and perhaps its runs of which the last line is shown
+alone. A text stays until another takes its place."""
+
+from gen import printed
 
 USAGE = "usage: solve DOMAIN PROBLEM; replay DOMAIN PROBLEM LIST; show DOMAIN PROBLEM; gen KIND SIZE SEED\n"
 
@@ -184,22 +188,43 @@ WITHOUT_MEANING = [
     "",
     "solve d --prune off",
     "solve d",
-    "solve d p",
     "solve d p --prune",
-    "solve d p --prune on",
+    "solve d p --prune maybe",
     "solve d p --prune off more",
     "Solve d p --prune off",
     "solve d p --prune off --prune off",
     "solve d p --workers 0",
-    "solve d p --prune off --workers 2",
+    "solve d p --workers 65",
+    "solve d p --workers +1",
+    "solve d p --worker 1",
+    "solve d p -w 1",
     "replay d p",
+    "replay d p l --prune off",
     "show d",
     "show d p l",
-    "gen path 2 0",
+    "show d p --workers 1",
     "--help",
     "solve --help",
+    "gen",
+    "gen path 2",
+    "gen path 2 0 0",
+    "gen cake 2 0",
+    "gen path two 0",
+    "gen path -1 0",
+    "gen path 0 0",
+    "gen path 1001 0",
+    "gen pack 0 0",
+    "gen pack 201 0",
+    "gen tour 1 0",
+    "gen tour 13 0",
+    "gen path 2 18446744073709551616",
+    "gen path 2 0 --workers 0",
+    "gen path 2 0 --workers 65",
+    "gen path 2 0 --budget 5",
+    "gen path 2 0 --prune off",
 ]
 
+ON = words("solve d p")
 OFF = words("solve d p --prune off")
 
 
@@ -344,6 +369,438 @@ LISTS = [
     replayed("the tour", "visit 2\nvisit 3\nvisit 1\nreturn\n", "verdict legal 14\n", 0),
 ]
 
+# ---- small models, each for one rule
+
+# Between the base state and the target a constraint that no state meets.
+NOT_ALLOWED = CLIMB + """\
+constraints:
+  - (< x 0)
+"""
+
+# No base state meets the constraint, which the problem adds.
+BELOW_THREE = problem("a", "x", 0) + """\
+constraints:
+  - (< x 3)
+"""
+
+# Each step of the climb has its own number, given by a parameter.
+NUMBERED = """\
+domain: a
+objects:
+  - k
+state_variables:
+  - name: x
+    type: integer
+transitions:
+  - name: inc
+    parameters:
+      - name: i
+        object: k
+    preconditions:
+      - (= x i)
+    effects:
+      x: (+ x 1)
+    cost: (+ cost 2)
+  - name: jump
+    preconditions:
+      - (= x 0)
+    effects:
+      x: 3
+    cost: (+ cost 5)
+base_cases:
+  - - (= x 3)
+"""
+
+NUMBERED_FROM = """\
+domain: a
+problem: one
+object_numbers:
+  k: 3
+target:
+  x: 0
+"""
+
+NUMBERED_SHOWN = """\
+domain a
+problem one
+reduce min join plus
+object k 3
+variable x integer without
+transition inc 3
+transition jump 1
+ground 4
+constraints 0
+bases 1
+bounds 0
+"""
+
+# The jump costs 7, the climb 6, and a bound says wrongly that nothing costs less than 100.
+FALSE_BOUND = """\
+domain: a
+state_variables:
+  - name: x
+    type: integer
+transitions:
+  - name: inc
+    preconditions:
+      - (< x 3)
+    effects:
+      x: (+ x 1)
+    cost: (+ cost 2)
+  - name: jump
+    preconditions:
+      - (= x 0)
+    effects:
+      x: 3
+    cost: (+ cost 7)
+base_cases:
+  - - (= x 3)
+dual_bounds:
+  - 100
+"""
+
+# Forced transitions go before the others, and the first of them is the only one.
+FORCED = """\
+domain: forced
+state_variables:
+  - name: x
+    type: integer
+transitions:
+  - name: cheap
+    preconditions:
+      - (= x 0)
+    effects:
+      x: 1
+    cost: (+ cost 1)
+  - name: f1
+    preconditions:
+      - (= x 0)
+    effects:
+      x: 1
+    cost: (+ cost 4)
+    forced: true
+  - name: f2
+    preconditions:
+      - (= x 0)
+    effects:
+      x: 1
+    cost: (+ cost 3)
+    forced: true
+base_cases:
+  - - (= x 1)
+"""
+
+# All effects are computed in the old state.
+SWAP = """\
+domain: swap
+state_variables:
+  - name: a
+    type: integer
+  - name: b
+    type: integer
+transitions:
+  - name: swap
+    preconditions:
+      - (= a 1)
+    effects:
+      a: b
+      b: a
+    cost: (+ cost 1)
+base_cases:
+  - - (= a 2)
+    - (= b 1)
+"""
+
+SWAP_FROM = """\
+domain: swap
+problem: one
+target:
+  a: 1
+  b: 2
+"""
+
+# The element is one behind the last member at the end, which is a fault only where a cell is asked for.
+ITEMS = """\
+domain: items
+objects:
+  - item
+state_variables:
+  - name: i
+    type: element
+    object: item
+  - name: done
+    type: integer
+tables:
+  - name: w
+    type: integer
+    args:
+      - item
+transitions:
+  - name: next
+    preconditions:
+      - (< i 2)
+      - (> (w i) 0)
+    effects:
+      i: (+ i 1)
+    cost: (+ cost (w i))
+  - name: finish
+    preconditions:
+      - (= i 2)
+    effects:
+      done: 1
+    cost: cost
+base_cases:
+  - - (= done 1)
+"""
+
+ITEMS_FROM = """\
+domain: items
+problem: two
+object_numbers:
+  item: 2
+target:
+  i: 0
+  done: 0
+table_values:
+  w:
+    0: 1
+    1: 1
+"""
+
+# Two steps of the greatest number there is.
+BIG = """\
+domain: big
+state_variables:
+  - name: x
+    type: integer
+transitions:
+  - name: big
+    preconditions:
+      - (< x 2)
+    effects:
+      x: (+ x 1)
+    cost: (+ cost 4611686018427387903)
+base_cases:
+  - - (= x 2)
+"""
+
+# The greatest of the least weights: p and e have 2, q and d have 3, and the base case has 100.
+WIDEST = """\
+domain: widest
+reduce: max
+state_variables:
+  - name: a
+    type: integer
+transitions:
+  - name: p
+    preconditions:
+      - (= a 0)
+    effects:
+      a: 1
+    cost: (min cost 5)
+  - name: q
+    preconditions:
+      - (= a 0)
+    effects:
+      a: 2
+    cost: (min cost 3)
+  - name: e
+    preconditions:
+      - (= a 1)
+    effects:
+      a: 3
+    cost: (min cost 2)
+  - name: d
+    preconditions:
+      - (= a 2)
+    effects:
+      a: 3
+    cost: (min cost 4)
+base_cases:
+  - conditions:
+      - (= a 3)
+    cost: 100
+"""
+
+WIDEST_OUT = """\
+solution 2 2
+p
+e
+pass 1 share 1 visited 2 dropped 1
+solution 3 2
+q
+d
+pass 2 share 2 visited 3 dropped 0
+verdict optimal 3
+"""
+
+# From 0 to 1 and back, and never to 5.
+FLIP = """\
+domain: flip
+state_variables:
+  - name: x
+    type: integer
+transitions:
+  - name: flip
+    effects:
+      x: (- 1 x)
+    cost: (+ cost 0)
+base_cases:
+  - - (= x 5)
+"""
+
+# Two ways to a = 1, of which one leaves more of r, and less of it is preferred.
+RESOURCE = """\
+domain: resource
+state_variables:
+  - name: a
+    type: integer
+  - name: r
+    type: integer
+    preference: less
+transitions:
+  - name: slow
+    preconditions:
+      - (= a 0)
+    effects:
+      a: 1
+      r: (+ r 2)
+    cost: (+ cost 1)
+  - name: fast
+    preconditions:
+      - (= a 0)
+    effects:
+      a: 1
+      r: (+ r 1)
+    cost: (+ cost 1)
+  - name: end
+    preconditions:
+      - (= a 1)
+    effects:
+      a: 2
+    cost: (+ cost 1)
+base_cases:
+  - - (= a 2)
+"""
+
+RESOURCE_FROM = """\
+domain: resource
+problem: one
+target:
+  a: 0
+  r: 0
+"""
+
+TOUR_OUT = """\
+solution 16 4
+visit 1
+visit 2
+visit 3
+return
+pass 1 share 1 visited 4 dropped 1
+solution 14 4
+visit 2
+visit 3
+visit 1
+return
+pass 2 share 2 visited 6 dropped 1
+pass 3 share 4 visited 4 dropped 0
+verdict optimal 14
+"""
+
+
+def told(*lines):
+    return "".join(f"{line}\n" for line in lines)
+
+
+OPTIMAL_TOUR = ("verdict optimal 14\n", 0)
+NEXT_OUT = told("solution 2 3", "next", "next", "finish", "pass 1 share 1 visited 3 dropped 0", "verdict optimal 2")
+NEXT_FAULT = told("pass 1 share 1 visited 3 dropped 0", "verdict fault Index at next precondition 1 after 2", "next", "next")
+FALSE_BOUND_OFF = told("solution 6 3", "inc", "inc", "inc", "pass 1 share 1 visited 3 dropped 0", "verdict optimal 6")
+RESOURCE_OFF = told(
+    "solution 2 2", "slow", "end", "pass 1 share 1 visited 2 dropped 1", "pass 2 share 2 visited 3 dropped 0", "verdict optimal 2"
+)
+FORCED_OUT = told("solution 4 1", "f1", "pass 1 share 1 visited 1 dropped 0", "verdict optimal 4")
+SWAP_OUT = told("solution 1 1", "swap", "pass 1 share 1 visited 1 dropped 0", "verdict optimal 1")
+BIG_OUT = told("pass 1 share 1 visited 2 dropped 0", "verdict fault Range at big cost after 1", "big")
+
+
+def both(stdout, status):
+    """A run with pruning and one without, with one output."""
+    return [(ON, stdout, status), (OFF, stdout, status)]
+
+
+RULES = [
+    ("a target that is not allowed", [("domain", NOT_ALLOWED), ("problem", problem("a", "x", 0))], both("verdict infeasible\n", 10)),
+    ("no base state is allowed", [("domain", CLIMB), ("problem", BELOW_THREE)], both(STUCK_OUT, 10)),
+    ("steps with numbers", [("domain", NUMBERED), ("problem", NUMBERED_FROM)], [*both(JUMP_OUT, 0), (words("show d p"), NUMBERED_SHOWN, 0)]),
+    (
+        "a bound that is false",
+        [("domain", FALSE_BOUND), ("problem", problem("a", "x", 0))],
+        [
+            (ON, told("solution 7 1", "jump", "pass 1 share 1 visited 1 dropped 0", "verdict optimal 7"), 0),
+            (OFF, FALSE_BOUND_OFF, 0),
+        ],
+    ),
+    ("forced transitions", [("domain", FORCED), ("problem", problem("forced", "x", 0))], both(FORCED_OUT, 0)),
+    ("effects together", [("domain", SWAP), ("problem", SWAP_FROM)], both(SWAP_OUT, 0)),
+    ("an element behind the last member", [("domain", ITEMS), ("problem", ITEMS_FROM)], both(NEXT_OUT, 0)),
+    (
+        "the same with the preconditions exchanged",
+        [("domain", ITEMS.replace("      - (< i 2)\n      - (> (w i) 0)\n", "      - (> (w i) 0)\n      - (< i 2)\n"))],
+        both(NEXT_FAULT, 12),
+    ),
+    ("a cost that is out of range", [("domain", BIG), ("problem", problem("big", "x", 0))], both(BIG_OUT, 12)),
+    ("the greatest of the least weights", [("domain", WIDEST), ("problem", problem("widest", "a", 0))], both(WIDEST_OUT, 0)),
+    (
+        "a tour with time windows",
+        [("domain", TOUR), ("problem", TOUR_OF_FOUR)],
+        [(ON, TOUR_OUT, 0), (words("solve d p --budget 24"), TOUR_OUT, 0)],
+        [
+            *((words(f"solve d p --workers {workers}"), *OPTIMAL_TOUR) for workers in (1, 2, 7, 64)),
+            *((words(f"solve d p --budget 24 --workers {workers}"), *OPTIMAL_TOUR) for workers in (1, 2, 3, 64)),
+            (words("solve d p --prune off --workers 3"), *OPTIMAL_TOUR),
+        ],
+    ),
+    (
+        "to and fro without an end",
+        [("domain", FLIP), ("problem", problem("flip", "x", 0))],
+        [
+            (words("solve d p --budget 10"), told("pass 1 share 1 visited 10 dropped 0", "verdict stopped 10"), 11),
+            (words("solve d p --budget 1"), told("pass 1 share 1 visited 1 dropped 0", "verdict stopped 1"), 11),
+        ],
+    ),
+    (
+        "a resource",
+        [("domain", RESOURCE), ("problem", RESOURCE_FROM)],
+        [
+            (ON, told("solution 2 2", "fast", "end", "pass 1 share 1 visited 2 dropped 0", "verdict optimal 2"), 0),
+            (OFF, RESOURCE_OFF, 0),
+        ],
+    ),
+]
+
+# ---- generated models
+
+GENERATED = [
+    ("path", 1, 0), ("path", 2, 0), ("path", 3, 2147483646), ("path", 12, 18446744073709551615), ("path", 40, 7),
+    ("pack", 1, 0), ("pack", 3, 0), ("pack", 11, 7), ("pack", 16, 3), ("tour", 2, 0), ("tour", 3, 0), ("tour", 5, 12345), ("tour", 6, 4),
+]
+
+
+def generated(kind, size, seed):
+    """A case of `gen`, with one worker and with more: three lines, which are always the same."""
+    run = f"gen {kind} {size} {seed}"
+    return (run, [], [(words(run + more), printed(kind, size, seed), 0) for more in ("", " --workers 8", " --workers=1")])
+
+
+GEN_RUNS = [
+    ("the best of a path of two nodes", [], [(words("gen path 2 0"), told("gen path 2 0", "ground 2", "verdict optimal 95"), 0)]),
+    ("the best of a tour of two towns", [], [(words("gen tour 2 0"), told("gen tour 2 0", "ground 3", "verdict optimal 167"), 0)]),
+    ("numbers with zeros in front", [], [(words("gen path 02 00 --workers 08"), printed("path", 2, 0), 0)]),
+    *(generated(*model) for model in GENERATED),
+]
+
 RUNS = [
     (
         "words without a meaning",
@@ -370,7 +827,20 @@ RUNS = [
         [("domain", FROM_TWO), ("problem", STAIRS)],
         [(words("solve p d --prune off"), STAIRS_OUT, 0)],
     ),
-    ("a climb or a jump", [("domain", CLIMB), ("problem", problem("a", "x", 0))], [(OFF, JUMP_OUT, 0)]),
+    (
+        "a climb or a jump",
+        [("domain", CLIMB), ("problem", problem("a", "x", 0))],
+        [
+            (OFF, JUMP_OUT, 0),
+            (ON, JUMP_OUT, 0),
+            (words("solve --prune on d p"), JUMP_OUT, 0),
+            # Each layer has one state, so nothing depends on how the workers take turns.
+            (words("solve --workers 2 d p --prune off"), JUMP_OUT, 0),
+            (words("solve d p --prune=off --workers=2"), JUMP_OUT, 0),
+            (words("solve d p --workers 04"), JUMP_OUT, 0),
+            (words("solve d p --workers 64"), JUMP_OUT, 0),
+        ],
+    ),
     (
         "budgets",
         [],
@@ -378,22 +848,36 @@ RUNS = [
             (with_budget("3"), JUMP_OUT, 0),
             (with_budget("2"), JUMP_STOPPED, 11),
             (with_budget("00000000000000000002"), JUMP_STOPPED, 11),
-            (with_budget("1000000000"), JUMP_OUT, 0),
+            (with_budget("1000000001"), JUMP_OUT, 0),
+            (with_budget("1099511627776"), JUMP_OUT, 0),
+            (words("solve d p --budget 3"), JUMP_OUT, 0),
+            (words("solve d p --budget 2"), JUMP_STOPPED, 11),
             (words("solve --budget=5 d p --prune=off"), JUMP_OUT, 0),
             (words("solve --prune off d --workers 1 p"), JUMP_OUT, 0),
-            *((with_budget(budget), USAGE, 2) for budget in ("0", "1000000001", "000000000000000000002", "+2", "")),
+            *((with_budget(budget), USAGE, 2) for budget in ("0", "1099511627777", "000000000000000000002", "+2", "")),
         ],
     ),
-    ("a target that is a base state", [("problem", problem("a", "x", 3))], [(OFF, "solution 0 0\nverdict optimal 0\n", 0)]),
-    ("no way", [("domain", STUCK), ("problem", problem("a", "x", 0))], [(OFF, STUCK_OUT, 10)]),
+    ("a target that is a base state", [("problem", problem("a", "x", 3))], [(run, "solution 0 0\nverdict optimal 0\n", 0) for run in (OFF, ON)]),
+    ("no way", [("domain", STUCK), ("problem", problem("a", "x", 0))], [(run, STUCK_OUT, 10) for run in (OFF, ON)]),
     *LISTS,
-    ("two ways", [("domain", TWO_WAYS), ("problem", problem("b", "a", 0))], [(OFF, TWO_WAYS_OUT, 0)]),
+    (
+        "two ways",
+        [("domain", TWO_WAYS), ("problem", problem("b", "a", 0))],
+        [
+            (OFF, TWO_WAYS_OUT, 0),
+            (ON, TWO_WAYS_OUT, 0),
+            # The states 1 and 2 belong to different workers, so each keeps one of them.
+            (words("solve d p --workers 2"), "solution 3 2\nq\nd\npass 1 share 1 visited 3 dropped 0\nverdict optimal 3\n", 0),
+        ],
+    ),
+    *RULES,
     (
         "the climb or the jump in flow maps",
         [("domain", CLIMB_IN_FLOW), ("problem", CLIMB_FROM_IN_FLOW)],
         [(OFF, JUMP_OUT, 0), (with_budget("2"), JUMP_STOPPED, 11)],
     ),
     ("the climb or the jump in quotes", [("domain", CLIMB_IN_QUOTES)], [(OFF, JUMP_OUT, 0), (with_budget("2"), JUMP_STOPPED, 11)]),
+    *GEN_RUNS,
 ]
 
 
@@ -444,7 +928,6 @@ def values(text):
 
 # What is changed in the domain and in the problem, and the refusal.
 REFUSED = [
-    ("a model that no search takes yet", [], [], "domain:1:1 90 NotYet"),
     ("a quote before the problem's tab", [("domain: a", "domain: 'a")], [("target", "\ttarget")], "domain:1:9 13 BadQuote"),
     ("a tab before an earlier quote", [("domain: a", "domain: 'a"), ("  - [", "\t- [")], [], "domain:13:1 11 TabIndent"),
     ("no character before an earlier quote", [("domain: a", "domain: 'a"), ("(= x 3) ]\n", "(= x 3) ]\n# \udcff\n")], [], "domain:14:3 10 NotUtf8"),
@@ -551,4 +1034,8 @@ def refused(title, domain, problem, refusal):
     return (title, texts, [(OFF, f"refused {refusal}\n", 3)])
 
 
-ORDERS = [refused(*case) for case in REFUSED + FIRST_OF_TWO]
+GONE = told("solution 6 3", "go 0", "go 0", "go 0", "pass 1 share 1 visited 3 dropped 0", "verdict optimal 6")
+ORDERS = [
+    ("nothing is refused", [("domain", GO), ("problem", GO_FROM)], [(OFF, GONE, 0)]),
+    *(refused(*case) for case in REFUSED + FIRST_OF_TWO),
+]

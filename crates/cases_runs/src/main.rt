@@ -12,13 +12,18 @@ use std::thread::Threads;
 use std::{fs, io};
 
 /// The files of cases, in the order in which they are run.
-const FILES: [&str; 6] = [
+const FILES: [&str; 11] = [
     "one_variable.txt",
     "first_form.txt",
     "refusals.txt",
     "replay.txt",
+    "whole.txt",
+    "pruned.txt",
+    "field.txt",
     "small.txt",
     "orders.txt",
+    "models.txt",
+    "guide.txt",
 ];
 
 /// The texts that the runs read, under the names `d`, `p` and `l`.
@@ -57,10 +62,18 @@ fn taken(sink: &MemSink) -> &str {
     }
 }
 
+/// The last line of a text, without its end.
+fn last_line(text: &str) -> &str {
+    text.lines().last().unwrap_or("")
+}
+
+/// Prints a run's words, its output and its status; of the output the last line alone, where the lines before it depend on
+/// how the workers of a search take turns.
 fn print_run<R: Threads + Wait + Sync + Print + Alloc<A = Global>>(
     rt: &R,
     texts: &Texts,
     words: &[u8],
+    whole: bool,
 ) -> io::Result<()> {
     let alloc = rt.alloc();
     let Ok(text) = str::from_utf8(words) else {
@@ -71,7 +84,11 @@ fn print_run<R: Threads + Wait + Sync + Print + Alloc<A = Global>>(
     let mut sink = MemSink::new(alloc);
     let status = run(rt, alloc, &words, &mut shelf, &mut sink, &OpenGate::new());
     let output = taken(&sink);
-    println!(rt; "-- {text}\n{output}status {status}")
+    if whole {
+        return println!(rt; "-- {text}\n{output}status {status}");
+    }
+    let last = last_line(output);
+    println!(rt; "-- {text}\n..\n{last}\nstatus {status}")
 }
 
 /// Keeps a text, runs the solver, or prints the name of a case.
@@ -98,7 +115,8 @@ fn take_entry<R: Threads + Wait + Sync + Print + Alloc<A = Global>>(
             texts.list = text.clone()?;
             Ok(())
         }
-        "run" => print_run(rt, texts, text),
+        "run" => print_run(rt, texts, text, true),
+        "last" => print_run(rt, texts, text, false),
         key => println!(rt; "unknown key {key}"),
     }
 }
