@@ -1,0 +1,162 @@
+#!/usr/bin/env python3
+"""Measures a built solver: python3 tools/speed.py PROGRAM [NAME..]
+
+Draws larger problems for the models in models/ (always the same ones), runs the program on them and on generated models with one
+worker and with four, and prints for each run the visits, the seconds of the processor, visits in a second, the largest memory and
+the verdict. A NAME picks the runs whose names begin so. docs/SPEED.md has what was measured."""
+
+import os
+import random
+import re
+import subprocess
+import sys
+import tempfile
+
+TOP = os.path.join(os.path.dirname(os.path.abspath(__file__)), "..", "models")
+
+
+def listed(numbers):
+    """A table with one argument."""
+    return "{ " + ", ".join(f"{i}: {n}" for i, n in enumerate(numbers)) + " }"
+
+
+def squared(rows):
+    """A table with two arguments."""
+    return "{ " + ", ".join(f"[{i}, {j}]: {n}" for i, row in enumerate(rows) for j, n in enumerate(row)) + " }"
+
+
+def members(numbers):
+    return "[ " + ", ".join(str(n) for n in numbers) + " ]"
+
+
+def tour(customers, width):
+    """A tour with time windows: towns on a square, windows of that width around the times of one tour that was drawn."""
+    draw = random.Random(customers)
+    towns = [(draw.randrange(51), draw.randrange(51)) for _ in range(customers)]
+    way = [[int(((a - c) ** 2 + (b - d) ** 2) ** 0.5) for c, d in towns] for a, b in towns]
+    # ways through a third town are no shorter
+    for k in range(customers):
+        way = [[min(way[i][j], way[i][k] + way[k][j]) for j in range(customers)] for i in range(customers)]
+    order = list(range(1, customers))
+    draw.shuffle(order)
+    ready, due, time, at = [0] * customers, [1000000] * customers, 0, 0
+    for town in order:
+        time, at = time + way[at][town], town
+        ready[town] = max(0, time - draw.randrange(width // 2 + 1))
+        due[town] = time + draw.randrange(width // 2 + 1)
+    nearest = [min(way[i][j] for i in range(customers) if i != j) for j in range(customers)]
+    return f"""domain: tsptw
+problem: drawn
+object_numbers: {{ customer: {customers} }}
+target: {{ unvisited: {members(range(1, customers))}, location: 0, time: 0 }}
+table_values:
+  ready: {listed(ready)}
+  due: {listed(due)}
+  min_to: {listed(nearest)}
+  distance: {squared(way)}
+"""
+
+
+def tardiness(jobs):
+    draw = random.Random(jobs)
+    length = [draw.randrange(1, 30) for _ in range(jobs)]
+    due = [draw.randrange(sum(length) * 2 // 3) for _ in range(jobs)]
+    weight = [draw.randrange(1, 10) for _ in range(jobs)]
+    least = [w * max(0, n - d) for n, d, w in zip(length, due, weight)]
+    return f"""domain: tardiness
+problem: drawn
+object_numbers: {{ job: {jobs} }}
+target: {{ left: {members(range(jobs))} }}
+table_values:
+  all_of_it: {sum(length)}
+  length: {listed(length)}
+  due: {listed(due)}
+  weight: {listed(weight)}
+  at_least: {listed(least)}
+"""
+
+
+def knapsack(kinds, room):
+    draw = random.Random(kinds)
+    size = [draw.randrange(20, 200) for _ in range(kinds)]
+    value = [3 * n + draw.randrange(40) for n in size]
+    # no kind from this one on brings more for a unit
+    rate = [max([1] + [-(-v // n) for v, n in list(zip(value, size))[k:]]) for k in range(kinds)]
+    return f"""domain: knapsack
+problem: drawn
+object_numbers: {{ kind: {kinds} }}
+target: {{ at: 0, room: {room} }}
+table_values:
+  kinds: {kinds}
+  rent: 1
+  size: {listed(size)}
+  value: {listed(value)}
+  rate: {listed(rate)}
+"""
+
+
+def bins(items):
+    draw = random.Random(items)
+    size = [draw.randrange(20, 70) for _ in range(items)]
+    return f"""domain: bin_packing
+problem: drawn
+object_numbers: {{ item: {items} }}
+target: {{ left: {members(range(items))}, room: 0 }}
+table_values:
+  capacity: 100
+  size: {listed(size)}
+"""
+
+
+def domain(folder, file="domain.yaml"):
+    return os.path.join(TOP, folder, file)
+
+
+# name, domain, problem, further words
+DRAWN = [
+    ("tour of 15", domain("tour", "time_windows.yaml"), tour(15, 60), []),
+    ("tour of 20", domain("tour", "time_windows.yaml"), tour(20, 60), []),
+    ("tour of 20, wide", domain("tour", "time_windows.yaml"), tour(20, 200), []),
+    ("tardiness of 16", domain("tardiness"), tardiness(16), []),
+    ("knapsack of 60", domain("knapsack"), knapsack(60, 2000), []),
+    ("bins of 16", domain("bin_packing"), bins(16), []),
+]
+GENERATED = [("gen path 1000 1", []), ("gen pack 200 1", []), ("gen tour 12 1", [])]
+
+
+def measured(program, words):
+    """The visits, seconds, megabytes and last line of a run."""
+    with tempfile.TemporaryFile() as out:
+        run = subprocess.Popen([program, *words], stdout=out)
+        _, _, used = os.wait4(run.pid, 0)
+        out.seek(0)
+        text = out.read().decode()
+    visits = sum(int(n) for n in re.findall(r"^pass \d+ share \d+ visited (\d+)", text, re.M))
+    last = text.strip().split("\n")[-1]
+    return visits, used.ru_utime + used.ru_stime, used.ru_maxrss // 1024, last
+
+
+def print_run(program, name, words):
+    visits, seconds, memory, last = measured(program, words)
+    rate = f"{visits / max(seconds, 0.01) / 1000:8.0f}" if visits else " " * 8
+    print(f"{name:34} {visits:10} {seconds:8.2f} s {rate} k/s {memory:6} MB  {last}", flush=True)
+
+
+def main():
+    program, picked = os.path.abspath(sys.argv[1]), tuple(sys.argv[2:]) or ("",)
+    with tempfile.TemporaryDirectory() as room:
+        for workers in ("1", "4"):
+            for name, file, problem, more in DRAWN:
+                if not name.startswith(picked):
+                    continue
+                path = os.path.join(room, "problem.yaml")
+                with open(path, "w", encoding="utf-8") as it:
+                    it.write(problem)
+                print_run(program, f"{name}, {workers}", ["solve", file, path, "--workers", workers, *more])
+            for name, more in GENERATED:
+                if name.startswith(picked):
+                    print_run(program, f"{name}, {workers}", [*name.split(), "--workers", workers, *more])
+
+
+if __name__ == "__main__":
+    main()
