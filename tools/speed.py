@@ -112,16 +112,19 @@ def domain(folder, file="domain.yaml"):
     return os.path.join(TOP, folder, file)
 
 
+TOURS = domain("tour", "time_windows.yaml")
 # name, domain, problem, further words
 DRAWN = [
-    ("tour of 15", domain("tour", "time_windows.yaml"), tour(15, 60), []),
-    ("tour of 20", domain("tour", "time_windows.yaml"), tour(20, 60), []),
-    ("tour of 20, wide", domain("tour", "time_windows.yaml"), tour(20, 200), []),
+    ("tour of 15", TOURS, tour(15, 600), []),
+    ("tour of 15, bounds off", TOURS, tour(15, 600), ["--prune", "off", "--budget", "1000000"]),
+    ("tour of 20", TOURS, tour(20, 600), []),
     ("tardiness of 16", domain("tardiness"), tardiness(16), []),
-    ("knapsack of 60", domain("knapsack"), knapsack(60, 2000), []),
-    ("bins of 16", domain("bin_packing"), bins(16), []),
+    ("knapsack of 200", domain("knapsack"), knapsack(200, 4000), ["--budget", "1000000"]),
+    ("bins of 24", domain("bin_packing"), bins(24), []),
 ]
-GENERATED = [("gen path 1000 1", []), ("gen pack 200 1", []), ("gen tour 12 1", [])]
+GENERATED = ["gen path 1000 1", "gen pack 200 1", "gen tour 12 1"]
+# A child counts the memory of this program, which it has before it starts.
+OWN_MEMORY = 16
 
 
 def measured(program, words):
@@ -138,24 +141,24 @@ def measured(program, words):
 
 def print_run(program, name, words):
     visits, seconds, memory, last = measured(program, words)
-    rate = f"{visits / max(seconds, 0.01) / 1000:8.0f}" if visits else " " * 8
-    print(f"{name:34} {visits:10} {seconds:8.2f} s {rate} k/s {memory:6} MB  {last}", flush=True)
+    rate = f"{visits / max(seconds, 0.01) / 1000:6.0f} k/s" if visits else " " * 10
+    room = f"{memory:5} MB" if memory > OWN_MEMORY else f"under {OWN_MEMORY}"
+    print(f"{name:26} {visits or '':9} {seconds:7.2f} s {rate} {room}  {last}", flush=True)
 
 
 def main():
     program, picked = os.path.abspath(sys.argv[1]), tuple(sys.argv[2:]) or ("",)
     with tempfile.TemporaryDirectory() as room:
+        path = os.path.join(room, "problem.yaml")
         for workers in ("1", "4"):
             for name, file, problem, more in DRAWN:
-                if not name.startswith(picked):
-                    continue
-                path = os.path.join(room, "problem.yaml")
-                with open(path, "w", encoding="utf-8") as it:
-                    it.write(problem)
-                print_run(program, f"{name}, {workers}", ["solve", file, path, "--workers", workers, *more])
-            for name, more in GENERATED:
                 if name.startswith(picked):
-                    print_run(program, f"{name}, {workers}", [*name.split(), "--workers", workers, *more])
+                    with open(path, "w", encoding="utf-8") as it:
+                        it.write(problem)
+                    print_run(program, f"{name}, {workers}", ["solve", file, path, "--workers", workers, *more])
+            for name in GENERATED:
+                if name.startswith(picked):
+                    print_run(program, f"{name}, {workers}", [*name.split(), "--workers", workers])
 
 
 if __name__ == "__main__":

@@ -31,8 +31,6 @@ TABLES = [
     ("pruned", "pruned", 3),
     ("field", "field", None),
 ]
-# The gate gives a program two minutes: a run that makes more visits is left out, which are four of `field`.
-MOST_VISITS = 20_000
 TEXTS = ("domain", "problem", "list")
 
 
@@ -54,16 +52,10 @@ def kind(case):
     return [*found[0], str(min(counts[0], 2)), str(min(counts[1], 3))]
 
 
-def visits(case):
-    return sum(int(line.split(" ")[5]) for line in case["stdout"].splitlines() if line.startswith("pass "))
-
-
 def chosen(cases, most):
     """The cases with their numbers, of each kind the first few."""
     seen = Counter()
     for number, case in enumerate(cases, 1):
-        if visits(case) > MOST_VISITS:
-            continue
         name = " ".join(kind(case))
         seen[name] += 1
         if most is None or seen[name] <= most:

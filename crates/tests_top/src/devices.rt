@@ -1,9 +1,10 @@
-//! Runs over devices that fail, and files that are too long.
+//! Runs over devices that fail, and files that are too long. They share a shelf and two sinks, since the checker takes the
+//! whole solver anew for each pair of them.
 
 ghost use Rattle.std.specs.Prelude.{None};
 
 use crate::texts::{FROM_ZERO, TWO_WAYS};
-use dp_outside::{Failed, FineShelf, FineSink, MemShelf, MemSink, OpenGate, Sink};
+use dp_outside::{Failed, MemShelf, MemSink, OpenGate, Sink};
 use solve_top::run;
 use std::alloc::{AllocError, Global};
 use std::sync::Wait;
@@ -27,8 +28,8 @@ fn words_of(alloc: Global) -> Result<Vec<String>, AllocError> {
     Ok(given)
 }
 
-fn shelf_of(alloc: Global, domain: &[u8], problem: &[u8]) -> Result<FineShelf, AllocError> {
-    let mut shelf = FineShelf::new(alloc);
+fn shelf_of(alloc: Global, domain: &[u8], problem: &[u8]) -> Result<MemShelf, AllocError> {
+    let mut shelf = MemShelf::new(alloc);
     shelf.put("a", domain)?;
     shelf.put("a1", problem)?;
     Ok(shelf)
@@ -125,11 +126,9 @@ static READS: [(u64, &str, u8); 5] = [
 fn a_failed_read_names_its_file(rt: HostRuntime) -> Result<(), Fail> {
     let words = words_of(rt.alloc())?;
     for (call, text, want) in READS.iter() {
-        let mut shelf = MemShelf::new(rt.alloc());
-        shelf.put("a", TWO_WAYS.as_bytes())?;
-        shelf.put("a1", FROM_ZERO.as_bytes())?;
+        let mut shelf = shelf_of(rt.alloc(), TWO_WAYS.as_bytes(), FROM_ZERO.as_bytes())?;
         shelf.fail_at(*call)?;
-        let mut sink = FineSink::new(rt.alloc());
+        let mut sink = MemSink::new(rt.alloc());
         let gate = OpenGate::new();
         let status = run(&rt, rt.alloc(), &words, &mut shelf, &mut sink, &gate);
         assert!(rt; sink.bytes() == Some(text.as_bytes()), "{call}");
@@ -152,7 +151,7 @@ fn a_file_past_the_limit_is_too_long(rt: HostRuntime) -> Result<(), Fail> {
             (b"".as_slice(), long.as_slice())
         };
         let mut shelf = shelf_of(rt.alloc(), domain, problem)?;
-        let mut sink = FineSink::new(rt.alloc());
+        let mut sink = MemSink::new(rt.alloc());
         let gate = OpenGate::new();
         let status = run(&rt, rt.alloc(), &words, &mut shelf, &mut sink, &gate);
         assert!(rt; sink.bytes() == Some(text.as_bytes()), "{text}");
