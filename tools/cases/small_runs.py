@@ -802,6 +802,66 @@ GEN_RUNS = [
     *(generated(*model) for model in GENERATED),
 ]
 
+# ---- the climb with one mistake
+
+
+def with_line(number, text):
+    """The climb with this text in place of the line of that number, or behind its last line."""
+    lines = CLIMB.split("\n")
+    lines[number - 1] = text
+    return "\n".join(lines) + ("" if lines[-1] == "" else "\n")
+
+
+def nested(levels):
+    return with_line(8, "      - " + levels * "(not " + "true" + levels * ")")
+
+
+# What is wrong, the domain, and the refusal.
+WRONG_CLIMBS = [
+    ("a tab before an item", with_line(3, "\t- name: x"), "domain:3:1 11 TabIndent"),
+    ("a key twice", "domain: a\ndomain: a\n", "domain:2:1 15 TwiceKey"),
+    ("a continuous variable", with_line(4, "    type: continuous"), "domain:4:11 34 Continuous"),
+    ("an unknown name", with_line(8, "      - (< y 3)"), "domain:8:9+3 30 UnknownName"),
+    ("a quote without an end", 'domain: "a\n', "domain:1:9 13 BadQuote"),
+    ("an anchor", "domain: &n a\n", "domain:1:9 17 OutOfProfile"),
+    ("a pair in a list", "domain: [ a, b: c ]\n", "domain:1:14 17 OutOfProfile"),
+    ("65 lists in one another", 65 * "[" + "\n", "domain:1:65 16 TooDeep"),
+    ("a byte that is no text", "dom\udcff\n", "domain:1:4 10 NotUtf8"),
+    ("a domain of one key", "domain: a\n", "domain:1:1 40 MissingKey"),
+    ("an unknown key", with_line(20, "solver: x"), "domain:20:1 41 UnknownKey"),
+    ("another operator", with_line(17, "    cost: (max cost 5)"), "domain:17:11 46 MixedCost"),
+    ("an operator that no cost has", with_line(11, "    cost: (* cost 2)"), "domain:11:11+0 47 CostForm"),
+    ("a number out of range", with_line(10, "      x: (+ x 4611686018427387904)"), "domain:10:10+5 42 BadNumber"),
+    ("a bracket without an end", with_line(10, "      x: (+ x 1"), "domain:10:10+0 21 Unbalanced"),
+    ("a number with a point", with_line(8, "      - (< x 2.5)"), "domain:8:9+5 34 Continuous"),
+    ("201 forms in one another", nested(200), "domain:8:9+1000 24 TooNested"),
+    (
+        "1,025 variables",
+        CLIMB.replace("  - name: x\n    type: integer\n", "".join(f"  - {{ name: x{i}, type: integer }}\n" for i in range(1025))),
+        "domain:3:3 49 TooMany",
+    ),
+]
+
+WRONG_CLIMB_RUNS = [
+    *((f"a climb: {what}", [("domain", text), ("problem", problem("a", "x", 0))], [(OFF, f"refused {refusal}\n", 3)]) for what, text, refusal in WRONG_CLIMBS),
+    # True 199 times denied is false: there is no step but the jump.
+    (
+        "a climb: 200 forms in one another",
+        [("domain", nested(199))],
+        [(OFF, told("solution 5 1", "jump", "pass 1 share 1 visited 1 dropped 0", "verdict optimal 5"), 0)],
+    ),
+    (
+        "a climb: a problem without an end",
+        [("domain", CLIMB), ("problem", "domain: a\nproblem: one\ntarget: { x: 0\n")],
+        [(OFF, "refused problem:3:15 14 Unread\n", 3)],
+    ),
+    (
+        "a climb: a target of one variable too many",
+        [("problem", "domain: a\nproblem: one\ntarget: { x: 0, y: 1 }\n")],
+        [(OFF, "refused problem:3:17 45 BadTarget\n", 3)],
+    ),
+]
+
 RUNS = [
     (
         "words without a meaning",
@@ -878,6 +938,7 @@ RUNS = [
         [(OFF, JUMP_OUT, 0), (with_budget("2"), JUMP_STOPPED, 11)],
     ),
     ("the climb or the jump in quotes", [("domain", CLIMB_IN_QUOTES)], [(OFF, JUMP_OUT, 0), (with_budget("2"), JUMP_STOPPED, 11)]),
+    *WRONG_CLIMB_RUNS,
     *GEN_RUNS,
 ]
 
