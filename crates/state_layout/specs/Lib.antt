@@ -1,5 +1,6 @@
 pub mod Slots
 pub mod Conditions
 pub mod Signatures
+pub mod Merits
 pub mod Tests
 pub mod Laws

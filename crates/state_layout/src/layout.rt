@@ -5,7 +5,8 @@ ghost use Rattle.dp_model.specs.declared.whole.Model.{Model as DpModel};
 ghost use Rattle.dp_model.specs.Typing.{type_count};
 ghost use Rattle.dp_claims.specs.Dominance.{Dominates};
 ghost use Rattle.state_layout.specs.Slots.{slot_of};
-ghost use Rattle.state_layout.specs.Signatures.{signature_of, owner_of};
+ghost use Rattle.state_layout.specs.Signatures.{signature_of, state_words, hash_of, owner_of};
+ghost use Rattle.state_layout.specs.Merits.{merit_of};
 ghost use Rattle.state_layout.specs.Tests.{dominates_by};
 ghost use Rattle.state_layout.specs.Conditions.{IsLayoutOf, IsStateOf, IsStateFor, IsPackedOf, IsPackedFor};
 
@@ -13,7 +14,8 @@ use crate::copies::copy_state;
 use crate::dominance::are_at_least;
 use crate::packed::Packed;
 use crate::sames::are_same;
-use crate::words::{hash_of, words_of};
+use crate::merits::merit_in;
+use crate::words::{hash_of, whole_hash_of, words_of};
 use dp_base::Seq;
 use dp_model::{Model as DpModel, ObjectType, PlainState, Preference, VarKind, Variable};
 use std::alloc::{AllocError, Global};
@@ -74,6 +76,24 @@ impl Layout {
         Ok(Packed::of(copy_state(alloc, s)?))
     }
 
+    /// The same of a state that is given up. It takes no memory.
+    pub fn packed(&self, s: PlainState) -> Packed
+        requires { IsStateFor self.now s }
+        ensures state { result ≡ s }
+        ensures packed { (m : DpModel) → IsStateOf m s → IsPackedOf m result }
+    {
+        Packed::of(s)
+    }
+
+    /// The state that was packed, where it is only read. It takes no memory.
+    pub fn plain<'p>(&self, p: &'p Packed) -> &'p PlainState
+        requires { IsPackedFor self.now p.now }
+        ensures state { result.now ≡ p.now }
+        ensures unpacked { (m : DpModel) → IsPackedOf m p.now → IsStateOf m result.now }
+    {
+        p.state()
+    }
+
     /// The state that was packed.
     pub fn unpack(&self, alloc: Global, p: &Packed) -> Result<PlainState, AllocError>
         requires { IsPackedFor self.now p.now }
@@ -103,15 +123,39 @@ impl Layout {
         Ok(Seq::of(words_of(alloc, &self.slots, values)?))
     }
 
-    /// Which of so many shards owns a state: FNV-1a of 64 bits over the bytes of its signature, low byte first, modulo
-    /// their number. It takes no memory.
+    /// FNV-1a of 64 bits over the bytes of a state's signature, each word's low byte first. States of which one dominates the
+    /// other have one such hash. It takes no memory.
+    pub fn signature_hash(&self, p: &Packed) -> u64
+        requires { IsPackedFor self.now p.now }
+        ensures { result ≡ hash_of (signature_of self.now p.now) }
+    {
+        hash_of(&self.slots, p.state().values().list())
+    }
+
+    /// The same over the words of all values, those of resources too. It takes no memory.
+    pub fn state_hash(&self, p: &Packed) -> u64
+        requires { IsPackedFor self.now p.now }
+        ensures { result ≡ hash_of (state_words self.now p.now) }
+    {
+        whole_hash_of(&self.slots, p.state().values().list())
+    }
+
+    /// How good a state is by its first resource: the value of this variable, or -1 less it where less is better; 0 in a
+    /// model without resources. A state that dominates another has no lesser merit. It takes no memory.
+    pub fn merit(&self, p: &Packed) -> i64
+        requires { IsPackedFor self.now p.now }
+        ensures { result ≡ merit_of self.now p.now }
+    {
+        merit_in(&self.slots, p.state().values().list())
+    }
+
+    /// Which of so many shards owns a state: the hash over its signature, modulo their number. It takes no memory.
     pub fn owner(&self, p: &Packed, shards: u32) -> u32
         requires packed { IsPackedFor self.now p.now }
         requires shards { 1 ≤ shards }
         ensures { result ≡ owner_of self.now p.now shards }
     {
-        let hash = hash_of(&self.slots, p.state().values().list());
-        (hash % shards as u64) as u32
+        (self.signature_hash(p) % shards as u64) as u32
     }
 
     /// Whether a state dominates another: it has the same values on all variables but the resources, and is at least as

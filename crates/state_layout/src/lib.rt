@@ -5,6 +5,7 @@ mod copies;
 mod dominance;
 mod laws;
 mod layout;
+mod merits;
 mod node;
 mod packed;
 mod sames;

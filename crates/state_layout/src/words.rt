@@ -1,8 +1,8 @@
 //! The words of a state's values that are not resources, and the hash over them.
 
-ghost use Rattle.std.specs.Prelude.{◌≡◌, ◌++◌, ◌<◌, OnOk, IfOk, length, fold};
+ghost use Rattle.std.specs.Prelude.{◌≡◌, ◌++◌, ◌<◌, OnOk, IfOk, length, map, fold};
 ghost use Rattle.std.specs.Int.{to_le_bytes, w64};
-ghost use Rattle.state_layout.specs.Signatures.{with_member, set_word, word_count, set_words, value_words, signature_in, hash_byte, hash_onto, hash_of};
+ghost use Rattle.state_layout.specs.Signatures.{with_member, set_word, word_count, set_words, value_words, signature_in, without_preference, hash_byte, hash_onto, hash_of};
 ghost use Rattle.dp_model.specs.Typing.{is_without};
 
 use crate::layout::Slot;
@@ -65,6 +65,27 @@ pub(crate) fn hash_of(slots: &[Slot], values: &[PlainValue]) -> u64
         hash = hash_value(hash, slots[place], &values[place]);
     }
     hash
+}
+
+/// The hash over the words of the values, in order, those of resources too.
+pub(crate) fn whole_hash_of(slots: &[Slot], values: &[PlainValue]) -> u64
+    requires { length values.now ≡ length slots.now }
+    ensures { result ≡ hash_of (signature_in (map without_preference slots.now) values.now) }
+{
+    let mut hash = HASH_START;
+    for place in 0..slots.len() {
+        hash = hash_value(hash, without_preference(slots[place]), &values[place]);
+    }
+    hash
+}
+
+fn without_preference(slot: Slot) -> Slot
+    ensures { result ≡ without_preference slot }
+{
+    Slot {
+        preference: Preference::Without,
+        ..slot
+    }
 }
 
 fn hash_value(hash: u64, slot: Slot, value: &PlainValue) -> u64
