@@ -1,4 +1,4 @@
--- How a store stays filed: signatures and rows grow, and a node is put at a new place.
+-- How a store stays filed: keys and rows grow, and a node is put at a new place.
 use Rattle.std.proofs.Common.{◌≡◌, ℕ, zero, suc, ◌<◌, ◌⊎◌, inl, inr, Bool, true, false, not, List, [], ◌∷◌, ◌++◌, length, get_or, set, map, fold, Option, Some, None, refl, sym, ap, ◌∙◌, subst, arith}
 use Rattle.std.specs.List.{slice_get, filter}
 use Rattle.std.proofs.lemmas.List.{get_or-set_same}
@@ -6,30 +6,30 @@ use Rattle.std.proofs.lemmas.Option.{slice_get_within, slice_get-get_or}
 use Rattle.std.proofs.Math.ListN.{length-set}
 use Rattle.dp_claims.specs.Enough.{Has}
 use Rattle.state_layout.specs.Conditions.{IsNodeFor}
-use Rattle.state_layout.specs.Signatures.{signature_of}
 use Rattle.state_layout.specs.declared.layout.Layout.{Layout}
 use Rattle.state_layout.specs.declared.node.Node.{Node}
-use Rattle.dom_store.specs.Places.{nodes_of, row_of, without, cleared, StandsAt, IsSpare, IsFiled, AreFiled}
+use Rattle.dom_store.specs.declared.glance.Glance.{Glance}
+use Rattle.dom_store.specs.Places.{nodes_of, row_of, node_at, without, cleared, StandsAt, IsSpare, IsFiled, AreFiled}
 use Rattle.dom_store.proofs.Members.{has_front, has_last}
 use Rattle.dom_store.proofs.Rows.{all_cleared, nodes_without}
 
--- a node's place stands in each row that is its signature's
-pub filed_in_row : (layout : Layout) (signatures rows : List (List ℕ)) (places : List (Option Node)) → AreFiled layout signatures rows places → (row : ℕ) (list : List ℕ) (s : List ℕ) → row ≡ row_of signatures s → slice_get rows row ≡ Some list → (p : ℕ) (n : Node) → StandsAt places p n → signature_of layout n.state ≡ s → Has list p
-filed_in_row layout signatures rows places h row list s is there p n stands e =
+-- a node's place stands in each row that is its key's
+pub filed_in_row : (key : Node → ℕ) (layout : Layout) (keys : List ℕ) (rows : List (List ℕ)) (places : List (Option Node)) → AreFiled key layout keys rows places → (row : ℕ) (list : List ℕ) (s : ℕ) → row ≡ row_of keys s → slice_get rows row ≡ Some list → (p : ℕ) (n : Node) → StandsAt places p n → key n ≡ s → Has list p
+filed_in_row key layout keys rows places h row list s is there p n stands e =
     let f = h.filed p n stands in
-    let same : slice_get rows row ≡ Some f.0 = ap (λ t. slice_get rows t) (is ∙ ap (row_of signatures) (sym e)) ∙ f.2 in
+    let same : slice_get rows row ≡ Some f.0 = ap (λ t. slice_get rows t) (is ∙ ap (row_of keys) (sym e)) ∙ f.2 in
     let equal : f.0 ≡ list = cc in
     subst (λ (l : List ℕ). Has l p) equal f.3
 
-pub filed_grown : (layout : Layout) (signatures rows signatures' rows' : List (List ℕ)) (places : List (Option Node)) → AreFiled layout signatures rows places
-    → ((s : List ℕ) → row_of signatures s < length signatures → (row_of signatures' s ≡ row_of signatures s) × (row_of signatures s < length signatures'))
+pub filed_grown : (key : Node → ℕ) (layout : Layout) (keys : List ℕ) (rows : List (List ℕ)) (keys' : List ℕ) (rows' : List (List ℕ)) (places : List (Option Node)) → AreFiled key layout keys rows places
+    → ((s : ℕ) → row_of keys s < length keys → (row_of keys' s ≡ row_of keys s) × (row_of keys s < length keys'))
     → ((r : ℕ) (row : List ℕ) → slice_get rows r ≡ Some row → slice_get rows' r ≡ Some row)
-    → AreFiled layout signatures' rows' places
-filed_grown layout signatures rows signatures' rows' places h more kept = record {
+    → AreFiled key layout keys' rows' places
+filed_grown key layout keys rows keys' rows' places h more kept = record {
   nodes = h.nodes;
   filed = λ p n stands. (let f = h.filed p n stands in
-      let g = more (signature_of layout n.state) f.1 in
-      (f.0, subst (λ r. r < length signatures') (sym g.0) g.1, ap (λ r. slice_get rows' r) g.0 ∙ kept (row_of signatures (signature_of layout n.state)) f.0 f.2, f.3));
+      let g = more (key n) f.1 in
+      (f.0, subst (λ r. r < length keys') (sym g.0) g.1, ap (λ r. slice_get rows' r) g.0 ∙ kept (row_of keys (key n)) f.0 f.2, f.3));
 }
 
 -- ---- a place is added at the end, without a node
@@ -105,6 +105,10 @@ put_stands test places row node p n h = by (set_stands (fold (cleared test) (pla
     by (inl e) = inl e
     by (inr r) = inr (none_stands places p n (fold_stands test (places ++ None ∷ []) row p n r))
 
+fold_length : (test : Node → Bool) (places : List (Option Node)) (row : List ℕ) → length (fold (cleared test) places row) ≡ length places
+fold_length test places [] = refl
+fold_length test places (q ∷ row) = fold_length test (cleared test places q) row ∙ length-set places q (without test (node_at places q))
+
 -- ---- a place is filed
 
 set_row_same : (rows : List (List ℕ)) (r : ℕ) (list : List ℕ) → r < length rows → slice_get (set rows r list) r ≡ Some list
@@ -130,12 +134,12 @@ set_twice (x ∷ rows) zero a b = refl
 set_twice (x ∷ rows) (suc r) a b = ap (λ (t : List (List ℕ)). x ∷ t) (set_twice rows r a b)
 
 -- A row is exchanged for one that has the places of its nodes, and the new node's.
-pub filed_set : (layout : Layout) (signatures rows : List (List ℕ)) (places places' : List (Option Node)) → AreFiled layout signatures rows places
-    → (row at : ℕ) (list list' : List ℕ) (node : Node) → row ≡ row_of signatures (signature_of layout node.state) → row < length signatures → slice_get rows row ≡ Some list → IsNodeFor layout node
+pub filed_set : (key : Node → ℕ) (layout : Layout) (keys : List ℕ) (rows : List (List ℕ)) (places places' : List (Option Node)) → AreFiled key layout keys rows places
+    → (row at : ℕ) (list list' : List ℕ) (node : Node) → row ≡ row_of keys (key node) → row < length keys → slice_get rows row ≡ Some list → IsNodeFor layout node
     → ((p : ℕ) (n : Node) → StandsAt places' p n → ((p ≡ at) × (node ≡ n)) ⊎ StandsAt places p n)
     → ((p : ℕ) (n : Node) → Has (list ++ at ∷ []) p → StandsAt places' p n → Has list' p)
-    → AreFiled layout signatures (set rows row list') places'
-filed_set layout signatures rows places places' h row at list list' node is known there fits stood has = record {
+    → AreFiled key layout keys (set rows row list') places'
+filed_set key layout keys rows places places' h row at list list' node is known there fits stood has = record {
   nodes = λ p n stands. fits_at n (stood p n stands);
   filed = λ p n stands. filed_at p n stands (stood p n stands);
 }
@@ -154,32 +158,32 @@ filed_set layout signatures rows places places' h row at list list' node is know
             (list', e.1, has p n (has_front list (at ∷ []) p (subst (λ (l : List ℕ). Has l p) same old_has)) stands)
         by (inr e) = (old, e, old_has)
 
-    filed_at : (p : ℕ) (n : Node) → StandsAt places' p n → ((p ≡ at) × (node ≡ n)) ⊎ StandsAt places p n → IsFiled signatures (set rows row list') (signature_of layout n.state) p
+    filed_at : (p : ℕ) (n : Node) → StandsAt places' p n → ((p ≡ at) × (node ≡ n)) ⊎ StandsAt places p n → IsFiled keys (set rows row list') (key n) p
     filed_at p n stands (inl e) =
-        let same : row_of signatures (signature_of layout n.state) ≡ row = ap (λ (m : Node). row_of signatures (signature_of layout m.state)) (sym e.1) ∙ sym is in
+        let same : row_of keys (key n) ≡ row = ap (λ (m : Node). row_of keys (key m)) (sym e.1) ∙ sym is in
         let at_row = set_row_same rows row list' (slice_get_within rows row list there) in (
           list',
-          subst (λ r. r < length signatures) (sym same) known,
+          subst (λ r. r < length keys) (sym same) known,
           ap (λ r. slice_get (set rows row list') r) same ∙ at_row,
           has p n (subst (λ q. Has (list ++ at ∷ []) q) (sym e.0) (has_last list at)) stands,
         )
     filed_at p n stands (inr s) =
         let f = h.filed p n s in
-        let r = old_row p n stands (row_of signatures (signature_of layout n.state)) f.0 f.2 f.3 in
+        let r = old_row p n stands (row_of keys (key n)) f.0 f.2 f.3 in
         (r.0, f.1, r.1, r.2)
 
 -- ---- a place without a node that stands last harms nothing
 
-pub spare_nodes : (places places' : List (Option Node)) → IsSpare places places' → nodes_of places' ≡ nodes_of places
-spare_nodes places places' (inl e) = ap nodes_of e
-spare_nodes places places' (inr e) = ap nodes_of e ∙ nodes_pushed places
+pub spare_nodes : (places places' : List (Option Node)) (glances glances' : List Glance) (g : Glance) → IsSpare places places' glances glances' g → nodes_of places' ≡ nodes_of places
+spare_nodes places places' glances glances' g (inl e) = ap nodes_of e.0
+spare_nodes places places' glances glances' g (inr e) = ap nodes_of e.0 ∙ nodes_pushed places
 
-pub spare_filed : (layout : Layout) (signatures rows rows' : List (List ℕ)) (places places' : List (Option Node)) → IsSpare places places' → rows' ≡ rows → AreFiled layout signatures rows places → AreFiled layout signatures rows' places'
-spare_filed layout signatures rows rows' places places' spare same h = subst (λ (t : List (List ℕ)). AreFiled layout signatures t places') (sym same) (by spare)
+pub spare_filed : (key : Node → ℕ) (layout : Layout) (keys : List ℕ) (rows rows' : List (List ℕ)) (places places' : List (Option Node)) (glances glances' : List Glance) (g : Glance) → IsSpare places places' glances glances' g → rows' ≡ rows → AreFiled key layout keys rows places → AreFiled key layout keys rows' places'
+spare_filed key layout keys rows rows' places places' glances glances' g spare same h = subst (λ (t : List (List ℕ)). AreFiled key layout keys t places') (sym same) (by spare)
   where
-    by : IsSpare places places' → AreFiled layout signatures rows places'
-    by (inl e) = subst (λ (ps : List (Option Node)). AreFiled layout signatures rows ps) (sym e) h
-    by (inr e) = subst (λ (ps : List (Option Node)). AreFiled layout signatures rows ps) (sym e) (record {
+    by : IsSpare places places' glances glances' g → AreFiled key layout keys rows places'
+    by (inl e) = subst (λ (ps : List (Option Node)). AreFiled key layout keys rows ps) (sym e.0) h
+    by (inr e) = subst (λ (ps : List (Option Node)). AreFiled key layout keys rows ps) (sym e.0) (record {
       nodes = λ p n stands. h.nodes p n (none_stands places p n stands);
       filed = λ p n stands. h.filed p n (none_stands places p n stands);
     })
@@ -221,11 +225,19 @@ module _ (rows rows' : List (List ℕ)) (row : ℕ) (places places' : List (Opti
         → nodes_of new ≡ filter (λ n. not (test n)) (nodes_of places) ++ node ∷ []
     kept_nodes complete = ap nodes_of new_is ∙ put_nodes test places (get_or rows row []) node (λ p n stands t. complete (get_or rows row []) p n list_there stands t)
 
-    pub kept_filed : (layout : Layout) (list' : List ℕ) → IsNodeFor layout node
+    pub kept_filed : (key : Node → ℕ) (layout : Layout) (list' : List ℕ) → IsNodeFor layout node
         → ((p : ℕ) (n : Node) → Has row' p → StandsAt new p n → Has list' p)
-        → (signatures : List (List ℕ)) → AreFiled layout signatures rows places → row ≡ row_of signatures (signature_of layout node.state) → row < length signatures → AreFiled layout signatures (set rows' row list') new
-    kept_filed layout list' fits has signatures h is known =
-        let filed = filed_set layout signatures rows places new h row (length places) (get_or rows row []) list' node is known list_there fits
+        → (keys : List ℕ) → AreFiled key layout keys rows places → row ≡ row_of keys (key node) → row < length keys → AreFiled key layout keys (set rows' row list') new
+    kept_filed key layout list' fits has keys h is known =
+        let filed = filed_set key layout keys rows places new h row (length places) (get_or rows row []) list' node is known list_there fits
         (λ p n stands. put_stands test places (get_or rows row [] ++ length places ∷ []) node p n (rw new_is at stands))
         (λ p n there stands. has p n (rw (row_read, k.place_is) there) stands) in
         rw (rows_set, set_twice rows row (get_or rows row [] ++ place ∷ []) list') filed
+
+    pub kept_stands : (p : ℕ) (n : Node) → StandsAt new p n → ((p ≡ length places) × (node ≡ n)) ⊎ StandsAt places p n
+    kept_stands p n stands = put_stands test places (get_or rows row [] ++ length places ∷ []) node p n (rw new_is at stands)
+
+    pub kept_length : length new ≡ length (places ++ None ∷ [])
+    kept_length = ap length new_is
+        ∙ length-set (fold (cleared test) (places ++ None ∷ []) (get_or rows row [] ++ length places ∷ [])) (length places) (Some node)
+        ∙ fold_length test (places ++ None ∷ []) (get_or rows row [] ++ length places ∷ [])

@@ -1,6 +1,7 @@
 pub mod Rows
 pub mod Members
 pub mod Filing
+pub mod Glancing
 pub mod Adding
 pub mod Promises
 pub mod Ranks

@@ -1,10 +1,10 @@
 -- Which nodes cover which, as a test over a layout and a law of costs, and what such a test keeps.
-use Rattle.std.specs.Prelude.{◌≡◌, Bool, true, false, ◌&&◌, List, int_le}
+use Rattle.std.specs.Prelude.{◌≡◌, ℕ, Bool, true, false, ◌&&◌, List, int_le}
 use Rattle.dp_model.specs.Costs.{order_word}
 use Rattle.dp_model.specs.declared.parts.JoinOp.{JoinOp}
 use Rattle.dp_model.specs.declared.parts.PlainState.{PlainState}
 use Rattle.state_layout.specs.Tests.{is_same_state, dominates_by}
-use Rattle.state_layout.specs.Signatures.{signature_of}
+use Rattle.state_layout.specs.Signatures.{signature_of, state_words, hash_of}
 use Rattle.state_layout.specs.declared.layout.Slot.{Slot}
 use Rattle.state_layout.specs.declared.node.Node.{Node}
 
@@ -27,7 +27,12 @@ IsTransitive prune minimize operator =
     (slots : List Slot) (a b c : Node)
     → covers prune minimize operator slots a b ≡ true → covers prune minimize operator slots b c ≡ true → covers prune minimize operator slots a c ≡ true
 
--- a node and what it covers have one signature
-abbrev pub KeepsSignature : (prune minimize : Bool) → JoinOp → Type 0
-KeepsSignature prune minimize operator =
-    (slots : List Slot) (n other : Node) → covers prune minimize operator slots n other ≡ true → signature_of slots n.state ≡ signature_of slots other.state
+-- The key of a node's row: the hash over its state's signature with pruning on, and over all its words with pruning off.
+abbrev pub key_of : (prune : Bool) → List Slot → Node → ℕ
+key_of false slots n = hash_of (state_words slots n.state)
+key_of true slots n = hash_of (signature_of slots n.state)
+
+-- a node and what it covers have one key
+abbrev pub KeepsKey : (prune minimize : Bool) → JoinOp → Type 0
+KeepsKey prune minimize operator =
+    (slots : List Slot) (n other : Node) → covers prune minimize operator slots n other ≡ true → key_of prune slots n ≡ key_of prune slots other

@@ -1,6 +1,6 @@
 -- What covering keeps: it is reflexive and transitive, and it is that of the model.
-use Rattle.std.proofs.Common.{◌≡◌, Bool, true, false, ◌&&◌, List, [], ◌∷◌, refl, sym, ap, ◌∙◌, arith}
-use Rattle.std.specs.Prelude.{ℤ, ◌≤ℤ◌, int_le, IsTrue, ◌↔◌}
+use Rattle.std.proofs.Common.{◌≡◌, Bool, true, false, ◌&&◌, List, [], ◌∷◌, refl, sym, ap, ◌∙◌, subst, arith}
+use Rattle.std.specs.Prelude.{ℕ, ℤ, pos, ◌≤ℤ◌, nat_le, int_le, IsTrue, ◌↔◌}
 use Rattle.std.specs.Bool.{Decides}
 use Rattle.std.proofs.lemmas.Int.{ints}
 use Rattle.std.proofs.lemmas.Bool.Decides.{same_from_decides}
@@ -15,11 +15,14 @@ use Rattle.dp_model.specs.declared.whole.Model.{Model}
 use Rattle.dp_claims.specs.Dominance.{Covers, Replaces}
 use Rattle.state_layout.specs.Slots.{slots_of}
 use Rattle.state_layout.specs.Tests.{is_same_value, are_same_values, is_same_state, is_at_most, is_at_least, are_at_least}
-use Rattle.state_layout.specs.Signatures.{signature_of}
+use Rattle.state_layout.specs.Merits.{merit_of}
+use Rattle.state_layout.specs.Signatures.{hash_of, state_words}
 use Rattle.state_layout.specs.declared.layout.Slot.{Slot}
 use Rattle.state_layout.specs.declared.node.Node.{Node}
-use Rattle.state_layout.proofs.Deciding.{same_value_decides, same_values_decide, dominates_decides, dominated_signature}
-use Rattle.dom_store.specs.Covering.{replaces, covers, IsReflexive, IsTransitive, KeepsSignature}
+use Rattle.state_layout.proofs.Deciding.{same_value_decides, same_values_decide, dominates_decides, dominated_signature, dominated_merit}
+use Rattle.dom_store.specs.Covering.{replaces, covers, key_of, IsReflexive, IsTransitive, KeepsKey}
+use Rattle.dom_store.specs.Glances.{IsGlanceOf, may_cover, ShowsAtGlance}
+use Rattle.dom_store.specs.declared.glance.Glance.{Glance}
 
 both : (a b : Bool) → a ≡ true → b ≡ true → (a && b) ≡ true
 both a b h k = rw (h, k) refl
@@ -103,9 +106,18 @@ replaces_trans : (prune : Bool) (slots : List Slot) (a b c : PlainState) → rep
 replaces_trans false slots a b c h k = same_values_trans a.values b.values c.values h k
 replaces_trans true slots a b c h k = all_trans slots a.values b.values c.values h k
 
-replaces_signature : (prune : Bool) (slots : List Slot) (a b : PlainState) → replaces prune slots a b ≡ true → signature_of slots a ≡ signature_of slots b
-replaces_signature false slots a b h = ap (λ (xs : List PlainValue). signature_of slots (record { values = xs })) ((same_values_decide a.values b.values).0 h)
-replaces_signature true slots a b h = dominated_signature slots a b h
+replaces_key : (prune : Bool) (slots : List Slot) (n other : Node) → replaces prune slots n.state other.state ≡ true → key_of prune slots n ≡ key_of prune slots other
+replaces_key false slots n other h = ap (λ (xs : List PlainValue). hash_of (state_words slots (record { values = xs }))) ((same_values_decide n.state.values other.state.values).0 h)
+replaces_key true slots n other h = ap hash_of (dominated_signature slots n.state other.state h)
+
+same_merit : (slots : List Slot) (a b : PlainState) → is_same_state a b ≡ true → merit_of slots b ≤ℤ merit_of slots a
+same_merit slots a b h =
+    let e : merit_of slots a ≡ merit_of slots b = ap (λ (xs : List PlainValue). merit_of slots (record { values = xs })) ((same_values_decide a.values b.values).0 h) in
+    grind (arith, ints)
+
+replaces_merit : (prune : Bool) (slots : List Slot) (a b : PlainState) → replaces prune slots a b ≡ true → merit_of slots b ≤ℤ merit_of slots a
+replaces_merit false slots a b h = same_merit slots a b h
+replaces_merit true slots a b h = dominated_merit slots a b h
 
 -- ---- nodes
 
@@ -122,9 +134,24 @@ transitive prune minimize operator slots a b c h k =
     (replaces_trans prune slots a.state b.state c.state (front (replaces prune slots a.state b.state) (int_le (word a) (word b)) h) (front (replaces prune slots b.state c.state) (int_le (word b) (word c)) k))
     (le_trans (word a) (word b) (word c) (back (replaces prune slots a.state b.state) (int_le (word a) (word b)) h) (back (replaces prune slots b.state c.state) (int_le (word b) (word c)) k))
 
-pub one_signature : (prune minimize : Bool) (operator : JoinOp) → KeepsSignature prune minimize operator
+pub one_key : (prune minimize : Bool) (operator : JoinOp) → KeepsKey prune minimize operator
 unfolding covers
-one_signature prune minimize operator slots n other h = replaces_signature prune slots n.state other.state (front (replaces prune slots n.state other.state) (int_le (order_word minimize operator n.cost) (order_word minimize operator other.cost)) h)
+one_key prune minimize operator slots n other h = replaces_key prune slots n other (front (replaces prune slots n.state other.state) (int_le (order_word minimize operator n.cost) (order_word minimize operator other.cost)) h)
+
+words_show : (a b : ℕ) (x y : ℤ) → pos a ≡ x → pos b ≡ y → int_le x y ≡ true → nat_le a b ≡ true
+words_show a b x y e f h = let g : int_le (pos a) (pos b) ≡ true = subst (λ (z : ℤ). int_le z (pos b) ≡ true) (sym e) (subst (λ (z : ℤ). int_le x z ≡ true) (sym f) h) in grind (arith, ints)
+
+merits_show : (a b x y : ℤ) → a ≡ x → b ≡ y → y ≤ℤ x → int_le b a ≡ true
+merits_show a b x y e f h = grind (arith, ints)
+
+pub shows_at_glance : (prune minimize : Bool) (operator : JoinOp) → ShowsAtGlance prune minimize operator
+unfolding covers
+shows_at_glance prune minimize operator slots n other g h first second c =
+    let states = replaces prune slots n.state other.state in
+    let costs = int_le (order_word minimize operator n.cost) (order_word minimize operator other.cost) in
+    both (nat_le g.word h.word) (int_le h.merit g.merit)
+    (words_show g.word h.word (order_word minimize operator n.cost) (order_word minimize operator other.cost) first.0 second.0 (back states costs c))
+    (merits_show g.merit h.merit (merit_of slots n.state) (merit_of slots other.state) first.1 second.1 (replaces_merit prune slots n.state other.state (front states costs c)))
 
 -- ---- the model
 

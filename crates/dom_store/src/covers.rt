@@ -7,9 +7,11 @@ ghost use Rattle.dp_model.specs.declared.whole.Model.{Model as DpModel};
 ghost use Rattle.dp_claims.specs.Dominance.{Covers as CoversIn};
 ghost use Rattle.cost_laws.specs.Orders.{IsLawOf};
 ghost use Rattle.state_layout.specs.Conditions.{IsLayoutOf, IsNodeFor};
-ghost use Rattle.dom_store.specs.Covering.{covers, IsReflexive, IsTransitive, KeepsSignature};
-ghost use Rattle.dom_store.specs.Laws.{reflexive, transitive, one_signature};
+ghost use Rattle.dom_store.specs.Covering.{covers, key_of, IsReflexive, IsTransitive, KeepsKey};
+ghost use Rattle.dom_store.specs.Glances.{IsGlanceOf, ShowsAtGlance};
+ghost use Rattle.dom_store.specs.Laws.{reflexive, transitive, one_key, shows_at_glance};
 
+use crate::glance::{Glance, glance_of};
 use cost_laws::CostLaw;
 use state_layout::{Layout, Node};
 use std::marker::PhantomData;
@@ -31,14 +33,28 @@ pub trait Covers {
         ensures test { result ≡ covers prune minimize operator layout.now n.now other.now }
         ensures covering { (m : DpModel) → IsLayoutOf m layout.now → IsLawOf m minimize operator → IsTrue result ↔ CoversIn m prune n.now.state n.now.cost other.now.state other.now.cost };
 
+    /// The key of a node's row, in which the nodes stand that it may cover and that may cover it: the hash over its state's
+    /// signature where states are compared by dominance, and else over all words of the state.
+    fn key(layout: &Layout, n: &Node) -> u64
+        requires { IsNodeFor layout.now n.now }
+        ensures { result ≡ key_of prune layout.now n.now };
+
+    /// What shows at a glance of a node.
+    fn glance(layout: &Layout, n: &Node) -> Glance
+        requires { IsNodeFor layout.now n.now }
+        ensures { IsGlanceOf minimize operator layout.now n.now result };
+
     /// Each node covers itself.
     ghost reflexive: { IsReflexive prune minimize operator };
 
     /// What covers a node covers what that node covers.
     ghost transitive: { IsTransitive prune minimize operator };
 
-    /// A node and what it covers have one signature.
-    ghost one_signature: { KeepsSignature prune minimize operator };
+    /// A node and what it covers have one key.
+    ghost one_key: { KeepsKey prune minimize operator };
+
+    /// By their glances a node may cover what it covers.
+    ghost shows_at_glance: { ShowsAtGlance prune minimize operator };
 }
 
 /// A node covers another of the same state whose cost so far is no better: the covering without pruning.
@@ -57,10 +73,20 @@ impl<L: CostLaw> Covers for Exact<L> {
 
     ghost transitive = { transitive false L.minimize L.operator };
 
-    ghost one_signature = { one_signature false L.minimize L.operator };
+    ghost one_key = { one_key false L.minimize L.operator };
+
+    ghost shows_at_glance = { shows_at_glance false L.minimize L.operator };
 
     fn covers(layout: &Layout, n: &Node, other: &Node) -> bool {
         layout.same(&n.state, &other.state) && is_no_worse::<L>(n, other)
+    }
+
+    fn key(layout: &Layout, n: &Node) -> u64 {
+        layout.state_hash(&n.state)
+    }
+
+    fn glance(layout: &Layout, n: &Node) -> Glance {
+        glance_of::<L>(layout, n)
     }
 }
 
@@ -80,10 +106,20 @@ impl<L: CostLaw> Covers for Dominating<L> {
 
     ghost transitive = { transitive true L.minimize L.operator };
 
-    ghost one_signature = { one_signature true L.minimize L.operator };
+    ghost one_key = { one_key true L.minimize L.operator };
+
+    ghost shows_at_glance = { shows_at_glance true L.minimize L.operator };
 
     fn covers(layout: &Layout, n: &Node, other: &Node) -> bool {
         layout.dominates(&n.state, &other.state) && is_no_worse::<L>(n, other)
+    }
+
+    fn key(layout: &Layout, n: &Node) -> u64 {
+        layout.signature_hash(&n.state)
+    }
+
+    fn glance(layout: &Layout, n: &Node) -> Glance {
+        glance_of::<L>(layout, n)
     }
 }
 

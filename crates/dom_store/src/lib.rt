@@ -2,14 +2,15 @@
 #![tactic(auto)]
 
 mod covers;
+mod glance;
 mod keeping;
 mod order;
 mod places;
-mod signature;
 mod store;
 mod taking;
 
 pub use covers::{Covers, Dominating, Exact};
+pub use glance::Glance;
 pub use keeping::Added;
 pub use store::DomStore;
 pub use taking::Taken;

@@ -1,51 +1,47 @@
-//! The places of a store's nodes: in order of adding, with a row of places for each signature.
+//! The places of a store's nodes: in order of adding, with a row of places for each key.
 
 ghost use Rattle.std.specs.Prelude.{◌≡◌, ℕ, ◌<◌, ◌+◌, ◌++◌, ◌∷◌, [], true, List, length, slice_get, slice_set, if◌then◌else◌, Option, Some, None, IfOk, OnOk, OnErr, fold};
 ghost use Rattle.std.specs.List.{list_any, filter};
 ghost use Rattle.dp_claims.specs.Enough.{Has};
 ghost use Rattle.state_layout.specs.Conditions.{IsNodeFor};
-ghost use Rattle.state_layout.specs.Signatures.{signature_of};
 ghost use Rattle.state_layout.specs.declared.node.Node.{Node};
-ghost use Rattle.dom_store.specs.Covering.{covers};
-ghost use Rattle.dom_store.specs.Places.{nodes_of, passes, is_there, node_at, without, cleared, row_of, StandsAt, AreFiled};
+ghost use Rattle.dom_store.specs.Covering.{covers, key_of};
+ghost use Rattle.dom_store.specs.Glances.{IsGlanceOf};
+ghost use Rattle.dom_store.specs.Places.{nodes_of, passes, is_there, node_at, without, cleared, row_of, StandsAt, AreGlanced};
 
 use crate::covers::Covers;
-use crate::signature::Signature;
+use crate::glance::{Glance, may_be_covered_at, may_cover_at};
 use dp_base::Seq;
 use indexmap::IndexSet;
 use state_layout::{Layout, Node};
 use std::alloc::{AllocError, Global};
 
-/// The number of the row of a node's signature, which is made where there is none. It is one look-up by hash.
-pub(crate) fn find_row(
+/// The number of the row of a node's key, which is made where there is none. It is one look-up by hash.
+pub(crate) fn find_row<K: Covers>(
     alloc: Global,
     layout: &Layout,
-    signatures: &mut IndexSet<Signature>,
+    keys: &mut IndexSet<u64>,
     rows: &mut Vec<Seq<usize>>,
     node: &Node,
 ) -> Result<usize, AllocError>
     requires { IsNodeFor layout.now node.now }
-    ensures found { IfOk result (λ row. row ≡ row_of signatures.new.keys (signature_of layout.now node.now.state)) }
-    ensures known { IfOk result (λ row. row < length signatures.new.keys) }
+    ensures found { IfOk result (λ row. row ≡ row_of keys.new.keys (key_of K.prune layout.now node.now)) }
+    ensures known { IfOk result (λ row. row < length keys.new.keys) }
     ensures there { IfOk result (λ row. row < length rows.new.items) }
-    ensures signatures { (s : List ℕ) → row_of signatures.old.keys s < length signatures.old.keys → (row_of signatures.new.keys s ≡ row_of signatures.old.keys s) × (row_of signatures.old.keys s < length signatures.new.keys) }
+    ensures keys { (key : ℕ) → row_of keys.old.keys key < length keys.old.keys → (row_of keys.new.keys key ≡ row_of keys.old.keys key) × (row_of keys.old.keys key < length keys.new.keys) }
     ensures rows { (r : ℕ) (row : List ℕ) → slice_get rows.old.items r ≡ Some row → slice_get rows.new.items r ≡ Some row }
 {
-    let words = layout.signature(alloc, &node.state)?;
-    let row = row_number(signatures, Signature::of(words.into_list()))?;
+    let row = row_number(keys, K::key(layout, node))?;
     open_rows(alloc, rows, row)?;
     Ok(row)
 }
 
-fn row_number(
-    signatures: &mut IndexSet<Signature>,
-    signature: Signature,
-) -> Result<usize, AllocError>
-    ensures found { IfOk result (λ row. row ≡ row_of signatures.new.keys signature) }
-    ensures known { IfOk result (λ row. row < length signatures.new.keys) }
-    ensures signatures { (s : List ℕ) → row_of signatures.old.keys s < length signatures.old.keys → (row_of signatures.new.keys s ≡ row_of signatures.old.keys s) × (row_of signatures.old.keys s < length signatures.new.keys) }
+fn row_number(keys: &mut IndexSet<u64>, key: u64) -> Result<usize, AllocError>
+    ensures found { IfOk result (λ row. row ≡ row_of keys.new.keys key) }
+    ensures known { IfOk result (λ row. row < length keys.new.keys) }
+    ensures keys { (k : ℕ) → row_of keys.old.keys k < length keys.old.keys → (row_of keys.new.keys k ≡ row_of keys.old.keys k) × (row_of keys.old.keys k < length keys.new.keys) }
 {
-    let (row, _) = signatures.insert_full(signature)?;
+    let (row, _) = keys.insert_full(key)?;
     Ok(row)
 }
 
@@ -60,30 +56,47 @@ fn open_rows(alloc: Global, rows: &mut Vec<Seq<usize>>, row: usize) -> Result<()
     Ok(())
 }
 
-/// Whether a node at one of the places of a row covers the node.
+/// Whether a node at one of the places of a row covers the node with this glance.
 pub(crate) fn has_covering<K: Covers>(
     layout: &Layout,
     places: &[Option<Node>],
+    glances: &[Glance],
     row: &[usize],
     node: &Node,
+    glance: Glance,
 ) -> bool
     requires node { IsNodeFor layout.now node.now }
     requires nodes { (p : ℕ) (n : Node) → StandsAt places.now p n → IsNodeFor layout.now n }
+    requires glanced { AreGlanced K.minimize K.operator layout.now places.now glances.now }
+    requires glance { IsGlanceOf K.minimize K.operator layout.now node.now glance }
     ensures { result ≡ list_any (λ p. passes (λ (held : Node). covers K.prune K.minimize K.operator layout.now held node.now) (node_at places.now p)) row.now }
 {
     for place in row {
-        if covers_at::<K>(layout, places, *place, node) {
+        if covers_at::<K>(layout, places, glances, *place, node, glance) {
             return true;
         }
     }
     false
 }
 
-fn covers_at<K: Covers>(layout: &Layout, places: &[Option<Node>], place: usize, node: &Node) -> bool
+// whether the node at a place covers the node with this glance
+fn covers_at<K: Covers>(
+    layout: &Layout,
+    places: &[Option<Node>],
+    glances: &[Glance],
+    place: usize,
+    node: &Node,
+    glance: Glance,
+) -> bool
     requires node { IsNodeFor layout.now node.now }
     requires nodes { (p : ℕ) (n : Node) → StandsAt places.now p n → IsNodeFor layout.now n }
+    requires glanced { AreGlanced K.minimize K.operator layout.now places.now glances.now }
+    requires glance { IsGlanceOf K.minimize K.operator layout.now node.now glance }
     ensures { result ≡ passes (λ (held : Node). covers K.prune K.minimize K.operator layout.now held node.now) (node_at places.now place) }
 {
+    if !may_cover_at(glances, place, glance) {
+        return false;
+    }
     if place >= places.len() {
         return false;
     }
@@ -93,21 +106,25 @@ fn covers_at<K: Covers>(layout: &Layout, places: &[Option<Node>], place: usize, 
     }
 }
 
-/// Takes out the nodes at places of a row that the node covers, and tells how many they were.
+/// Takes out the nodes at places of a row that the node with this glance covers, and tells how many they were.
 pub(crate) fn clear_covered<K: Covers>(
     layout: &Layout,
     places: &mut Vec<Option<Node>>,
+    glances: &[Glance],
     row: &[usize],
     node: &Node,
+    glance: Glance,
 ) -> usize
     requires node { IsNodeFor layout.now node.now }
     requires nodes { (p : ℕ) (n : Node) → StandsAt places.old.items p n → IsNodeFor layout.now n }
+    requires glanced { AreGlanced K.minimize K.operator layout.now places.old.items glances.now }
+    requires glance { IsGlanceOf K.minimize K.operator layout.now node.now glance }
     ensures places { places.new.items ≡ fold (cleared (λ (held : Node). covers K.prune K.minimize K.operator layout.now node.now held)) places.old.items row.now }
     ensures counted { length (nodes_of places.new.items) + result ≡ length (nodes_of places.old.items) }
 {
     let mut gone = 0;
     for place in row {
-        if clear_at::<K>(layout, places, *place, node) {
+        if clear_at::<K>(layout, places, glances, *place, node, glance) {
             gone += 1;
         }
     }
@@ -118,33 +135,45 @@ pub(crate) fn clear_covered<K: Covers>(
 fn clear_at<K: Covers>(
     layout: &Layout,
     places: &mut Vec<Option<Node>>,
+    glances: &[Glance],
     place: usize,
     node: &Node,
+    glance: Glance,
 ) -> bool
     requires node { IsNodeFor layout.now node.now }
     requires nodes { (p : ℕ) (n : Node) → StandsAt places.old.items p n → IsNodeFor layout.now n }
+    requires glanced { AreGlanced K.minimize K.operator layout.now places.old.items glances.now }
+    requires glance { IsGlanceOf K.minimize K.operator layout.now node.now glance }
     ensures value { places.new.items ≡ cleared (λ (held : Node). covers K.prune K.minimize K.operator layout.now node.now held) places.old.items place }
     ensures nodes { (p : ℕ) (n : Node) → StandsAt places.new.items p n → StandsAt places.old.items p n }
     ensures counted { length (nodes_of places.new.items) + (if result then 1 else 0) ≡ length (nodes_of places.old.items) }
 {
-    if !is_covered_at::<K>(layout, places, place, node) {
+    if !is_covered_at::<K>(layout, places, glances, place, node, glance) {
         return false;
     }
     places[place] = None;
     true
 }
 
+// whether the node with this glance covers the one at a place
 fn is_covered_at<K: Covers>(
     layout: &Layout,
     places: &[Option<Node>],
+    glances: &[Glance],
     place: usize,
     node: &Node,
+    glance: Glance,
 ) -> bool
     requires node { IsNodeFor layout.now node.now }
     requires nodes { (p : ℕ) (n : Node) → StandsAt places.now p n → IsNodeFor layout.now n }
+    requires glanced { AreGlanced K.minimize K.operator layout.now places.now glances.now }
+    requires glance { IsGlanceOf K.minimize K.operator layout.now node.now glance }
     ensures value { result ≡ passes (λ (held : Node). covers K.prune K.minimize K.operator layout.now node.now held) (node_at places.now place) }
     ensures within { result ≡ true → place < length places.now }
 {
+    if !may_be_covered_at(glances, place, glance) {
+        return false;
+    }
     if place >= places.len() {
         return false;
     }
@@ -173,18 +202,22 @@ pub(crate) fn file_place(
 pub(crate) fn put_node<K: Covers>(
     layout: &Layout,
     places: &mut Vec<Option<Node>>,
+    glances: &[Glance],
     row: &mut Vec<usize>,
     place: usize,
     node: Node,
+    glance: Glance,
 ) -> usize
     requires place { slice_get places.old.items place ≡ Some None }
     requires node { IsNodeFor layout.now node }
     requires nodes { (p : ℕ) (n : Node) → StandsAt places.old.items p n → IsNodeFor layout.now n }
+    requires glanced { AreGlanced K.minimize K.operator layout.now places.old.items glances.now }
+    requires glance { IsGlanceOf K.minimize K.operator layout.now node glance }
     ensures places { places.new.items ≡ slice_set (fold (cleared (λ (held : Node). covers K.prune K.minimize K.operator layout.now node held)) places.old.items row.old.items) place (Some node) }
     ensures row { (p : ℕ) (n : Node) → Has row.old.items p → StandsAt places.new.items p n → Has row.new.items p }
     ensures counted { length (nodes_of places.new.items) + result ≡ length (nodes_of places.old.items) + 1 }
 {
-    let gone = clear_covered::<K>(layout, places, row, &node);
+    let gone = clear_covered::<K>(layout, places, glances, row, &node, glance);
     places[place] = Some(node);
     if gone > 0 {
         drop_gone(places, row);

@@ -11,8 +11,8 @@ ghost use Rattle.dom_store.specs.Contents.{is_covered, with_node, IsCovered, Apa
 ghost use Rattle.dom_store.specs.Order.{IsOrdering, IsLeastFloor};
 
 use crate::covers::Covers;
+use crate::glance::Glance;
 use crate::keeping::{Added, add_node};
-use crate::signature::Signature;
 use crate::taking::{Taken, take_nodes};
 use cost_laws::CostLaw;
 use dp_base::Seq;
@@ -25,15 +25,15 @@ use std::marker::{Model, PhantomData};
 #[derive(Drop)]
 pub struct DomStore<K: Covers> {
     layout: Layout,
-    signatures: IndexSet<Signature>,
+    keys: IndexSet<u64>,
     rows: Vec<Seq<usize>>,
     places: Vec<Option<Node>>,
+    glances: Vec<Glance>,
     count: usize,
     covering: PhantomData<K>,
 }
 
 impl<K: Covers> Model for DomStore<K> {
-    ghost use Rattle.dom_store.specs.Covering.{covers};
     ghost use Rattle.dom_store.specs.Contents.{Contents};
     ghost use Rattle.dom_store.specs.Places.{nodes_of, IsKept};
 
@@ -41,7 +41,7 @@ impl<K: Covers> Model for DomStore<K> {
 
     ghost view = { λ s. record { layout = s.layout; nodes = nodes_of s.places.items } };
 
-    ghost invariant = { λ s. IsKept (covers K.prune K.minimize K.operator s.layout) s.layout s.signatures.keys s.rows.items s.places.items s.count };
+    ghost invariant = { λ s. IsKept K.prune K.minimize K.operator s.layout s.keys.keys s.rows.items s.places.items s.glances.items s.count };
 }
 
 impl<K: Covers> DomStore<K> {
@@ -52,9 +52,10 @@ impl<K: Covers> DomStore<K> {
     {
         Ok(DomStore {
             layout: layout.copy(alloc)?,
-            signatures: IndexSet::new(alloc),
+            keys: IndexSet::new(alloc),
             rows: Vec::new(alloc),
             places: Vec::new(alloc),
+            glances: Vec::new(alloc),
             count: 0,
             covering: PhantomData,
         })
@@ -75,9 +76,10 @@ impl<K: Covers> DomStore<K> {
     {
         add_node::<K>(
             layout,
-            &mut self.signatures,
+            &mut self.keys,
             &mut self.rows,
             &mut self.places,
+            &mut self.glances,
             &mut self.count,
             node,
         )
@@ -99,8 +101,9 @@ impl<K: Covers> DomStore<K> {
         ensures apart { (m : DpModel) → IsLayoutOf m self.old.layout → IsLawOf m K.minimize K.operator → IfOk result (λ taken. Apart m K.prune (taken.kept ++ taken.dropped)) }
     {
         let taken = take_nodes::<L>(alloc, &mut self.places, self.count, share)?;
-        self.signatures.clear();
+        self.keys.clear();
         self.rows.clear();
+        self.glances.clear();
         self.count = 0;
         Ok(taken)
     }

@@ -10,4 +10,4 @@ pub has_covering-requires-clause-nodes : goal.has_covering-requires-clause-nodes
 has_covering-requires-clause-nodes g c = c.requires.filed.nodes
 
 pub returns : goal.returns
-returns g c = row_answers g.K.Covers.prune g.K.Covers.minimize g.K.Covers.operator g.met.K.Covers.one_signature c.args.layout.now c.args.signatures.now.keys c.args.rows.now c.args.places.now c.requires.filed c.args.node.now c.args.row c.requires.row c.index-rows-row.result c.has_covering.result c.requires.there c.index-rows-row.is (c.has_covering.ensures ∙ ap (λ (row : List ℕ). list_any (λ p. passes (λ (held : Node). covers g.K.Covers.prune g.K.Covers.minimize g.K.Covers.operator c.args.layout.now held c.args.node.now) (node_at c.args.places.now p)) row) (c.deref.ensures.value ∙ c.list.ensures))
+returns g c = row_answers g.K.Covers.prune g.K.Covers.minimize g.K.Covers.operator g.met.K.Covers.one_key c.args.layout.now c.args.keys.now.keys c.args.rows.now c.args.places.now c.requires.filed c.args.node.now c.args.row c.requires.row c.index-rows-row.result c.has_covering.result c.requires.there c.index-rows-row.is (c.has_covering.ensures ∙ ap (λ (row : List ℕ). list_any (λ p. passes (λ (held : Node). covers g.K.Covers.prune g.K.Covers.minimize g.K.Covers.operator c.args.layout.now held c.args.node.now) (node_at c.args.places.now p)) row) (c.deref.ensures.value ∙ c.list.ensures))

@@ -1,8 +1,11 @@
-use Rattle.std.proofs.Common.{◌++◌, ap, ◌∙◌, subst}
+use Rattle.std.proofs.Common.{List, ◌++◌, sym, ap, ◌∙◌, subst}
+use Rattle.dp_claims.specs.Enough.{Has}
 use Rattle.state_layout.specs.Conditions.{IsNodeFor}
 use Rattle.state_layout.specs.declared.layout.Layout.{Layout}
+use Rattle.state_layout.specs.declared.node.Node.{Node}
 use Rattle.dom_store.specs.Covering.{covers}
 use Rattle.dom_store.specs.Contents.{Contents}
+use Rattle.dom_store.specs.Places.{nodes_of}
 use Rattle.dom_store.proofs.Promises.{apart_in}
 use Rattle.dom_store.proofs.Ranks.{has_words}
 use Rattle.dom_store.proofs.Sorting.{nodes_stand}
@@ -22,3 +25,8 @@ pub returns-clause-apart : goal.returns-clause-apart
 returns-clause-apart g c = λ m of_model law.
     apart_in g.K.Covers.prune g.K.Covers.minimize g.K.Covers.operator m c.self.inside.layout (ap (λ (v : Contents). v.layout) c.self.view_is ∙ of_model) law (c.in_ok-taken.taken.kept ++ c.in_ok-taken.taken.dropped)
     (c.in_ok-taken.ensures.apart (covers g.K.Covers.prune g.K.Covers.minimize g.K.Covers.operator c.self.inside.layout) c.self.invariant.apart)
+
+pub returns-clause-covered : goal.returns-clause-covered
+returns-clause-covered g c = λ m of_model law n h.
+    let there : Has (nodes_of c.self.inside.places.items) h.0 = subst (λ (ns : List Node). Has ns h.0) (sym (ap (λ (v : Contents). v.nodes) c.self.view_is)) h.1 in
+    (h.0, c.in_ok-taken.ensures.order.held h.0 there, h.2)

@@ -1,0 +1,90 @@
+-- The glances of places: what they show of a node, and how they stay those of the nodes that stand there.
+use Rattle.std.proofs.Common.{◌≡◌, ℕ, zero, suc, ◌⊎◌, inl, inr, Bool, true, false, List, [], ◌∷◌, ◌++◌, length, Option, Some, None, refl, sym, ap, ◌∙◌, subst, arith, length-append}
+use Rattle.std.specs.List.{slice_get}
+use Rattle.dp_model.specs.declared.parts.JoinOp.{JoinOp}
+use Rattle.state_layout.specs.declared.layout.Layout.{Layout}
+use Rattle.state_layout.specs.declared.node.Node.{Node}
+use Rattle.dom_store.specs.Covering.{covers}
+use Rattle.dom_store.specs.Glances.{IsGlanceOf, may_cover, may_cover_at, may_be_covered_at, passes_glance, ShowsAtGlance}
+use Rattle.dom_store.specs.Places.{passes, node_at, StandsAt, IsSpare, IsGlancedAt, AreGlanced}
+use Rattle.dom_store.specs.declared.glance.Glance.{Glance}
+use Rattle.dom_store.proofs.Filing.{none_stands}
+
+get_front : {A : Type 0} (xs ys : List A) (p : ℕ) (x : A) → slice_get xs p ≡ Some x → slice_get (xs ++ ys) p ≡ Some x
+get_front [] ys p x h = absurd (cc)
+get_front (y ∷ xs) ys zero x h = h
+get_front (y ∷ xs) ys (suc p) x h = get_front xs ys p x h
+
+get_last : {A : Type 0} (xs : List A) (x : A) → slice_get (xs ++ x ∷ []) (length xs) ≡ Some x
+get_last [] x = refl
+get_last (y ∷ xs) x = get_last xs x
+
+-- ---- a place whose glance shows that its node fails a test
+
+fails_at : (test : Node → Bool) (places : List (Option Node)) (p : ℕ) → ((n : Node) → StandsAt places p n → test n ≡ false) → passes test (node_at places p) ≡ false
+fails_at test [] p h = refl
+fails_at test (None ∷ places) zero h = refl
+fails_at test (Some n ∷ places) zero h = h n refl
+fails_at test (x ∷ places) (suc p) h = fails_at test places p h
+
+shown : (test : Glance → Bool) (glances : List Glance) (p : ℕ) (g : Glance) → slice_get glances p ≡ Some g → passes_glance test (slice_get glances p) ≡ false → test g ≡ false
+shown test glances p g h f = let e : passes_glance test (Some g) ≡ false = rw h at f in e
+
+not_covered : (b c : Bool) → (b ≡ true → c ≡ true) → c ≡ false → b ≡ false
+not_covered true c h f = let e = h refl in absurd (cc)
+not_covered false c h f = refl
+
+module _ (prune minimize : Bool) (operator : JoinOp) (shows : ShowsAtGlance prune minimize operator) (layout : Layout) (places : List (Option Node)) (glances : List Glance) (all : AreGlanced minimize operator layout places glances)
+    (node : Node) (g : Glance) (of_node : IsGlanceOf minimize operator layout node g) (p : ℕ) where
+  pub held_fails : may_cover_at glances p g ≡ false → false ≡ passes (λ held. covers prune minimize operator layout held node) (node_at places p)
+  held_fails fails = sym (fails_at (λ held. covers prune minimize operator layout held node) places p by)
+    where
+      by : (n : Node) → StandsAt places p n → covers prune minimize operator layout n node ≡ false
+      by n stands =
+          let at = all p n stands in
+          not_covered (covers prune minimize operator layout n node) (may_cover at.0 g) (λ c. shows layout n node at.0 g at.2 of_node c)
+          (shown (λ held. may_cover held g) glances p at.0 at.1 fails)
+
+  pub other_fails : may_be_covered_at glances p g ≡ false → false ≡ passes (λ held. covers prune minimize operator layout node held) (node_at places p)
+  other_fails fails = sym (fails_at (λ held. covers prune minimize operator layout node held) places p by)
+    where
+      by : (n : Node) → StandsAt places p n → covers prune minimize operator layout node n ≡ false
+      by n stands =
+          let at = all p n stands in
+          not_covered (covers prune minimize operator layout node n) (may_cover g at.0) (λ c. shows layout node n g at.0 of_node at.2 c)
+          (shown (λ held. may_cover g held) glances p at.0 at.1 fails)
+
+-- ---- a place is opened
+
+pub opened_glanced : (minimize : Bool) (operator : JoinOp) (layout : Layout) (places new : List (Option Node)) (glances new_glances : List Glance) (g : Glance) → AreGlanced minimize operator layout places glances
+    → new ≡ places ++ None ∷ [] → new_glances ≡ glances ++ g ∷ [] → AreGlanced minimize operator layout new new_glances
+opened_glanced minimize operator layout places new glances new_glances g h is are = λ p n stands.
+    let at = h p n (none_stands places p n (rw is at stands)) in
+    (at.0, ap (λ (gs : List Glance). slice_get gs p) are ∙ get_front glances (g ∷ []) p at.0 at.1, at.2)
+
+pub spare_glanced : (minimize : Bool) (operator : JoinOp) (layout : Layout) (places new : List (Option Node)) (glances new_glances : List Glance) (g : Glance) → AreGlanced minimize operator layout places glances
+    → IsSpare places new glances new_glances g → AreGlanced minimize operator layout new new_glances
+spare_glanced minimize operator layout places new glances new_glances g h (inl e) = rw (e.0, e.1) h
+spare_glanced minimize operator layout places new glances new_glances g h (inr e) = opened_glanced minimize operator layout places new glances new_glances g h e.0 e.1
+
+pub pushed_level : (places new : List (Option Node)) (glances new_glances : List Glance) (g : Glance) → length glances ≡ length places → length new ≡ length (places ++ None ∷ []) → new_glances ≡ glances ++ g ∷ [] → length new_glances ≡ length new
+pushed_level places new glances new_glances g h is are = omega (arith, h, is, ap length are, length-append glances (g ∷ []), length-append places (None ∷ []))
+
+pub spare_level : (places new : List (Option Node)) (glances new_glances : List Glance) (g : Glance) → length glances ≡ length places → IsSpare places new glances new_glances g → length new_glances ≡ length new
+spare_level places new glances new_glances g h (inl e) = ap length e.1 ∙ h ∙ ap length (sym e.0)
+spare_level places new glances new_glances g h (inr e) = pushed_level places new glances new_glances g h (ap length e.0) e.1
+
+-- ---- a node is put at the last place
+
+pub put_glanced : (minimize : Bool) (operator : JoinOp) (layout : Layout) (places new : List (Option Node)) (glances new_glances : List Glance) (node : Node) (g : Glance) → AreGlanced minimize operator layout places glances
+    → length glances ≡ length places → new_glances ≡ glances ++ g ∷ [] → IsGlanceOf minimize operator layout node g
+    → ((p : ℕ) (n : Node) → StandsAt new p n → ((p ≡ length places) × (node ≡ n)) ⊎ StandsAt places p n) → AreGlanced minimize operator layout new new_glances
+put_glanced minimize operator layout places new glances new_glances node g h level are of_node stood = λ p n stands. by p n (stood p n stands)
+  where
+    by : (p : ℕ) (n : Node) → ((p ≡ length places) × (node ≡ n)) ⊎ StandsAt places p n → IsGlancedAt minimize operator layout new_glances p n
+    by p n (inl e) = (
+      g,
+      ap (λ (gs : List Glance). slice_get gs p) are ∙ ap (λ k. slice_get (glances ++ g ∷ []) k) (e.0 ∙ sym level) ∙ get_last glances g,
+      subst (λ (m : Node). IsGlanceOf minimize operator layout m g) e.1 of_node,
+    )
+    by p n (inr s) = let at = h p n s in (at.0, ap (λ (gs : List Glance). slice_get gs p) are ∙ get_front glances (g ∷ []) p at.0 at.1, at.2)
