@@ -95,22 +95,21 @@ impl<'a, L: CostLaw> Visitor<'a, L> {
     /// Adds a successor that is open: as a letter, or where it is pruned.
     fn push_node(
         &self,
-        alloc: Global,
         number: u32,
         cost: Option<i64>,
-        next: &PlainState,
+        next: PlainState,
         floor: Option<i64>,
         batch: &mut Batch,
     ) -> Result<(), AllocError>
-        requires state { IsStateIn self.now.model next.now }
+        requires state { IsStateIn self.now.model next }
         requires cost { IfSome cost InRange }
         requires floor { IfSome floor InWideRange }
         requires fits { BatchFits self.now.model batch.old }
-        ensures batch { OnOk result (batch.new ≡ with_node self.now.model self.now.visit (record { state = next.now; cost = cost; floor = floor; parent = Some self.now.visit.id; transition = number }) batch.old) }
+        ensures batch { OnOk result (batch.new ≡ with_node self.now.model self.now.visit (record { state = next; cost = cost; floor = floor; parent = Some self.now.visit.id; transition = number }) batch.old) }
         ensures fits { OnOk result (BatchFits self.now.model batch.new) }
     {
         let node = Node {
-            state: self.layout.pack(alloc, next)?,
+            state: self.layout.packed(next),
             cost,
             floor,
             parent: Some(self.id),
@@ -131,18 +130,18 @@ impl<'a, L: CostLaw> Visitor<'a, L> {
         alloc: Global,
         number: u32,
         cost: Option<i64>,
-        next: &PlainState,
+        next: PlainState,
         batch: &mut Batch,
     ) -> Result<(), SpotEnd>
-        requires state { IsStateIn self.now.model next.now }
+        requires state { IsStateIn self.now.model next }
         requires cost { IfSome cost InRange }
         requires fits { BatchFits self.now.model batch.old }
         requires few { batch.old.not_allowed < 65536 }
-        ensures batch { Evaluates (λ _. batch.new) result (with_next self.now.model self.now.visit number cost next.now batch.old) }
+        ensures batch { Evaluates (λ _. batch.new) result (with_next self.now.model self.now.visit number cost next batch.old) }
         ensures fits { OnOk result (BatchFits self.now.model batch.new) }
         ensures few { OnOk result (batch.new.not_allowed ≤ batch.old.not_allowed + 1) }
     {
-        match spot_eval::look_at::<L>(alloc, self.model, self.prune, next, cost)? {
+        match spot_eval::look_at::<L>(alloc, self.model, self.prune, &next, cost)? {
             Look::NotAllowed => batch.not_allowed += 1,
             Look::Base(base) => {
                 let cost = spot_eval::joined_at::<L>(Spot::Total, cost, base)?;
@@ -151,7 +150,7 @@ impl<'a, L: CostLaw> Visitor<'a, L> {
                     transition: number,
                 })?;
             }
-            Look::Open(floor) => self.push_node(alloc, number, cost, next, floor, batch)?,
+            Look::Open(floor) => self.push_node(number, cost, next, floor, batch)?,
         }
         Ok(())
     }
@@ -162,14 +161,14 @@ impl<'a, L: CostLaw> Visitor<'a, L> {
         alloc: Global,
         number: u32,
         cost: Option<i64>,
-        next: &PlainState,
+        next: PlainState,
         batch: &mut Batch,
     ) -> Result<(), ExpandEnd>
-        requires state { IsStateIn self.now.model next.now }
+        requires state { IsStateIn self.now.model next }
         requires cost { IfSome cost InRange }
         requires fits { BatchFits self.now.model batch.old }
         requires few { batch.old.not_allowed < 65536 }
-        ensures batch { AnswersBy (λ _. batch.new) result (after number (with_next self.now.model self.now.visit number cost next.now batch.old)) }
+        ensures batch { AnswersBy (λ _. batch.new) result (after number (with_next self.now.model self.now.visit number cost next batch.old)) }
         ensures fits { OnOk result (BatchFits self.now.model batch.new) }
         ensures few { OnOk result (batch.new.not_allowed ≤ batch.old.not_allowed + 1) }
     {
@@ -204,7 +203,7 @@ impl<'a, L: CostLaw> Visitor<'a, L> {
     {
         let s = self.state;
         let next = spot_eval::next_state(alloc, self.model, number, transition, args, s)?;
-        self.push_next(alloc, number, cost, &next, batch)
+        self.push_next(alloc, number, cost, next, batch)
     }
 
     /// Adds the successor that an enabled ground transition makes.

@@ -1,7 +1,7 @@
 use Rattle.std.proofs.Common.{◌≡◌, subst}
 use Rattle.dp_model.specs.declared.whole.Model.{Model}
 use Rattle.state_layout.specs.Conditions.{IsStateOf}
-use Rattle.successors.proofs.expander.Expander.packed.Goals as goal
+use Rattle.successors.proofs.expander.Expander.packed_copy.Goals as goal
 
 pub pack-requires : goal.pack-requires
 pack-requires g c =
