@@ -1,23 +1,12 @@
-//! Calls that take memory, each where it lasts, and the model that the other tests run on.
+//! Calls that take memory, each where it lasts, and the model that the lines are printed for.
 
+use crate::texts::{FROM_ZERO, TWO_WAYS};
 use dp_base::{Boxed, Seq, Text};
 use dp_model::{Found, Model, Num, step_text};
 use dypdl_load::load;
 use std::alloc::Global;
 use std::test::Fail;
 use yaml_tree::read;
-
-/// Two ways, of which the first that is found costs more.
-pub(crate) const TWO_WAYS: &str = concat!(
-    "domain: b\nstate_variables:\n  - name: a\n    type: integer\ntransitions:\n",
-    "  - name: p\n    preconditions:\n      - (= a 0)\n    effects:\n      a: 1\n    cost: (+ cost 1)\n",
-    "  - name: q\n    preconditions:\n      - (= a 0)\n    effects:\n      a: 2\n    cost: (+ cost 2)\n",
-    "  - name: e\n    preconditions:\n      - (= a 1)\n    effects:\n      a: 3\n    cost: (+ cost 10)\n",
-    "  - name: d\n    preconditions:\n      - (= a 2)\n    effects:\n      a: 3\n    cost: (+ cost 1)\n",
-    "base_cases:\n  - - (= a 3)\n",
-);
-
-pub(crate) const FROM_ZERO: &str = "domain: b\nproblem: one\ntarget:\n  a: 0\n";
 
 /// The model of two ways.
 pub(crate) fn two_ways(alloc: Global) -> Result<Model, Fail> {

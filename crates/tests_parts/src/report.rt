@@ -1,6 +1,6 @@
 //! The printed lines, as they are read by others.
 
-use crate::texts::two_ways;
+use crate::growth::two_ways;
 use dp_base::{Place, Seq};
 use dp_model::{FaultAt, FaultKind, Found, Reason, Spot, Verdict};
 use dp_outside::FineSink;

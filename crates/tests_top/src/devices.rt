@@ -1,15 +1,15 @@
-//! Runs over devices that fail, and files that are too long. They share a shelf and two sinks, since the checker takes the
+//! Runs over devices that fail, and files that are too long. They share one shelf and one sink, since the checker takes the
 //! whole solver anew for each pair of them.
 
 ghost use Rattle.std.specs.Prelude.{None};
 
-use crate::texts::{FROM_ZERO, TWO_WAYS};
-use dp_outside::{Failed, MemShelf, MemSink, OpenGate, Sink};
+use dp_outside::{Failed, MemShelf, OpenGate, Sink};
 use solve_top::run;
 use std::alloc::{AllocError, Global};
 use std::sync::Wait;
 use std::test::Fail;
 use std::thread::Threads;
+use tests_parts::texts::{FROM_ZERO, TWO_WAYS};
 
 /// What a run over two ways prints: 123 bytes in 9 lines.
 const PRINTED: &str = concat!(
@@ -36,20 +36,21 @@ fn shelf_of(alloc: Global, domain: &[u8], problem: &[u8]) -> Result<MemShelf, Al
 }
 
 /// Runs over two ways into this sink.
-fn run_into<R: Threads + Wait + Sync, S: Sink>(
+fn run_into<R: Threads + Wait + Sync>(
     rt: &R,
     alloc: Global,
-    sink: &mut S,
+    sink: &mut SlowSink,
 ) -> Result<u8, AllocError> {
     let words = words_of(alloc)?;
     let mut shelf = shelf_of(alloc, TWO_WAYS.as_bytes(), FROM_ZERO.as_bytes())?;
     Ok(run(rt, alloc, &words, &mut shelf, sink, &OpenGate::new()))
 }
 
-/// A sink that takes one byte a write, and whose write number `fails_at` fails.
+/// A sink that takes at most `most` bytes a write, and whose write number `fails_at` fails.
 #[derive(Drop)]
 struct SlowSink {
     bytes: Vec<u8>,
+    most: usize,
     fails_at: u64,
     writes: u64,
 }
@@ -61,21 +62,28 @@ impl Sink for SlowSink {
 
     fn write(&mut self, piece: &[u8]) -> Result<usize, Failed> {
         self.writes = self.writes.saturating_add(1);
-        if self.writes == self.fails_at || self.bytes.extend_from_slice(&piece[..1]).is_err() {
+        let count = piece.len().min(self.most).max(1);
+        if self.writes == self.fails_at || self.bytes.extend_from_slice(&piece[..count]).is_err() {
             return Err(Failed);
         }
-        Ok(1)
+        Ok(count)
+    }
+}
+
+/// A sink without bytes.
+fn sink_of(alloc: Global, most: usize, fails_at: u64) -> SlowSink {
+    SlowSink {
+        bytes: Vec::new(alloc),
+        most,
+        fails_at,
+        writes: 0,
     }
 }
 
 #[test]
 fn each_failed_byte_ends_the_run(rt: HostRuntime) -> Result<(), Fail> {
     for call in 1..125u64 {
-        let mut sink = SlowSink {
-            bytes: Vec::new(rt.alloc()),
-            fails_at: call,
-            writes: 0,
-        };
+        let mut sink = sink_of(rt.alloc(), 1, call);
         let status = run_into(&rt, rt.alloc(), &mut sink)?;
         let want = if call < 124 { 5 } else { 0 };
         assert_eq!(rt; status, want, "{call}");
@@ -102,13 +110,11 @@ static LINES: [(u64, usize, u8); 10] = [
 #[test]
 fn each_failed_line_ends_the_run(rt: HostRuntime) -> Result<(), Fail> {
     for (call, length, want) in LINES.iter() {
-        let mut sink = MemSink::new(rt.alloc());
-        sink.fail_at(*call)?;
+        let mut sink = sink_of(rt.alloc(), usize::MAX, *call);
         let status = run_into(&rt, rt.alloc(), &mut sink)?;
-        let taken = sink.bytes().unwrap_or(b"?");
         assert_eq!(rt; status, *want, "{call}");
-        assert_eq!(rt; taken.len(), *length, "{call}");
-        assert!(rt; PRINTED.as_bytes().starts_with(taken), "{call}");
+        assert_eq!(rt; sink.bytes.len(), *length, "{call}");
+        assert!(rt; PRINTED.as_bytes().starts_with(&sink.bytes), "{call}");
     }
     Ok(())
 }
@@ -128,10 +134,10 @@ fn a_failed_read_names_its_file(rt: HostRuntime) -> Result<(), Fail> {
     for (call, text, want) in READS.iter() {
         let mut shelf = shelf_of(rt.alloc(), TWO_WAYS.as_bytes(), FROM_ZERO.as_bytes())?;
         shelf.fail_at(*call)?;
-        let mut sink = MemSink::new(rt.alloc());
+        let mut sink = sink_of(rt.alloc(), usize::MAX, 0);
         let gate = OpenGate::new();
         let status = run(&rt, rt.alloc(), &words, &mut shelf, &mut sink, &gate);
-        assert!(rt; sink.bytes() == Some(text.as_bytes()), "{call}");
+        assert!(rt; sink.bytes.as_slice() == text.as_bytes(), "{call}");
         assert_eq!(rt; status, *want, "{call}");
     }
     Ok(())
@@ -151,10 +157,10 @@ fn a_file_past_the_limit_is_too_long(rt: HostRuntime) -> Result<(), Fail> {
             (b"".as_slice(), long.as_slice())
         };
         let mut shelf = shelf_of(rt.alloc(), domain, problem)?;
-        let mut sink = MemSink::new(rt.alloc());
+        let mut sink = sink_of(rt.alloc(), usize::MAX, 0);
         let gate = OpenGate::new();
         let status = run(&rt, rt.alloc(), &words, &mut shelf, &mut sink, &gate);
-        assert!(rt; sink.bytes() == Some(text.as_bytes()), "{text}");
+        assert!(rt; sink.bytes.as_slice() == text.as_bytes(), "{text}");
         assert_eq!(rt; status, 7, "{text}");
     }
     Ok(())
