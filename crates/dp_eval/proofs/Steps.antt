@@ -1,17 +1,30 @@
 -- One step of the definitions that go over two lists at once.
-use Rattle.std.proofs.Common.{◌≡◌, ℕ, ◌+◌, ◌*◌, ◌-◌, ◌≤◌, suc, List, [], ◌∷◌, length, get_or, map, take, drop, refl, arith, ◌<◌, ◌+ℤ◌, ℤ, pos, zero, ◌++◌, add-one, add-zero, slice_get}
+use Rattle.std.proofs.Common.{◌≡◌, ℕ, ◌+◌, ◌*◌, ◌-◌, ◌≤◌, suc, List, [], ◌∷◌, length, get_or, map, take, drop, refl, arith, ◌<◌, ◌+ℤ◌, ℤ, pos, zero, ◌++◌, add-one, add-zero, slice_get, Option, Result, Ok, Err}
 use Rattle.std.specs.Prelude.{unwrap_or}
 use Rattle.std.specs.List.{range_with_len, flat_map}
 use Rattle.std.proofs.Math.Seq.{take-length, drop-cons}
 use Rattle.std.proofs.lemmas.Int.{ints}
+use Rattle.dp_base.specs.Results.{◌>>=◌}
+use Rattle.dp_model.specs.declared.answers.FaultKind.{FaultKind}
 use Rattle.dp_model.specs.declared.whole.Model.{Model}
-use Rattle.dp_model.specs.Evaluation.{count_of, counts_of, table_counts, place_from, place_in, ways, total_of, number_cell, cells_of}
+use Rattle.dp_model.specs.Evaluation.{count_of, counts_of, table_counts, member_of, members_of, place_from, place_in, ways, total_of, number_cell, cells_of}
+use Rattle.dp_eval.specs.Places.{LeadsTo}
 use Rattle.dp_eval.specs.Totals.{place_after, total_at}
 
-pub place_from-step : (m : Model) (place : ℕ) (objects members : List ℕ) → 1 ≤ length objects → 1 ≤ length members → place_from place (counts_of m objects) members ≡ place_from (place * count_of m (get_or objects 0 0) + get_or members 0 0) (counts_of m (drop 1 objects)) (drop 1 members)
-place_from-step m place [] members h k = absurd (omega arith)
-place_from-step m place (object ∷ objects) [] h k = absurd (omega arith)
-place_from-step m place (object ∷ objects) (member ∷ members) h k = refl
+-- one member more, before those that lead to a place
+leads-behind : (r : Result (Option ℕ) FaultKind) (v : Result (List ℕ) FaultKind) (k : ℕ) (f g : List ℕ → ℕ) → ((members : List ℕ) → g (k ∷ members) ≡ f members) → LeadsTo r v f → LeadsTo r (v >>= λ members. Ok (k ∷ members)) g
+leads-behind (Ok word) (Ok members) k f g e h = rw (e members) h
+leads-behind (Ok word) (Err kind) k f g e h = absurd h
+leads-behind (Err kind) (Ok members) k f g e h = cc
+leads-behind (Err kind) (Err other) k f g e h = h
+
+-- an argument that is a member, and those after it
+pub leads-next : (m : Model) (place : ℕ) (objects : List ℕ) (numbers : List ℤ) (k : ℕ) (r : Result (Option ℕ) FaultKind) → 1 ≤ length objects → 1 ≤ length numbers → member_of (count_of m (get_or objects 0 0)) (get_or numbers 0 (pos 0)) ≡ Ok k
+    → LeadsTo r (members_of (counts_of m (drop 1 objects)) (drop 1 numbers)) (place_from (place * count_of m (get_or objects 0 0) + k) (counts_of m (drop 1 objects))) → LeadsTo r (members_of (counts_of m objects) numbers) (place_from place (counts_of m objects))
+leads-next m place [] numbers k r h i e led = absurd (omega arith)
+leads-next m place (object ∷ objects) [] k r h i e led = absurd (omega arith)
+leads-next m place (object ∷ objects) (n ∷ numbers) k r h i e led =
+    rw e (leads-behind r (members_of (counts_of m objects) numbers) k (place_from (place * count_of m object + k) (counts_of m objects)) (place_from place (count_of m object ∷ counts_of m objects)) (λ members. refl) led)
 
 -- what a slice pattern binds behind the first item
 pub rest-take : {A : Type 0} (xs : List A) → take (length xs - 1) (drop 1 xs) ≡ drop 1 xs

@@ -105,7 +105,7 @@ fn number(at: &Scene<'_>, e: &Num) -> Result<i64, EvalEnd>
         Num::Param(p) => Ok(i64::from(parameter(at.args, *p))),
         Num::Cell(t, ns) => {
             let values = numbers(at, ns)?;
-            number_cell(at.alloc, at.model, *t, &values)
+            number_cell(at.model, *t, &values)
         }
         Num::Sum(t, ts) => {
             let values = terms(at, ts)?;
@@ -235,7 +235,7 @@ fn holds(at: &Scene<'_>, e: &Cond) -> Result<bool, EvalEnd>
         Cond::Fixed(b) => Ok(*b),
         Cond::Cell(t, ns) => {
             let values = numbers(at, ns)?;
-            truth_cell(at.alloc, at.model, *t, &values)
+            truth_cell(at.model, *t, &values)
         }
         Cond::Numbers(op, a, b) => Ok(compares(*op, number(at, a)?, number(at, b)?)),
         Cond::SameSet(a, b) => {

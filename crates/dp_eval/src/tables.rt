@@ -4,14 +4,14 @@ ghost use Rattle.std.specs.Prelude.{◌≡◌, ◌+◌, ◌*◌, ℕ, [], pos, f
 ghost use Rattle.std.specs.Option.{option_copied};
 ghost use Rattle.dp_model.specs.declared.parts.TableData.{TableData};
 ghost use Rattle.dp_model.specs.Evaluation.{count_of, counts_of, kind_of, object_of_kind, number_in, set_in, number_held, set_held, members_of, table_counts, cells_of, cells_object, place_from, place_in, number_cell, truth_cell, set_cell};
-ghost use Rattle.dp_eval.specs.Answers.{Answers, AnswersBy, Pushes};
-ghost use Rattle.dp_eval.specs.Places.{IsPlace};
+ghost use Rattle.dp_eval.specs.Answers.{Answers, AnswersBy};
+ghost use Rattle.dp_eval.specs.Places.{IsPlace, LeadsTo};
 ghost use Rattle.dp_eval.specs.Terms.{at_members};
 
 use crate::ends::EvalEnd;
 use crate::numbers::member_of;
 use crate::sets::CountedSet;
-use dp_model::{Cells, Model, PlainState, PlainValue, Seq, TableData, VarKind};
+use dp_model::{Cells, FaultKind, Model, PlainState, PlainValue, Seq, TableData, VarKind};
 use std::alloc::{AllocError, Global};
 
 /// How many members an object type has.
@@ -103,54 +103,35 @@ pub fn next_place(at: Option<usize>, count: u32, member: u32) -> Option<usize>
         .checked_add(member as usize)
 }
 
-/// The place of the cell at these members, where `at` is the place that the arguments before them lead to.
-fn place_from(model: &Model, at: Option<usize>, objects: &[u32], members: &[u32]) -> Option<usize>
-    ensures { (place : ℕ) → IsPlace place at
-        → IsPlace (place_from place (counts_of model.now objects.now) members.now) result }
-{
-    let [object, objects @ ..] = objects else {
-        return at;
-    };
-    let [member, members @ ..] = members else {
-        return at;
-    };
-    let at = next_place(at, count_of(model, *object), *member);
-    place_from(model, at, objects, members)
-}
-
-fn place_in(model: &Model, t: u32, members: &[u32]) -> Option<usize>
-    ensures { IsPlace (place_in model.now t members.now) result }
-{
-    place_from(model, Some(0), arguments(model, t), members)
-}
-
-/// Pushes the arguments that are left as members, tested in order.
-fn push_members(
+/// The place of the cell at these arguments, each tested in order, where `at` is the place that the arguments before
+/// them lead to.
+fn place_from(
     model: &Model,
+    at: Option<usize>,
     objects: &[u32],
     numbers: &[i64],
-    members: &mut Vec<u32>,
-) -> Result<(), EvalEnd>
-    ensures { Pushes result members.old.items
-        (members_of (counts_of model.now objects.now) numbers.now) members.new.items }
+) -> Result<Option<usize>, FaultKind>
+    ensures { (place : ℕ) → IsPlace place at
+        → LeadsTo result (members_of (counts_of model.now objects.now) numbers.now)
+        (place_from place (counts_of model.now objects.now)) }
 {
     let [object, objects @ ..] = objects else {
-        return Ok(());
+        return Ok(at);
     };
     let [n, numbers @ ..] = numbers else {
-        return Ok(());
+        return Ok(at);
     };
-    members.push(member_of(count_of(model, *object), *n)?)?;
-    push_members(model, objects, numbers, members)
+    let count = count_of(model, *object);
+    let next = next_place(at, count, member_of(count, *n)?);
+    place_from(model, next, objects, numbers)
 }
 
-/// The arguments of a table as members, tested in order.
-fn members_of(alloc: Global, model: &Model, t: u32, numbers: &[i64]) -> Result<Seq<u32>, EvalEnd>
-    ensures { Answers result (members_of (table_counts model.now t) numbers.now) }
+/// The place of a table's cell at these arguments, each tested in order.
+fn place_in(model: &Model, t: u32, numbers: &[i64]) -> Result<Option<usize>, FaultKind>
+    ensures { LeadsTo result (members_of (table_counts model.now t) numbers.now)
+        (place_in model.now t) }
 {
-    let mut members = Vec::new(alloc);
-    push_members(model, arguments(model, t), numbers, &mut members)?;
-    Ok(Seq::of(members))
+    place_from(model, Some(0), arguments(model, t), numbers)
 }
 
 fn cells(model: &Model, t: u32) -> Option<&Cells>
@@ -228,22 +209,22 @@ fn sets_in(model: &Model, t: u32) -> &[Seq<u32>]
 
 /// The cell of a table of numbers at these arguments.
 #[inline(never)]
-pub fn number_cell(alloc: Global, model: &Model, t: u32, numbers: &Seq<i64>) -> Result<i64, EvalEnd>
+pub fn number_cell(model: &Model, t: u32, numbers: &Seq<i64>) -> Result<i64, EvalEnd>
     ensures { Answers result
         (at_members model.now t (number_cell (cells_of model.now t)) numbers.now) }
 {
-    let members = members_of(alloc, model, t, numbers.list())?;
-    Ok(number_at(numbers_in(model, t), place_in(model, t, members.list())))
+    let place = place_in(model, t, numbers.list())?;
+    Ok(number_at(numbers_in(model, t), place))
 }
 
 /// The cell of a table of truth values at these arguments.
 #[inline(never)]
-pub fn truth_cell(alloc: Global, model: &Model, t: u32, numbers: &Seq<i64>) -> Result<bool, EvalEnd>
+pub fn truth_cell(model: &Model, t: u32, numbers: &Seq<i64>) -> Result<bool, EvalEnd>
     ensures { Answers result
         (at_members model.now t (truth_cell (cells_of model.now t)) numbers.now) }
 {
-    let members = members_of(alloc, model, t, numbers.list())?;
-    Ok(truth_at(truths_in(model, t), place_in(model, t, members.list())))
+    let place = place_in(model, t, numbers.list())?;
+    Ok(truth_at(truths_in(model, t), place))
 }
 
 /// The cell of a table of sets at these arguments.
@@ -259,8 +240,8 @@ pub fn set_cell(
     ensures members { AnswersBy (λ (set : CountedSet). set.members) result
         (at_members model.now t (set_cell (cells_of model.now t)) numbers.now) }
 {
-    let members = members_of(alloc, model, t, numbers.list())?;
-    let members = set_at(alloc, sets_in(model, t), place_in(model, t, members.list()))?;
+    let place = place_in(model, t, numbers.list())?;
+    let members = set_at(alloc, sets_in(model, t), place)?;
     let count = count_of(model, cells_object(model, t));
     Ok(CountedSet { count, members })
 }
