@@ -3,4 +3,5 @@ pub mod Places
 pub mod Terms
 pub mod Totals
 pub mod Fits
+pub mod Members
 pub mod Operands

@@ -15,7 +15,7 @@ use crate::objects::set_count;
 use crate::parameters::{parameter, range_of, with_more};
 use crate::sets::{CountedSet, has, is_subset, others, same_members, set_operation, with, without};
 use crate::sums::{Term, sum_of};
-use crate::tables::{number_cell, number_in, set_cell, set_in, truth_cell};
+use crate::tables::{number_cell, number_in, set_cell, set_lent, truth_cell};
 use dp_model::{Arg, Cond, Model, Num, PlainState, Seq, SetEx, SetOp};
 use std::alloc::Global;
 
@@ -68,7 +68,7 @@ pub fn eval_set(
         },
         e,
     )?;
-    Ok(members)
+    Ok(members.into_own(alloc)?)
 }
 
 /// Whether a condition holds in a state, with these values of the parameters, or the fault that it meets. `and`,
@@ -126,7 +126,7 @@ fn number(at: &Scene<'_>, e: &Num) -> Result<i64, EvalEnd>
 /// The members of a set expression, with the count of its object type, so that no operator has to look for it.
 #[cycle(eval)]
 #[inline(never)]
-fn counted(at: &Scene<'_>, e: &SetEx) -> Result<CountedSet, EvalEnd>
+fn counted<'a>(at: &Scene<'a>, e: &SetEx) -> Result<CountedSet<'a>, EvalEnd>
     ensures count { IfOk result
         (λ set. set.count ≡ count_of at.now.model.now (set_value at.now.model.now at.now.s.now e.now).0) }
     ensures members { AnswersBy (λ (set : CountedSet). set.members) result
@@ -135,7 +135,7 @@ fn counted(at: &Scene<'_>, e: &SetEx) -> Result<CountedSet, EvalEnd>
     match e {
         SetEx::Var(v) => {
             let count = set_count(at.model, e, at.s);
-            let members = set_in(at.alloc, at.s, *v)?;
+            let members = set_lent(at.alloc, at.s, *v);
             Ok(CountedSet { count, members })
         }
         SetEx::Cell(t, ns) => {
@@ -168,7 +168,12 @@ fn counted(at: &Scene<'_>, e: &SetEx) -> Result<CountedSet, EvalEnd>
 /// A set operation on a set and its second operand.
 #[cycle(eval)]
 #[inline(never)]
-fn operated(at: &Scene<'_>, op: SetOp, x: &CountedSet, b: &SetEx) -> Result<CountedSet, EvalEnd>
+fn operated<'a>(
+    at: &Scene<'a>,
+    op: SetOp,
+    x: &CountedSet<'_>,
+    b: &SetEx,
+) -> Result<CountedSet<'a>, EvalEnd>
     ensures count { IfOk result (λ set. set.count ≡ x.now.count) }
     ensures members { AnswersBy (λ (set : CountedSet). set.members) result
         (operated_by op x.now.count x.now.members ((set_value at.now.model.now at.now.s.now b.now).1 at.now.args.now)) }
@@ -180,7 +185,7 @@ fn operated(at: &Scene<'_>, op: SetOp, x: &CountedSet, b: &SetEx) -> Result<Coun
 /// The members of the object type that a set lacks.
 #[cycle(eval)]
 #[inline(never)]
-fn complement(at: &Scene<'_>, a: &SetEx) -> Result<CountedSet, EvalEnd>
+fn complement<'a>(at: &Scene<'a>, a: &SetEx) -> Result<CountedSet<'a>, EvalEnd>
     ensures count { IfOk result (λ set. set.count ≡ (count_of at.now.model.now (set_value at.now.model.now at.now.s.now a.now).0)) }
     ensures members { AnswersBy (λ (set : CountedSet). set.members) result
         (complement_of (count_of at.now.model.now (set_value at.now.model.now at.now.s.now a.now).0) ((set_value at.now.model.now at.now.s.now a.now).1 at.now.args.now)) }
@@ -192,7 +197,7 @@ fn complement(at: &Scene<'_>, a: &SetEx) -> Result<CountedSet, EvalEnd>
 /// A set with the member of its object type that a number is.
 #[cycle(eval)]
 #[inline(never)]
-fn with_member(at: &Scene<'_>, z: i64, a: &SetEx) -> Result<CountedSet, EvalEnd>
+fn with_member<'a>(at: &Scene<'a>, z: i64, a: &SetEx) -> Result<CountedSet<'a>, EvalEnd>
     ensures count { IfOk result (λ set. set.count ≡ (count_of at.now.model.now (set_value at.now.model.now at.now.s.now a.now).0)) }
     ensures members { AnswersBy (λ (set : CountedSet). set.members) result
         (with_in (count_of at.now.model.now (set_value at.now.model.now at.now.s.now a.now).0) z ((set_value at.now.model.now at.now.s.now a.now).1 at.now.args.now)) }
@@ -204,7 +209,7 @@ fn with_member(at: &Scene<'_>, z: i64, a: &SetEx) -> Result<CountedSet, EvalEnd>
 /// A set without the member of its object type that a number is.
 #[cycle(eval)]
 #[inline(never)]
-fn without_member(at: &Scene<'_>, z: i64, a: &SetEx) -> Result<CountedSet, EvalEnd>
+fn without_member<'a>(at: &Scene<'a>, z: i64, a: &SetEx) -> Result<CountedSet<'a>, EvalEnd>
     ensures count { IfOk result (λ set. set.count ≡ (count_of at.now.model.now (set_value at.now.model.now at.now.s.now a.now).0)) }
     ensures members { AnswersBy (λ (set : CountedSet). set.members) result
         (without_in (count_of at.now.model.now (set_value at.now.model.now at.now.s.now a.now).0) z ((set_value at.now.model.now at.now.s.now a.now).1 at.now.args.now)) }
@@ -216,7 +221,7 @@ fn without_member(at: &Scene<'_>, z: i64, a: &SetEx) -> Result<CountedSet, EvalE
 /// A set as one of an object type with this count.
 #[cycle(eval)]
 #[inline(never)]
-fn counted_as(at: &Scene<'_>, count: u32, b: &SetEx) -> Result<CountedSet, EvalEnd>
+fn counted_as<'a>(at: &Scene<'a>, count: u32, b: &SetEx) -> Result<CountedSet<'a>, EvalEnd>
     ensures count { IfOk result (λ set. set.count ≡ count) }
     ensures members { AnswersBy (λ (set : CountedSet). set.members) result
         (((set_value at.now.model.now at.now.s.now b.now).1 at.now.args.now)) }
@@ -272,7 +277,7 @@ fn holds(at: &Scene<'_>, e: &Cond) -> Result<bool, EvalEnd>
 /// Whether a set has the members of another.
 #[cycle(eval)]
 #[inline(never)]
-fn is_same(at: &Scene<'_>, x: &CountedSet, b: &SetEx) -> Result<bool, EvalEnd>
+fn is_same(at: &Scene<'_>, x: &CountedSet<'_>, b: &SetEx) -> Result<bool, EvalEnd>
     ensures { Answers result (is_same_as x.now.members ((set_value at.now.model.now at.now.s.now b.now).1 at.now.args.now)) }
 {
     let y = counted(at, b)?;
@@ -282,7 +287,7 @@ fn is_same(at: &Scene<'_>, x: &CountedSet, b: &SetEx) -> Result<bool, EvalEnd>
 /// Whether each member of a set is one of another.
 #[cycle(eval)]
 #[inline(never)]
-fn is_within(at: &Scene<'_>, x: &CountedSet, b: &SetEx) -> Result<bool, EvalEnd>
+fn is_within(at: &Scene<'_>, x: &CountedSet<'_>, b: &SetEx) -> Result<bool, EvalEnd>
     ensures { Answers result (is_within x.now.members ((set_value at.now.model.now at.now.s.now b.now).1 at.now.args.now)) }
 {
     let y = counted(at, b)?;
@@ -353,7 +358,7 @@ fn term(at: &Scene<'_>, e: &Arg) -> Result<Term, EvalEnd>
         Arg::One(n) => Ok(Term::Number(number(at, n)?)),
         Arg::Many(set) => {
             let CountedSet { members, .. } = counted(at, set)?;
-            Ok(Term::Members(members))
+            Ok(Term::Members(members.into_own(at.alloc)?))
         }
     }
 }

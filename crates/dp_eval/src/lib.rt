@@ -5,6 +5,7 @@
 mod ends;
 mod evaluate;
 mod laws;
+mod members;
 mod numbers;
 mod objects;
 mod parameters;

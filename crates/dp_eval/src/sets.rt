@@ -6,14 +6,15 @@ ghost use Rattle.std.specs.List.{list_all};
 ghost use Rattle.std.specs.Str.{bytes_eq};
 ghost use Rattle.dp_model.specs.Evaluation.{has, members_where, set_operation};
 
+use crate::members::Members;
 use dp_model::{Seq, SetOp};
 use std::alloc::{AllocError, Global};
 
 /// The members of a set, and how many its object type has.
 #[derive(Debug, Drop)]
-pub struct CountedSet {
+pub struct CountedSet<'a> {
     pub count: u32,
-    pub members: Seq<u32>,
+    pub members: Members<'a>,
 }
 
 /// Whether a list has a member.
@@ -68,7 +69,7 @@ impl<'s> Marks<'s> {
 
 /// Whether two sets have the same members.
 #[inline(never)]
-pub fn same_members(a: &CountedSet, b: &CountedSet) -> bool
+pub fn same_members(a: &CountedSet<'_>, b: &CountedSet<'_>) -> bool
     ensures { result ≡ bytes_eq a.now.members b.now.members }
 {
     a.members.list() == b.members.list()
@@ -76,7 +77,7 @@ pub fn same_members(a: &CountedSet, b: &CountedSet) -> bool
 
 /// Whether each member of the first is one of the second.
 #[inline(never)]
-pub fn is_subset(alloc: Global, a: &CountedSet, b: &CountedSet) -> Result<bool, AllocError>
+pub fn is_subset(alloc: Global, a: &CountedSet<'_>, b: &CountedSet<'_>) -> Result<bool, AllocError>
     ensures { IfOk result (λ held. held ≡ list_all (has b.now.members) a.now.members) }
 {
     let in_b = Marks::of(alloc, b.count, b.members.list())?;
@@ -136,9 +137,9 @@ fn removed(alloc: Global, count: u32, set: &Marks, member: u32) -> Result<Vec<u3
 pub fn set_operation(
     alloc: Global,
     op: SetOp,
-    a: &CountedSet,
-    b: &CountedSet,
-) -> Result<CountedSet, AllocError>
+    a: &CountedSet<'_>,
+    b: &CountedSet<'_>,
+) -> Result<CountedSet<'static>, AllocError>
     ensures count { IfOk result (λ set. set.count ≡ a.now.count) }
     ensures members { IfOk result
         (λ set. set.members ≡ set_operation op a.now.count a.now.members b.now.members) }
@@ -151,45 +152,53 @@ pub fn set_operation(
         SetOp::Intersection => shared(alloc, count, &in_a, &in_b)?,
         SetOp::Difference => lacking(alloc, count, &in_a, &in_b)?,
     };
-    let members = Seq::of(members);
+    let members = Members::own(Seq::of(members));
     Ok(CountedSet { count, members })
 }
 
 /// The members of its object type that a set lacks.
 #[inline(never)]
-pub fn others(alloc: Global, set: &CountedSet) -> Result<CountedSet, AllocError>
+pub fn others(alloc: Global, set: &CountedSet<'_>) -> Result<CountedSet<'static>, AllocError>
     ensures count { IfOk result (λ all. all.count ≡ set.now.count) }
     ensures members { IfOk result (λ all. all.members
         ≡ members_where set.now.count (λ k. not (has set.now.members k))) }
 {
     let count = set.count;
     let inside = Marks::of(alloc, count, set.members.list())?;
-    let members = Seq::of(outside(alloc, count, &inside)?);
+    let members = Members::own(Seq::of(outside(alloc, count, &inside)?));
     Ok(CountedSet { count, members })
 }
 
 /// The set and one member more.
 #[inline(never)]
-pub fn with(alloc: Global, set: &CountedSet, member: u32) -> Result<CountedSet, AllocError>
+pub fn with(
+    alloc: Global,
+    set: &CountedSet<'_>,
+    member: u32,
+) -> Result<CountedSet<'static>, AllocError>
     ensures count { IfOk result (λ all. all.count ≡ set.now.count) }
     ensures members { IfOk result (λ all. all.members
         ≡ members_where set.now.count (λ k. k == member || has set.now.members k)) }
 {
     let count = set.count;
     let inside = Marks::of(alloc, count, set.members.list())?;
-    let members = Seq::of(added(alloc, count, &inside, member)?);
+    let members = Members::own(Seq::of(added(alloc, count, &inside, member)?));
     Ok(CountedSet { count, members })
 }
 
 /// The set without one member.
 #[inline(never)]
-pub fn without(alloc: Global, set: &CountedSet, member: u32) -> Result<CountedSet, AllocError>
+pub fn without(
+    alloc: Global,
+    set: &CountedSet<'_>,
+    member: u32,
+) -> Result<CountedSet<'static>, AllocError>
     ensures count { IfOk result (λ all. all.count ≡ set.now.count) }
     ensures members { IfOk result (λ all. all.members
         ≡ members_where set.now.count (λ k. not (k == member) && has set.now.members k)) }
 {
     let count = set.count;
     let inside = Marks::of(alloc, count, set.members.list())?;
-    let members = Seq::of(removed(alloc, count, &inside, member)?);
+    let members = Members::own(Seq::of(removed(alloc, count, &inside, member)?));
     Ok(CountedSet { count, members })
 }

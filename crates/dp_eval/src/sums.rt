@@ -8,8 +8,9 @@ ghost use Rattle.dp_eval.specs.Terms.{term_value, choice_of, sum_value};
 ghost use Rattle.dp_eval.specs.Totals.{place_after, total_at};
 
 use crate::ends::EvalEnd;
+use crate::members::copied;
 use crate::numbers::{member_of, ranged};
-use crate::tables::{copied, next_place, number_at, numbers_in, table_counts};
+use crate::tables::{next_place, number_at, numbers_in, table_counts};
 use dp_model::{Model, Seq};
 use std::alloc::{AllocError, Global};
 

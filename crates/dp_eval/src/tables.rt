@@ -9,6 +9,7 @@ ghost use Rattle.dp_eval.specs.Places.{IsPlace, LeadsTo};
 ghost use Rattle.dp_eval.specs.Terms.{at_members};
 
 use crate::ends::EvalEnd;
+use crate::members::Members;
 use crate::numbers::member_of;
 use crate::sets::CountedSet;
 use dp_model::{Cells, FaultKind, Model, PlainState, PlainValue, Seq, TableData, VarKind};
@@ -47,22 +48,22 @@ pub fn number_in(s: &PlainState, v: u32) -> i64
     }
 }
 
-/// The members of the set that a variable has in a state.
+/// The members of the set that a variable has in a state, which lends them.
+pub fn set_lent<'s>(alloc: Global, s: &'s PlainState, v: u32) -> Members<'s>
+    ensures { result ≡ set_in s.now v }
+{
+    match s.values.list().get(v as usize) {
+        Some(PlainValue::Members(set)) => Members::lent(set),
+        Some(PlainValue::Number(_)) | None => Members::own(Seq::of(Vec::new(alloc))),
+    }
+}
+
+/// A copy of the members of the set that a variable has in a state.
 #[inline(never)]
 pub fn set_in(alloc: Global, s: &PlainState, v: u32) -> Result<Seq<u32>, AllocError>
     ensures { IfOk result (λ set. set ≡ set_in s.now v) }
 {
-    match s.values.list().get(v as usize) {
-        Some(PlainValue::Members(set)) => copied(alloc, set),
-        Some(PlainValue::Number(_)) | None => Ok(Seq::of(Vec::new(alloc))),
-    }
-}
-
-/// A copy of a list.
-pub fn copied(alloc: Global, items: &Seq<u32>) -> Result<Seq<u32>, AllocError>
-    ensures { IfOk result (λ copy. copy ≡ items.now) }
-{
-    Ok(Seq::of(Vec::from_slice(alloc, items.list())?))
+    set_lent(alloc, s, v).into_own(alloc)
 }
 
 fn table<'m>(model: &'m Model, t: u32) -> Option<&'m TableData>
@@ -164,13 +165,13 @@ fn truth_at(xs: &[bool], at: Option<usize>) -> bool
     }
 }
 
-fn set_at(alloc: Global, xs: &[Seq<u32>], at: Option<usize>) -> Result<Seq<u32>, AllocError>
-    ensures { IfOk result (λ set. (place : ℕ) → IsPlace place at
-        → set ≡ unwrap_or (slice_get xs.now place) []) }
+fn set_at<'m>(alloc: Global, xs: &'m [Seq<u32>], at: Option<usize>) -> Members<'m>
+    ensures { (place : ℕ) → IsPlace place at
+        → result ≡ unwrap_or (slice_get xs.now place) [] }
 {
     match at {
-        Some(i) if i < xs.len() => copied(alloc, &xs[i]),
-        _ => Ok(Seq::of(Vec::new(alloc))),
+        Some(i) if i < xs.len() => Members::lent(&xs[i]),
+        _ => Members::own(Seq::of(Vec::new(alloc))),
     }
 }
 
@@ -227,21 +228,21 @@ pub fn truth_cell(model: &Model, t: u32, numbers: &Seq<i64>) -> Result<bool, Eva
     Ok(truth_at(truths_in(model, t), place))
 }
 
-/// The cell of a table of sets at these arguments.
+/// The cell of a table of sets at these arguments, which the table lends.
 #[inline(never)]
-pub fn set_cell(
+pub fn set_cell<'m>(
     alloc: Global,
-    model: &Model,
+    model: &'m Model,
     t: u32,
     numbers: &Seq<i64>,
-) -> Result<CountedSet, EvalEnd>
+) -> Result<CountedSet<'m>, EvalEnd>
     ensures count { IfOk result
         (λ set. set.count ≡ count_of model.now (cells_object (cells_of model.now t))) }
     ensures members { AnswersBy (λ (set : CountedSet). set.members) result
         (at_members model.now t (set_cell (cells_of model.now t)) numbers.now) }
 {
     let place = place_in(model, t, numbers.list())?;
-    let members = set_at(alloc, sets_in(model, t), place)?;
+    let members = set_at(alloc, sets_in(model, t), place);
     let count = count_of(model, cells_object(model, t));
     Ok(CountedSet { count, members })
 }

@@ -33,7 +33,7 @@ counted-returns-in_ok-values-in-Cell-clause-members t c =
 pub counted-returns-in_err-values-in-Cell-clause-members : goal.counted-returns-in_err-values-in-Cell-clause-members
 counted-returns-in_err-values-in-Cell-clause-members t c =
     let p : sets.out-SetEx c.args.e.now ≡ sets.SetEx-F.SetEx::Cell c.in-Cell.t c.in-Cell.ns = search (rules, sets.the_lemmas) in
-    set_cell-stops c.args.at.now.model.now c.args.at.now.s.now c.in-Cell.t c.in-Cell.ns c.args.at.now.args.now c.args.e.now c.in_err-values-in-Cell.field-0.0 c.from_residual-in_err-values-in-Cell.result p c.from_residual-in_err-values-in-Cell.ensures.1 c.in_err-values-in-Cell.ensures
+    set_cell-stops c.args.at.now.model.now c.args.at.now.s.now c.in-Cell.t c.in-Cell.ns c.args.at.now.args.now c.args.e.now c.in_err-values-in-Cell.field-0.0 c.from_residual.result p c.from_residual.ensures.1 c.in_err-values-in-Cell.ensures
 
 pub holds-returns-in_ok-values-in-Cell : goal.holds-returns-in_ok-values-in-Cell
 holds-returns-in_ok-values-in-Cell t c =
