@@ -16,6 +16,10 @@ use Rattle.dp_eval.specs.declared.sums.Term.TheVariants.{Number, Members}
 abbrev pub at_members : {A : Type 0} → Model → ℕ → (ℕ → A) → List ℤ → Result A FaultKind
 at_members m t cell numbers = members_of (table_counts m t) numbers >>= λ members. Ok (cell (place_in m t members))
 
+-- the same, where the arguments are operands that may be a fault
+abbrev pub at_operands : {A : Type 0} → Model → ℕ → (ℕ → A) → Result (List ℤ) FaultKind → Result A FaultKind
+at_operands m t cell operands = operands >>= λ numbers. at_members m t cell numbers
+
 abbrev pub term_value : Term → ℤ ⊎ List ℕ
 term_value (Number n) = inl n
 term_value (Members set) = inr set

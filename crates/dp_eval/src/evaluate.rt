@@ -1,13 +1,14 @@
 //! The evaluators, one arm for each form of expression. Operands are evaluated from left to right, and then the
 //! operation is tested.
 
-ghost use Rattle.std.specs.Prelude.{◌≡◌, ◌∷◌, ◌++◌, [], map, IfOk};
+ghost use Rattle.std.specs.Prelude.{◌≡◌, ◌∷◌, ◌++◌, [], map, IfOk, ℤ};
 ghost use Rattle.dp_model.specs.declared.whole.Model.{Model};
 ghost use Rattle.dp_model.specs.declared.parts.PlainState.{PlainState};
-ghost use Rattle.dp_model.specs.Evaluation.{count_of, each_holds, num_value, set_value, cond_value};
+ghost use Rattle.dp_model.specs.Evaluation.{count_of, cells_of, cells_object, number_cell, truth_cell, set_cell, each_holds, num_value, set_value, cond_value};
 ghost use Rattle.dp_eval.specs.Answers.{Answers, AnswersBy};
 ghost use Rattle.dp_eval.specs.Operands.{operated_by, complement_of, with_in, without_in, is_same_as, is_within, is_member_in, is_empty};
-ghost use Rattle.dp_eval.specs.Terms.{num_values, term_value, arg_value, term_values};
+ghost use Rattle.dp_eval.specs.Terms.{at_operands, num_values, term_value, arg_value, term_values};
+ghost use Rattle.smallvec.specs.SmallVec.{SmallVec as Small};
 
 use crate::ends::EvalEnd;
 use crate::numbers::{compares, member_of, operate};
@@ -17,6 +18,7 @@ use crate::sets::{CountedSet, has, is_subset, others, same_members, set_operatio
 use crate::sums::{Term, sum_of};
 use crate::tables::{number_cell, number_in, set_cell, set_lent, truth_cell};
 use dp_model::{Arg, Cond, Model, Num, PlainState, Seq, SetEx, SetOp};
+use smallvec::SmallVec;
 use std::alloc::Global;
 
 /// What expressions are evaluated in: a state of a model, with these values of the parameters.
@@ -103,10 +105,7 @@ fn number(at: &Scene<'_>, e: &Num) -> Result<i64, EvalEnd>
         Num::Fixed(n) => Ok(*n),
         Num::Var(v) => Ok(number_in(at.s, *v)),
         Num::Param(p) => Ok(i64::from(parameter(at.args, *p))),
-        Num::Cell(t, ns) => {
-            let values = numbers(at, ns)?;
-            number_cell(at.model, *t, &values)
-        }
+        Num::Cell(t, ns) => number_in_cell(at, *t, ns),
         Num::Sum(t, ts) => {
             let values = terms(at, ts)?;
             sum_of(at.alloc, at.model, *t, values.list())
@@ -138,10 +137,7 @@ fn counted<'a>(at: &Scene<'a>, e: &SetEx) -> Result<CountedSet<'a>, EvalEnd>
             let members = set_lent(at.alloc, at.s, *v);
             Ok(CountedSet { count, members })
         }
-        SetEx::Cell(t, ns) => {
-            let values = numbers(at, ns)?;
-            set_cell(at.alloc, at.model, *t, &values)
-        }
+        SetEx::Cell(t, ns) => set_in_cell(at, *t, ns),
         SetEx::Op(op, a, b) => {
             let x = counted(at, a.get())?;
             operated(at, *op, &x, b.get())
@@ -238,10 +234,7 @@ fn holds(at: &Scene<'_>, e: &Cond) -> Result<bool, EvalEnd>
 {
     match e {
         Cond::Fixed(b) => Ok(*b),
-        Cond::Cell(t, ns) => {
-            let values = numbers(at, ns)?;
-            truth_cell(at.model, *t, &values)
-        }
+        Cond::Cell(t, ns) => truth_in_cell(at, *t, ns),
         Cond::Numbers(op, a, b) => Ok(compares(*op, number(at, a)?, number(at, b)?)),
         Cond::SameSet(a, b) => {
             let x = counted(at, a)?;
@@ -336,17 +329,54 @@ fn all_hold(at: &Scene<'_>, c: &Cond, members: &[u32]) -> Result<bool, EvalEnd>
     Ok(true)
 }
 
-/// The values of number expressions, in order.
+/// The values of number expressions, in order. Those of a table's arguments are few, and need no allocation.
 #[cycle(eval)]
-#[inline(never)]
-fn numbers(at: &Scene<'_>, ns: &Seq<Num>) -> Result<Seq<i64>, EvalEnd>
-    ensures { Answers result (num_values at.now.model.now at.now.s.now ns.now at.now.args.now) }
+#[inline(always)]
+fn numbers(at: &Scene<'_>, ns: &Seq<Num>) -> Result<SmallVec<i64, 4>, EvalEnd>
+    ensures { AnswersBy (λ (values : Small ℤ). values.items) result
+        (num_values at.now.model.now at.now.s.now ns.now at.now.args.now) }
 {
-    let mut values = Vec::new(at.alloc);
+    let mut values = SmallVec::new(at.alloc);
     for n in ns.list() {
         values.push(number(at, n)?)?;
     }
-    Ok(Seq::of(values))
+    Ok(values)
+}
+
+/// The number in a table's cell, whose arguments are evaluated first.
+#[cycle(eval)]
+#[inline(never)]
+fn number_in_cell(at: &Scene<'_>, t: u32, ns: &Seq<Num>) -> Result<i64, EvalEnd>
+    ensures { Answers result (at_operands at.now.model.now t (number_cell (cells_of at.now.model.now t))
+        (num_values at.now.model.now at.now.s.now ns.now at.now.args.now)) }
+{
+    let values = numbers(at, ns)?;
+    number_cell(at.model, t, values.as_slice())
+}
+
+/// The truth value in a table's cell, whose arguments are evaluated first.
+#[cycle(eval)]
+#[inline(never)]
+fn truth_in_cell(at: &Scene<'_>, t: u32, ns: &Seq<Num>) -> Result<bool, EvalEnd>
+    ensures { Answers result (at_operands at.now.model.now t (truth_cell (cells_of at.now.model.now t))
+        (num_values at.now.model.now at.now.s.now ns.now at.now.args.now)) }
+{
+    let values = numbers(at, ns)?;
+    truth_cell(at.model, t, values.as_slice())
+}
+
+/// The set in a table's cell, whose arguments are evaluated first.
+#[cycle(eval)]
+#[inline(never)]
+fn set_in_cell<'a>(at: &Scene<'a>, t: u32, ns: &Seq<Num>) -> Result<CountedSet<'a>, EvalEnd>
+    ensures count { IfOk result
+        (λ set. set.count ≡ count_of at.now.model.now (cells_object (cells_of at.now.model.now t))) }
+    ensures members { AnswersBy (λ (set : CountedSet). set.members) result
+        (at_operands at.now.model.now t (set_cell (cells_of at.now.model.now t))
+        (num_values at.now.model.now at.now.s.now ns.now at.now.args.now)) }
+{
+    let values = numbers(at, ns)?;
+    set_cell(at.alloc, at.model, t, values.as_slice())
 }
 
 /// An argument of a `sum`.

@@ -210,21 +210,21 @@ fn sets_in(model: &Model, t: u32) -> &[Seq<u32>]
 
 /// The cell of a table of numbers at these arguments.
 #[inline(never)]
-pub fn number_cell(model: &Model, t: u32, numbers: &Seq<i64>) -> Result<i64, EvalEnd>
+pub fn number_cell(model: &Model, t: u32, numbers: &[i64]) -> Result<i64, EvalEnd>
     ensures { Answers result
         (at_members model.now t (number_cell (cells_of model.now t)) numbers.now) }
 {
-    let place = place_in(model, t, numbers.list())?;
+    let place = place_in(model, t, numbers)?;
     Ok(number_at(numbers_in(model, t), place))
 }
 
 /// The cell of a table of truth values at these arguments.
 #[inline(never)]
-pub fn truth_cell(model: &Model, t: u32, numbers: &Seq<i64>) -> Result<bool, EvalEnd>
+pub fn truth_cell(model: &Model, t: u32, numbers: &[i64]) -> Result<bool, EvalEnd>
     ensures { Answers result
         (at_members model.now t (truth_cell (cells_of model.now t)) numbers.now) }
 {
-    let place = place_in(model, t, numbers.list())?;
+    let place = place_in(model, t, numbers)?;
     Ok(truth_at(truths_in(model, t), place))
 }
 
@@ -234,14 +234,14 @@ pub fn set_cell<'m>(
     alloc: Global,
     model: &'m Model,
     t: u32,
-    numbers: &Seq<i64>,
+    numbers: &[i64],
 ) -> Result<CountedSet<'m>, EvalEnd>
     ensures count { IfOk result
         (λ set. set.count ≡ count_of model.now (cells_object (cells_of model.now t))) }
     ensures members { AnswersBy (λ (set : CountedSet). set.members) result
         (at_members model.now t (set_cell (cells_of model.now t)) numbers.now) }
 {
-    let place = place_in(model, t, numbers.list())?;
+    let place = place_in(model, t, numbers)?;
     let members = set_at(alloc, sets_in(model, t), place);
     let count = count_of(model, cells_object(model, t));
     Ok(CountedSet { count, members })

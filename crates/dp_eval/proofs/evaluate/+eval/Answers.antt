@@ -4,7 +4,7 @@ use Rattle.dp_model.specs.declared.trees.Num as nums
 use Rattle.dp_model.specs.declared.trees.SetEx as sets
 use Rattle.dp_model.specs.Evaluation.{range_of}
 use Rattle.dp_eval.proofs.Forall.{all-answers}
-use Rattle.dp_eval.proofs.Cells.{num_cell-answers, num_cell-stops, set_cell-answers, set_cell-stops, cond_cell-answers, cond_cell-stops}
+use Rattle.dp_eval.proofs.Cells.{num_cell-answers, set_cell-answers, cond_cell-answers}
 use Rattle.dp_eval.proofs.evaluate.+eval.Goals as goal
 
 pub holds-returns-in_ok-members-in-All : goal.holds-returns-in_ok-members-in-All
@@ -15,32 +15,17 @@ holds-returns-in_ok-members-in-All t c =
 
 -- cells
 
-pub number-returns-in_ok-values-in-Cell : goal.number-returns-in_ok-values-in-Cell
-number-returns-in_ok-values-in-Cell t c =
+pub number-returns-in-Cell : goal.number-returns-in-Cell
+number-returns-in-Cell t c =
     let p : nums.out-Num c.args.e.now ≡ nums.Num-F.Num::Cell c.in-Cell.t c.in-Cell.ns = search (rules, nums.the_lemmas) in
-    num_cell-answers c.args.at.now.model.now c.args.at.now.s.now c.in-Cell.t c.in-Cell.ns c.args.at.now.args.now c.args.e.now c.in_ok-values-in-Cell.values c.number_cell.result p c.in_ok-values-in-Cell.ensures c.number_cell.ensures
+    num_cell-answers c.args.at.now.model.now c.args.at.now.s.now c.in-Cell.t c.in-Cell.ns c.args.at.now.args.now c.args.e.now c.number_in_cell.result p c.number_in_cell.ensures
 
-pub number-returns-in_err-values-in-Cell : goal.number-returns-in_err-values-in-Cell
-number-returns-in_err-values-in-Cell t c =
-    let p : nums.out-Num c.args.e.now ≡ nums.Num-F.Num::Cell c.in-Cell.t c.in-Cell.ns = search (rules, nums.the_lemmas) in
-    num_cell-stops c.args.at.now.model.now c.args.at.now.s.now c.in-Cell.t c.in-Cell.ns c.args.at.now.args.now c.args.e.now c.in_err-values-in-Cell.field-0.0 c.from_residual.result p c.from_residual.ensures.1 c.in_err-values-in-Cell.ensures
-
-pub counted-returns-in_ok-values-in-Cell-clause-members : goal.counted-returns-in_ok-values-in-Cell-clause-members
-counted-returns-in_ok-values-in-Cell-clause-members t c =
+pub counted-returns-in-Cell-clause-members : goal.counted-returns-in-Cell-clause-members
+counted-returns-in-Cell-clause-members t c =
     let p : sets.out-SetEx c.args.e.now ≡ sets.SetEx-F.SetEx::Cell c.in-Cell.t c.in-Cell.ns = search (rules, sets.the_lemmas) in
-    set_cell-answers c.args.at.now.model.now c.args.at.now.s.now c.in-Cell.t c.in-Cell.ns c.args.at.now.args.now c.args.e.now c.in_ok-values-in-Cell.values c.set_cell.result p c.in_ok-values-in-Cell.ensures c.set_cell.ensures.members
+    set_cell-answers c.args.at.now.model.now c.args.at.now.s.now c.in-Cell.t c.in-Cell.ns c.args.at.now.args.now c.args.e.now c.set_in_cell.result p c.set_in_cell.ensures.members
 
-pub counted-returns-in_err-values-in-Cell-clause-members : goal.counted-returns-in_err-values-in-Cell-clause-members
-counted-returns-in_err-values-in-Cell-clause-members t c =
-    let p : sets.out-SetEx c.args.e.now ≡ sets.SetEx-F.SetEx::Cell c.in-Cell.t c.in-Cell.ns = search (rules, sets.the_lemmas) in
-    set_cell-stops c.args.at.now.model.now c.args.at.now.s.now c.in-Cell.t c.in-Cell.ns c.args.at.now.args.now c.args.e.now c.in_err-values-in-Cell.field-0.0 c.from_residual.result p c.from_residual.ensures.1 c.in_err-values-in-Cell.ensures
-
-pub holds-returns-in_ok-values-in-Cell : goal.holds-returns-in_ok-values-in-Cell
-holds-returns-in_ok-values-in-Cell t c =
+pub holds-returns-in-Cell : goal.holds-returns-in-Cell
+holds-returns-in-Cell t c =
     let p : conds.out-Cond c.args.e.now ≡ conds.Cond-F.Cond::Cell c.in-Cell.t c.in-Cell.ns = search (rules, conds.the_lemmas) in
-    cond_cell-answers c.args.at.now.model.now c.args.at.now.s.now c.in-Cell.t c.in-Cell.ns c.args.at.now.args.now c.args.e.now c.in_ok-values-in-Cell.values c.truth_cell.result p c.in_ok-values-in-Cell.ensures c.truth_cell.ensures
-
-pub holds-returns-in_err-values-in-Cell : goal.holds-returns-in_err-values-in-Cell
-holds-returns-in_err-values-in-Cell t c =
-    let p : conds.out-Cond c.args.e.now ≡ conds.Cond-F.Cond::Cell c.in-Cell.t c.in-Cell.ns = search (rules, conds.the_lemmas) in
-    cond_cell-stops c.args.at.now.model.now c.args.at.now.s.now c.in-Cell.t c.in-Cell.ns c.args.at.now.args.now c.args.e.now c.in_err-values-in-Cell.field-0.0 c.from_residual.result p c.from_residual.ensures.1 c.in_err-values-in-Cell.ensures
+    cond_cell-answers c.args.at.now.model.now c.args.at.now.s.now c.in-Cell.t c.in-Cell.ns c.args.at.now.args.now c.args.e.now c.truth_in_cell.result p c.truth_in_cell.ensures
