@@ -1,5 +1,5 @@
 -- What shows at a glance of nodes: that one of them can't cover another.
-use Rattle.std.specs.Prelude.{◌≡◌, ℕ, ℤ, pos, Bool, true, false, ◌&&◌, List, slice_get, Option, Some, None, nat_le, int_le}
+use Rattle.std.specs.Prelude.{◌≡◌, ℕ, pos, Bool, true, false, ◌&&◌, List, slice_get, Option, Some, None, nat_le, int_le}
 use Rattle.dp_model.specs.Costs.{order_word}
 use Rattle.dp_model.specs.declared.parts.JoinOp.{JoinOp}
 use Rattle.state_layout.specs.Merits.{merit_of}

@@ -21,8 +21,7 @@ use Rattle.state_layout.specs.declared.layout.Slot.{Slot}
 use Rattle.state_layout.specs.declared.node.Node.{Node}
 use Rattle.state_layout.proofs.Deciding.{same_value_decides, same_values_decide, dominates_decides, dominated_signature, dominated_merit}
 use Rattle.dom_store.specs.Covering.{replaces, covers, key_of, IsReflexive, IsTransitive, KeepsKey}
-use Rattle.dom_store.specs.Glances.{IsGlanceOf, may_cover, ShowsAtGlance}
-use Rattle.dom_store.specs.declared.glance.Glance.{Glance}
+use Rattle.dom_store.specs.Glances.{ShowsAtGlance}
 
 both : (a b : Bool) → a ≡ true → b ≡ true → (a && b) ≡ true
 both a b h k = rw (h, k) refl

@@ -12,9 +12,9 @@ ghost use Rattle.state_layout.specs.Conditions.{IsLayoutOf, IsStateOf, IsStateFo
 
 use crate::copies::copy_state;
 use crate::dominance::are_at_least;
+use crate::merits::merit_in;
 use crate::packed::Packed;
 use crate::sames::are_same;
-use crate::merits::merit_in;
 use crate::words::{hash_of, whole_hash_of, words_of};
 use dp_base::Seq;
 use dp_model::{Model as DpModel, ObjectType, PlainState, Preference, VarKind, Variable};

@@ -1,7 +1,6 @@
-use Rattle.std.proofs.Common.{◌<◌, ℕ, Bool, List, length, fold, rules, ap, ◌∙◌}
+use Rattle.std.proofs.Common.{◌<◌, Bool, length, rules}
 use Rattle.state_layout.specs.declared.node.Node.{Node}
 use Rattle.dom_store.specs.Covering.{covers}
-use Rattle.dom_store.specs.Places.{cleared}
 use Rattle.dom_store.proofs.Rows.{none_within, put_count, there_filtered, cleared_by}
 use Rattle.dom_store.proofs.places.put_node.Goals as goal
 
