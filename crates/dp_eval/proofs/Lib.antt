@@ -5,3 +5,4 @@ pub mod Ascending
 pub mod Held
 pub mod Fits
 pub mod ReadFits
+pub mod Overwrites

@@ -13,7 +13,7 @@ ghost use Rattle.smallvec.specs.SmallVec.{SmallVec as Small};
 use crate::ends::EvalEnd;
 use crate::numbers::{compares, member_of, operate};
 use crate::objects::set_count;
-use crate::parameters::{parameter, range_of, with_more};
+use crate::parameters::{parameter, range_of, with_more, write_more};
 use crate::sets::{CountedSet, has, is_subset, others, same_members, set_operation, with, without};
 use crate::sums::{Term, sum_of};
 use crate::tables::{number_cell, number_in, set_cell, set_lent, truth_cell};
@@ -314,8 +314,9 @@ fn all_hold(at: &Scene<'_>, c: &Cond, members: &[u32]) -> Result<bool, EvalEnd>
     ensures { Answers result (each_holds
         (λ k. cond_value at.now.model.now at.now.s.now c.now (at.now.args.now ++ k ∷ [])) members.now) }
 {
+    let mut more = with_more(at.alloc, at.args, 0)?;
     for member in members {
-        let more = with_more(at.alloc, at.args, *member)?;
+        write_more(at.args, *member, &mut more);
         let there = Scene {
             alloc: at.alloc,
             model: at.model,

@@ -58,14 +58,6 @@ pub fn set_lent<'s>(alloc: Global, s: &'s PlainState, v: u32) -> Members<'s>
     }
 }
 
-/// A copy of the members of the set that a variable has in a state.
-#[inline(never)]
-pub fn set_in(alloc: Global, s: &PlainState, v: u32) -> Result<Seq<u32>, AllocError>
-    ensures { IfOk result (λ set. set ≡ set_in s.now v) }
-{
-    set_lent(alloc, s, v).into_own(alloc)
-}
-
 fn table<'m>(model: &'m Model, t: u32) -> Option<&'m TableData>
     ensures { option_copied result ≡ slice_get model.now.tables t }
 {

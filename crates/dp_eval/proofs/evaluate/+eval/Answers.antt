@@ -10,8 +10,8 @@ use Rattle.dp_eval.proofs.evaluate.+eval.Goals as goal
 pub holds-returns-in_ok-members-in-All : goal.holds-returns-in_ok-members-in-All
 holds-returns-in_ok-members-in-All t c =
     let p : conds.out-Cond c.args.e.now ≡ conds.Cond-F.All c.in-All.over c.get-in-All.result.now = search (rules, conds.the_lemmas) in
-    let n : c.deref.result.now ≡ range_of c.args.at.now.model.now c.args.at.now.s.now c.in-All.over = search rules in
-    all-answers c.args.at.now.model.now c.args.at.now.s.now c.in-All.over c.args.e.now c.get-in-All.result.now c.args.at.now.args.now c.deref.result.now c.all_hold.result p n c.all_hold.ensures
+    let n : c.list.result.now ≡ range_of c.args.at.now.model.now c.args.at.now.s.now c.in-All.over = search rules in
+    all-answers c.args.at.now.model.now c.args.at.now.s.now c.in-All.over c.args.e.now c.get-in-All.result.now c.args.at.now.args.now c.list.result.now c.all_hold.result p n c.all_hold.ensures
 
 -- cells
 
