@@ -1,9 +1,10 @@
 #!/usr/bin/env python3
-"""Measures a built solver: python3 tools/speed.py PROGRAM [NAME..]
+"""Measures a built solver: python3 tools/speed.py PROGRAM [NAME..], or python3 tools/speed.py PROGRAM growth
 
 Draws larger problems for the models in models/ (always the same ones), runs the program on them and on generated models with one
 worker and with four, and prints for each run the visits, the seconds of the processor, visits in a second, the largest memory and
-the verdict. A NAME picks the runs whose names begin so. docs/SPEED.md has what was measured."""
+the verdict. A NAME picks the runs whose names begin so. With the word growth it runs four of them with budgets of 100,000, 1,000,000
+and 10,000,000 visits, so that one sees whether time grows with the visits. docs/SPEED.md has what was measured."""
 
 import os
 import random
@@ -122,6 +123,14 @@ DRAWN = [
     ("knapsack of 200", domain("knapsack"), knapsack(200, 4000), ["--budget", "1000000"]),
     ("bins of 24", domain("bin_packing"), bins(24), []),
 ]
+# Those that do not end before they have spent such budgets.
+GROWN = [
+    ("tour of 20, bounds off", TOURS, tour(20, 600), ["--prune", "off"]),
+    ("knapsack of 200", domain("knapsack"), knapsack(200, 4000), []),
+    ("knapsack, bounds off", domain("knapsack"), knapsack(200, 4000), ["--prune", "off"]),
+    ("bins of 40", domain("bin_packing"), bins(40), []),
+]
+BUDGETS = ["100000", "1000000", "10000000"]
 GENERATED = ["gen path 1000 1", "gen pack 200 1", "gen tour 12 1"]
 # A child counts the memory of this program, which it has before it starts.
 OWN_MEMORY = 16
@@ -146,10 +155,20 @@ def print_run(program, name, words):
     print(f"{name:26} {visits or '':9} {seconds:7.2f} s {rate} {room}  {last}", flush=True)
 
 
+def print_growth(program, path):
+    for name, file, problem, more in GROWN:
+        with open(path, "w", encoding="utf-8") as it:
+            it.write(problem)
+        for budget in BUDGETS:
+            print_run(program, name, ["solve", file, path, "--budget", budget, *more])
+
+
 def main():
     program, picked = os.path.abspath(sys.argv[1]), tuple(sys.argv[2:]) or ("",)
     with tempfile.TemporaryDirectory() as room:
         path = os.path.join(room, "problem.yaml")
+        if picked == ("growth",):
+            return print_growth(program, path)
         for workers in ("1", "4"):
             for name, file, problem, more in DRAWN:
                 if name.startswith(picked):

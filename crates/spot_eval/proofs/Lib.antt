@@ -3,3 +3,4 @@ pub mod Grounds
 pub mod Limits
 pub mod Ranges
 pub mod Next
+pub mod Overrides

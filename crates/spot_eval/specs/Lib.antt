@@ -2,3 +2,4 @@ pub mod Answers
 pub mod Looks
 pub mod Moves
 pub mod Ranges
+pub mod Changes

@@ -9,7 +9,7 @@ ghost use Rattle.spot_eval.specs.Answers.{Answers, AnswersBy, at_spot};
 ghost use Rattle.spot_eval.specs.Moves.{effects_at, next_at};
 ghost use Rattle.spot_eval.specs.Ranges.{IsStateIn};
 
-use crate::changes::{copy_values, set_values};
+use crate::changes::changed_values;
 use crate::ends::{SpotEnd, SpotFault};
 use dp_eval::{EvalEnd, eval_num, eval_set};
 use dp_model::{Effect, FaultKind, Model, PlainState, PlainValue, Seq, Spot, Transition, VarKind};
@@ -112,8 +112,7 @@ pub fn next_state(
     ensures state { IsStateIn model.now s.now → IfOk result (λ next. IsStateIn model.now next) }
 {
     let changes = effects_at(alloc, model, number, transition.effects().list(), args, s)?;
-    let mut values = copy_values(alloc, s)?;
-    set_values(&mut values, changes);
+    let values = changed_values(alloc, s, changes)?;
     Ok(PlainState {
         values: Seq::of(values),
     })
