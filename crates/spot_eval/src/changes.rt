@@ -90,3 +90,10 @@ pub(crate) fn changed_values(
     set_values(&mut values, changes);
     Ok(values)
 }
+
+/// The values of a state, once more.
+pub fn copy_values(alloc: Global, s: &PlainState) -> Result<Vec<PlainValue>, AllocError>
+    ensures { IfOk result (λ values. values.items ≡ s.now.values) }
+{
+    changed_values(alloc, s, Vec::new(alloc))
+}

@@ -10,6 +10,7 @@ mod looks;
 mod moves;
 mod tests;
 
+pub use changes::copy_values;
 pub use costs::{cost_at, joined_at};
 pub use effects::{effects_at, next_state};
 pub use ends::{SpotEnd, SpotFault};
