@@ -1,6 +1,6 @@
 -- The layers that are not closed, as one more comes, as one changes, and as the first is taken out.
 use Rattle.std.proofs.Common.{◌≡◌, ℕ, zero, suc, ◌+◌, ◌<◌, ◌⊎◌, inl, inr, Bool, true, false, not, List, [], ◌∷◌, ◌++◌, length, min, get_or, slice_get, slice_set, Option, Some, None, refl, sym, ap, subst, ◌∙◌, arith, if◌then◌else◌}
-use Rattle.std.specs.Prelude.{Result, Ok, Err, IfOk, OnErr, IfSome, ℤ}
+use Rattle.std.specs.Prelude.{Result, Ok, Err, IfOk, OnOk, OnErr, IfSome, ℤ}
 use Rattle.std.specs.List.{remove}
 use Rattle.std.specs.declared.alloc.AllocError.{AllocError}
 use Rattle.std.proofs.lemmas.Option.{slice_get-get_or}
@@ -20,6 +20,11 @@ use Rattle.pass_ledger.proofs.Lists.{has_none, has_head, has_cases, has_right}
 use Rattle.pass_ledger.proofs.Appends.{get_push}
 use Rattle.shard_core.specs.Layers.{nodes_at, busy_at, nodes_of, AreOf, Merges, Splits}
 use Rattle.shard_core.specs.declared.layers.Layer.{Layer}
+
+-- what holds in any case holds where all went well
+pub ok_holds : {A E P : Type 0} (result : Result A E) → P → OnOk result P
+ok_holds (Ok x) p = p
+ok_holds (Err e) p = tt
 
 module _ {B : Type 0} where
   -- one more layer, without nodes

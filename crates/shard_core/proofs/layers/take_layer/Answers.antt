@@ -1,9 +1,9 @@
-use Rattle.std.proofs.Common.{ap, sym, ◌∙◌, subst}
+use Rattle.std.proofs.Common.{◌+◌, ap, sym, ◌∙◌, subst}
 use Rattle.std.specs.Prelude.{List, IfOk}
 use Rattle.state_layout.specs.declared.node.Node.{Node}
-use Rattle.shard_core.specs.Layers.{nodes_of, AreOf, Splits}
+use Rattle.shard_core.specs.Layers.{nodes_of, busy_of, busy_at, AreOf, Splits}
 use Rattle.shard_core.specs.declared.layers.Layer.{Layer}
-use Rattle.shard_core.proofs.Rows.{got, rest_layouts, splits, wide}
+use Rattle.shard_core.proofs.Rows.{got, rest_at, rest_layouts, splits, wide, ok_holds}
 use Rattle.shard_core.proofs.layers.take_layer.Goals as goal
 
 pub returns-clause-layouts : goal.returns-clause-layouts
@@ -22,3 +22,9 @@ returns-clause-split g c = λ p of law covering prune.
 
 pub returns-clause-wide : goal.returns-clause-wide
 returns-clause-wide g c = wide g.L.CostLaw.minimize g.L.CostLaw.operator _ c.take_best.result c.take_best.ensures.floor c.take_best.ensures.fits
+
+pub returns-clause-busy : goal.returns-clause-busy
+returns-clause-busy g c = ok_holds c.take_best.result (λ d.
+    ap (λ (xs : List (Layer g.row.K.Denot)). busy_at xs d) c.remove-layer.ensures.items
+    ∙ rest_at busy_of c.open_layers.new.layers.items c.in_ok-open_layers.ensures.long d
+    ∙ c.open_layers.ensures.busy (d + 1))
