@@ -125,7 +125,7 @@ DRAWN = [
 ]
 # Those that do not end before they have spent such budgets.
 GROWN = [
-    ("tour of 20, bounds off", TOURS, tour(20, 600), ["--prune", "off"]),
+    ("tour of 24, wide windows, bounds off", TOURS, tour(24, 2000), ["--prune", "off"]),
     ("knapsack of 200", domain("knapsack"), knapsack(200, 4000), []),
     ("knapsack, bounds off", domain("knapsack"), knapsack(200, 4000), ["--prune", "off"]),
     ("bins of 40", domain("bin_packing"), bins(40), []),
