@@ -1004,7 +1004,7 @@ REFUSED = [
     ("an object type twice before a variable's name", [("[ o ]", "[ o, o ]"), ("{ name: x,", "{ name: 1x,")], [], "domain:2:15 43 TwiceName"),
     ("the number of an unknown object type before a missing one", [], [("{ o: 2 }", "{ q: 2 }")], "problem:3:19 30 UnknownName"),
     ("no numbers", [], [("object_numbers: { o: 2 }\n", "")], "problem:1:1 40 MissingKey"),
-    ("1,025 members", [], [("o: 2", "o: 1025")], "problem:3:22 49 TooMany"),
+    ("4,097 members", [], [("o: 2", "o: 4097")], "problem:3:22 49 TooMany"),
     ("a variable's name before its type", [("{ name: x, type: integer }", "{ name: x y, type: whole }")], [], "domain:4:13 51 BadName"),
     ("no object type of an element", [("element, object: o", "element")], [], "domain:5:5 40 MissingKey"),
     ("a cell twice before its value", [TABLE], [values("{ t: { 0: 1, [0]: x } }")], "problem:4:28 43 TwiceName"),
@@ -1056,7 +1056,7 @@ FIRST_OF_TWO = [
     # The domain's keys are the first step and the problem's the second.
     ("the domain's missing key before the problem's unknown one", [(STATE_VARIABLES, "")], [("problem:", "problems:")], "domain:1:1 40 MissingKey"),
     # Numbers of members are read in the order of the text, so a limit may go before a later unknown name.
-    ("too many members before an unknown object type", [], [("{ o: 2 }", "{ o: 1025, q: 2 }")], "problem:3:22 49 TooMany"),
+    ("too many members before an unknown object type", [], [("{ o: 2 }", "{ o: 4097, q: 2 }")], "problem:3:22 49 TooMany"),
     # The numbers of members are read before the variables, although they stand in the other file.
     ("a negative number of members before a variable's name", [(X, "{ name: 1x, type: integer }")], [("{ o: 2 }", "{ o: -1 }")], "problem:3:22 42 BadNumber"),
     # Values are read in the order of the key table, where `args` comes before `object`, and not in that of the text.

@@ -3,6 +3,7 @@ use Rattle.std.specs.Prelude.{ℕ, Bool, true, false, ◌&&◌, nat_le, nat_lt, 
 use Rattle.std.specs.Str.{bytes_eq, all_ascii_digits}
 use Rattle.std.specs.Str.Parse.{digits_value}
 use Rattle.clap.specs.Words.{Kinds}
+use Rattle.dp_model.specs.declared.answers.Keep.TheVariants as keeps
 use Rattle.dp_model.specs.declared.answers.Options.{Options}
 use Rattle.model_gen.specs.declared.kinds.GenKind.{GenKind}
 use Rattle.model_gen.specs.Kinds.{kind_named, least_size, most_size}
@@ -32,10 +33,10 @@ abbrev pub on_or_off : Option (List ℕ) → Option Bool
 on_or_off None = Some true
 on_or_off (Some text) = if bytes_eq text (codes "on") then Some true else (if bytes_eq text (codes "off") then Some false else None)
 
--- one worker, 10,000,000 visits and pruning, where nothing else is given
+-- one worker, 10,000,000 visits and pruning, where nothing else is given; the nodes of a layer cover those of the layer alone
 abbrev pub options_of : (workers budget prune : Option (List ℕ)) → Option Options
 options_of workers budget prune =
-    option_and_then (λ w. option_and_then (λ b. option_map (λ p. record { workers = w; budget = b; prune = p })
+    option_and_then (λ w. option_and_then (λ b. option_map (λ p. record { workers = w; budget = b; prune = p; keep = keeps.Layer })
     (on_or_off prune)) (number_or 10000000 1 1099511627776 budget)) (number_or 1 1 64 workers)
 
 -- ---- jobs

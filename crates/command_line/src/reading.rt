@@ -7,7 +7,7 @@ use crate::commands::{found, generate, replay, show, solve};
 use crate::jobs::{Job, WordsEnd};
 use crate::numbers::{number_in, number_or};
 use dp_base::Text;
-use dp_model::Options;
+use dp_model::{Keep, Options};
 use model_gen::GenKind;
 use std::alloc::{AllocError, Global};
 
@@ -46,6 +46,7 @@ fn options_of(workers: Option<&str>, budget: Option<&str>, prune: Option<&str>) 
         workers: workers as u32,
         budget,
         prune,
+        keep: Keep::Layer,
     })
 }
 

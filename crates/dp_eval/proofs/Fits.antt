@@ -189,7 +189,7 @@ module _ (m : Model) (s : PlainState) where
 -- ---- well-typed numbers and sets fit
 
 module _ (m : Model) (s : PlainState) (held : IsTrue (is_state m.objects m.variables s)) where
-  small : (object : ℕ) → type_count m.objects object ≤ 1024
+  small : (object : ℕ) → type_count m.objects object ≤ 4096
   small object = small_objects m object
 
   var-fits : (v : ℕ) → is_number_kind (kind_at m.variables v) ≡ true → InRange (number_held (slice_get s.values v))

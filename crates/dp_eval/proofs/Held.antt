@@ -32,14 +32,14 @@ small_in_range n h = grind (arith, ints)
 
 -- ---- object types
 
-count_small : (o : Option ObjectType) → ((x : ObjectType) → o ≡ Some x → is_small_object x ≡ true) → unwrap_or (option_and_then (λ (x : ObjectType). Some x.count) o) 0 ≤ 1024
-count_small (Some x) h = leb-true x.count 1024 (and_parts (is_name x.name) (nat_le x.count 1024) (h x refl)).1
+count_small : (o : Option ObjectType) → ((x : ObjectType) → o ≡ Some x → is_small_object x ≡ true) → unwrap_or (option_and_then (λ (x : ObjectType). Some x.count) o) 0 ≤ 4096
+count_small (Some x) h = leb-true x.count 4096 (and_parts (is_name x.name) (nat_le x.count 4096) (h x refl)).1
 count_small None h = omega arith
 
-small_count : (os : List ObjectType) → list_all is_small_object os ≡ true → (object : ℕ) → type_count os object ≤ 1024
+small_count : (os : List ObjectType) → list_all is_small_object os ≡ true → (object : ℕ) → type_count os object ≤ 4096
 small_count os h object = count_small (slice_get os object) (λ x e. all_at is_small_object os object x h e)
 
-pub small_objects : (m : Model) (object : ℕ) → type_count m.objects object ≤ 1024
+pub small_objects : (m : Model) (object : ℕ) → type_count m.objects object ≤ 4096
 small_objects m object = small_count m.objects (and_parts (list_all is_small_object m.objects) _ (and_parts (has_most 1024 m.objects) _ m.few_names).1).0 object
 
 -- ---- variables

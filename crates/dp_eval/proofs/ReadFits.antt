@@ -36,7 +36,7 @@ arguments_fit m (over ∷ overs) (k ∷ given) h =
     let rest = arguments_fit m overs given p.1 in
     (ap suc rest.0, and_from (is_in_range (pos k)) (are_given given) (small_in_range k (omega arith)) rest.1)
 
-ascending_given : (count : ℕ) (set : List ℕ) → count ≤ 1024 → is_set_below count set ≡ true → are_given set ≡ true
+ascending_given : (count : ℕ) (set : List ℕ) → count ≤ 4096 → is_set_below count set ≡ true → are_given set ≡ true
 ascending_given count set few h = ascends-below (λ k. is_in_range (pos k)) 0 count set (λ k b. small_in_range k (omega arith)) h
 
 set_var_below : (m : Model) (s : PlainState) (v : ℕ) → IsTrue (is_state m.objects m.variables s) → is_set_kind (kind_at m.variables v) ≡ true → is_set_below (type_count m.objects (kind_object (kind_at m.variables v))) (set_held (slice_get s.values v)) ≡ true

@@ -22,7 +22,7 @@ abbrev pub is_name : List ℕ → Bool
 is_name name = nat_lt 0 (length name) && has_most 200 name
 
 abbrev pub is_small_object : ObjectType → Bool
-is_small_object o = is_name o.name && nat_le o.count 1024
+is_small_object o = is_name o.name && nat_le o.count 4096
 
 -- Words of a table's cells: one for a number or a truth value; for a set one for each two members of its object type,
 -- rounded up, and one at least.

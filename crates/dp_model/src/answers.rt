@@ -115,13 +115,22 @@ pub enum Cause {
     Memory,
 }
 
-/// How a model is to be solved: by how many workers, with at most how many visits, and whether dual bounds and
-/// dominance are used.
+/// Which kept nodes cover a received one: those of its layer, or also those that its shard kept in earlier layers of the
+/// pass.
+#[derive(Clone, Copy, Debug, PartialEq, Eq)]
+pub enum Keep {
+    Layer,
+    All,
+}
+
+/// How a model is to be solved: by how many workers, with at most how many visits, whether dual bounds and dominance are
+/// used, and which kept nodes cover.
 #[derive(Clone, Copy, Debug, PartialEq, Eq)]
 pub struct Options {
     pub workers: u32,
     pub budget: u64,
     pub prune: bool,
+    pub keep: Keep,
 }
 
 impl Options {
@@ -145,4 +154,33 @@ impl Options {
     {
         self.prune
     }
+
+    /// Which kept nodes cover a received one.
+    pub fn keep(&self) -> Keep
+        ensures { result ≡ self.now.keep }
+    {
+        self.keep
+    }
+}
+
+/// What a certificate of a search claims of all legal lists of a model.
+#[derive(Debug, Drop)]
+pub enum Claim {
+    /// This list is legal at its cost, and no legal list is better.
+    Optimal(Found),
+    /// There is no legal list.
+    Infeasible,
+}
+
+/// How the writing of a certificate ended.
+#[derive(Debug, Drop)]
+pub enum Written {
+    /// The whole certificate was written.
+    Whole,
+    /// The visits that were made, which reached the budget before the certificate was whole.
+    Stopped(u64),
+    /// A solution that is better than what was claimed.
+    Better(Found),
+    /// A fault that was met on the way.
+    Fault(FaultAt),
 }

@@ -8,7 +8,9 @@ mod steps;
 mod trees;
 mod whole;
 
-pub use answers::{Cause, FaultAt, FaultKind, Found, Options, Reason, Spot, Verdict};
+pub use answers::{
+    Cause, Claim, FaultAt, FaultKind, Found, Keep, Options, Reason, Spot, Verdict, Written,
+};
 pub use dp_base::{Boxed, Place, Seq, Text};
 pub use parts::{
     BaseCase, Cells, Effect, Ground, JoinOp, ObjectType, PlainState, PlainValue, Preference,

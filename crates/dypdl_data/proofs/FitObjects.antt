@@ -49,17 +49,17 @@ names_fit tree =
 
 abbrev is_count : Option ℕ → Bool
 is_count None = true
-is_count (Some n) = nat_le n 1024
+is_count (Some n) = nat_le n 4096
 
-member_count_fits : (tree : Tree) → IfOk (member_count tree) (λ n. nat_le n 1024 ≡ true)
+member_count_fits : (tree : Tree) → IfOk (member_count tree) (λ n. nat_le n 4096 ≡ true)
 member_count_fits tree =
-    after (λ n. nat_le n 1024 ≡ true) (count_of tree) (λ n. if nat_le n 1024 then Ok n else refuse 49 (tree_place tree))
-    (λ n. if_allowed (λ n. nat_le n 1024 ≡ true) (nat_le n 1024) (Ok n) (refuse 49 (tree_place tree)) (λ e. e) (λ e. tt))
+    after (λ n. nat_le n 4096 ≡ true) (count_of tree) (λ n. if nat_le n 4096 then Ok n else refuse 49 (tree_place tree))
+    (λ n. if_allowed (λ n. nat_le n 4096 ≡ true) (nat_le n 4096) (Ok n) (refuse 49 (tree_place tree)) (λ e. e) (λ e. tt))
 
 one_number : (names : List (List ℕ)) (counts : List (Option ℕ)) (pair : Pair) → list_all is_count counts ≡ true → IfOk (number_step names counts pair) (λ c. list_all is_count c ≡ true)
 one_number names counts pair h =
     after (λ c. list_all is_count c ≡ true) (known_key 30 names pair.key) (λ i. member_count pair.value >>= λ n. Ok (slice_set counts i (Some n)))
-    (λ i. then_if (λ n. nat_le n 1024 ≡ true) (λ c. list_all is_count c ≡ true) (member_count pair.value) (λ n. Ok (slice_set counts i (Some n))) (member_count_fits pair.value)
+    (λ i. then_if (λ n. nat_le n 4096 ≡ true) (λ c. list_all is_count c ≡ true) (member_count pair.value) (λ n. Ok (slice_set counts i (Some n))) (member_count_fits pair.value)
     (λ n small. set_keeps is_count counts i (Some n) h small))
 
 none_fit : (n : ℕ) → list_all is_count (replicate n None) ≡ true
@@ -91,11 +91,11 @@ given_fits at (n ∷ ns) [] done good small fits new few =
 given_fits at (n ∷ ns) (None ∷ counts) done good small fits new few = tt
 given_fits at (n ∷ ns) (Some k ∷ counts) done good small fits new few =
     let o : ObjectType = record { name = n; count = k } in
-    let object : is_small_object o ≡ true = both (is_name n) (nat_le k 1024) (first (is_name n) (list_all is_name ns) good) (first (nat_le k 1024) (list_all is_count counts) small) in
+    let object : is_small_object o ≡ true = both (is_name n) (nat_le k 4096) (first (is_name n) (list_all is_name ns) good) (first (nat_le k 4096) (list_all is_count counts) small) in
     let names : object_names (done ++ o ∷ []) ++ ns ≡ object_names done ++ (n ∷ ns) = ap (λ (xs : List (List ℕ)). xs ++ ns) (map-append (λ (o : ObjectType). o.name) done (o ∷ [])) ∙ append_assoc (object_names done) (n ∷ []) ns in
     let length_is : length (done ++ o ∷ []) ≡ length done + 1 = length-append done (o ∷ []) in
     given_fits at ns counts (done ++ o ∷ [])
-    (second (is_name n) (list_all is_name ns) good) (second (nat_le k 1024) (list_all is_count counts) small)
+    (second (is_name n) (list_all is_name ns) good) (second (nat_le k 4096) (list_all is_count counts) small)
     (all_push is_small_object done o fits object)
     (rw names new) (omega arith)
 

@@ -20,7 +20,7 @@ abbrev pub are_new : (before names : List (List ℕ)) → Bool
 are_new before [] = true
 are_new before (name ∷ names) = not (is_among before name) && are_new (before ++ name ∷ []) names
 
--- at most 1,024 object types of at most 1,024 members, with names of 1 to 200 bytes that are different
+-- at most 1,024 object types of at most 4,096 members, with names of 1 to 200 bytes that are different
 pub record FitObjects (objects : List ObjectType) : Type 0 where
   pub few : IsTrue (has_most 1024 objects)
   pub small : IsTrue (list_all is_small_object objects)

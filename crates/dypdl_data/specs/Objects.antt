@@ -23,7 +23,7 @@ names_of tree = items_or_none 1024 tree >>= λ items. each object_step [] items
 
 -- how many members an object type has
 abbrev pub member_count : Tree → Reads ℕ
-member_count tree = count_of tree >>= λ n. if nat_le n 1024 then Ok n else refuse 49 (tree_place tree)
+member_count tree = count_of tree >>= λ n. if nat_le n 4096 then Ok n else refuse 49 (tree_place tree)
 
 abbrev pub number_step : (names : List (List ℕ)) → (counts : List (Option ℕ)) → Pair → Reads (List (Option ℕ))
 number_step names counts pair = known_key 30 names pair.key >>= λ i. member_count pair.value >>= λ n. Ok (slice_set counts i (Some n))

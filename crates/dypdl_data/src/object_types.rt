@@ -14,7 +14,7 @@ use std::alloc::{AllocError, Global};
 use yaml_tree::{Pair, Tree};
 
 /// How many members an object type may have.
-const MOST_MEMBERS: u64 = 1024;
+const MOST_MEMBERS: u64 = 4096;
 
 /// The object types of a model, and the numbers of their names.
 #[derive(Drop)]

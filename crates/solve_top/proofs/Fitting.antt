@@ -12,6 +12,7 @@ use Rattle.command_line.specs.declared.jobs.Job.TheVariants as jobs
 use Rattle.dp_model.specs.declared.answers.Options.{Options}
 use Rattle.model_gen.specs.Kinds.{kind_named, least_size, most_size}
 use Rattle.model_gen.specs.declared.kinds.GenKind.{GenKind}
+use Rattle.dp_model.specs.declared.answers.Keep.TheVariants as keeps
 use Rattle.pass_ends.specs.Passes.{AreOptions}
 use Rattle.solve_top.specs.Jobs.{JobFits, gen_options}
 
@@ -65,16 +66,16 @@ budget_bounds text n e = or_bounds 10000000 1 1099511627776 text n (record { low
 
 -- ---- options of a search
 
-are_options : (w b : ℕ) (p : Bool) → Within 1 64 w → Within 1 1099511627776 b → AreOptions (record { workers = w; budget = b; prune = p })
+are_options : (w b : ℕ) (p : Bool) → Within 1 64 w → Within 1 1099511627776 b → AreOptions (record { workers = w; budget = b; prune = p; keep = keeps.Layer })
 are_options w b p h k = record { some_workers = h.low; few_workers = h.high; some_budget = k.low; small_budget = k.high }
 
 options_fit : (workers budget prune : Option (List ℕ)) (options : Options) → options_of workers budget prune ≡ Some options → AreOptions options
 options_fit workers budget prune options e =
-    let with_workers = λ (w : ℕ). option_and_then (λ (b : ℕ). option_map (λ (p : Bool). record { workers = w; budget = b; prune = p }) (on_or_off prune)) (number_or 10000000 1 1099511627776 budget) in
+    let with_workers = λ (w : ℕ). option_and_then (λ (b : ℕ). option_map (λ (p : Bool). record { workers = w; budget = b; prune = p; keep = keeps.Layer }) (on_or_off prune)) (number_or 10000000 1 1099511627776 budget) in
     let w = then_some with_workers (number_or 1 1 64 workers) options e in
-    let with_budget = λ (b : ℕ). option_map (λ (p : Bool). record { workers = w.0; budget = b; prune = p }) (on_or_off prune) in
+    let with_budget = λ (b : ℕ). option_map (λ (p : Bool). record { workers = w.0; budget = b; prune = p; keep = keeps.Layer }) (on_or_off prune) in
     let b = then_some with_budget (number_or 10000000 1 1099511627776 budget) options w.2 in
-    let whole : Bool → Options = λ (p : Bool). record { workers = w.0; budget = b.0; prune = p } in
+    let whole : Bool → Options = λ (p : Bool). record { workers = w.0; budget = b.0; prune = p; keep = keeps.Layer } in
     let p = map_some whole (on_or_off prune) options b.2 in
     subst AreOptions p.2 (are_options w.0 b.0 p.0 (workers_bounds workers w.0 w.1) (budget_bounds budget b.0 b.1))
 

@@ -1,5 +1,6 @@
 -- Which jobs words ask for, what fits in them, and which files they read.
 use Rattle.std.specs.Prelude.{◌≡◌, ℕ, ◌≤◌, true, List, [], ◌∷◌, None, Some}
+use Rattle.dp_model.specs.declared.answers.Keep.TheVariants as keeps
 use Rattle.dp_model.specs.declared.answers.Options.{Options}
 use Rattle.command_line.specs.Jobs.{job_of}
 use Rattle.command_line.specs.declared.jobs.Job.{Job}
@@ -24,7 +25,7 @@ names_of (Gen kind size seed workers) = []
 
 -- how a generated model is searched: with pruning, and with the budget that is taken where none is given
 abbrev pub gen_options : ℕ → Options
-gen_options workers = record { workers = workers; budget = 10000000; prune = true }
+gen_options workers = record { workers = workers; budget = 10000000; prune = true; keep = keeps.Layer }
 
 -- what is asked for lies in its range
 abbrev pub JobFits : Job → Type 0

@@ -25,7 +25,7 @@ use crate::loading::{Listed, load, load_listed};
 use crate::replaying::verdict_on;
 use command_line::{Job, WordsEnd, read_words};
 use dp_base::Text;
-use dp_model::{Model, Options};
+use dp_model::{Keep, Model, Options};
 use dp_outside::{Failed, Gate, Shelf, Sink};
 use model_gen::GenKind;
 use solve_passes::{Printing, Status, conclude, run_out, solve, status_after};
@@ -210,6 +210,7 @@ fn solve_generated<R: Wait, S: Sink, G: Gate>(
         workers,
         budget: GENERATED_BUDGET,
         prune: true,
+        keep: Keep::Layer,
     };
     solve(
         rt,
