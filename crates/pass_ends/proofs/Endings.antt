@@ -2,6 +2,7 @@
 use Rattle.std.proofs.Common.{◌≡◌, ℕ, ◌+◌, ◌-◌, ◌≤◌, ◌<◌, ◌^◌, zero, List, [], ◌∷◌, ◌++◌, length, take, drop, Option, None, refl, sym, subst, ◌∙◌, arith}
 use Rattle.std.specs.Prelude.{ℤ}
 use Rattle.std.proofs.lemmas.List.{take-append-drop, length-take-le}
+use Rattle.dp_model.specs.declared.answers.Keep.TheVariants as keeps
 use Rattle.board_words.specs.Steps.{best_known}
 use Rattle.board_words.specs.declared.seat.View.{View}
 use Rattle.dp_claims.specs.Enough.{Has, Different, ArePairs, IsAtMostReached}
@@ -32,7 +33,7 @@ different_front [] ys h = tt
 different_front (x ∷ xs) ys h = (λ there. h.0 (has_left xs ys x there), different_front xs ys h.1)
 
 -- the first so many pairs are as many
-few_reached : (m : Model) (pairs : List (ℕ × PlainState)) → ArePairs m pairs → (n : ℕ) → n ≤ length pairs → IsAtMostReached m n
+few_reached : (m : Model) (pairs : List (ℕ × PlainState)) → ArePairs m keeps.Layer pairs → (n : ℕ) → n ≤ length pairs → IsAtMostReached m keeps.Layer n
 few_reached m pairs are n le =
     let e = take-append-drop n pairs in (
       take n pairs,

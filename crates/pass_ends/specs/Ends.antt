@@ -1,5 +1,6 @@
 -- What the answer of a pass says, by the views of the board's whole seat before and after the pass.
 use Rattle.std.specs.Prelude.{◌≡◌, ℕ, ◌+◌, ◌-◌, ◌^◌, ◌≤◌, ◌<◌, ◌⊎◌, List, [], ◌++◌, length, zero, suc, Option, Some, IfSome, ℤ, pos, ◌≤ℤ◌}
+use Rattle.dp_model.specs.declared.answers.Keep.TheVariants as keeps
 use Rattle.board_words.specs.Steps.{best_known}
 use Rattle.board_words.specs.declared.seat.View.{View}
 use Rattle.dp_claims.specs.Enough.{IsAtMostReached}
@@ -27,7 +28,7 @@ use Rattle.pass_ends.specs.declared.answers.PassEnd.TheVariants as ends
 pub record HasDrawn (m : Model) (before after : View) (visited : ℕ) : Type 0 where
   pub gained : ℕ
   pub drawn : after.drawn ≡ before.drawn + gained
-  pub reached : IsAtMostReached m gained
+  pub reached : IsAtMostReached m keeps.Layer gained
   pub late : after.late ≡ after.drawn - after.limit
   pub visits : visited + (after.drawn - after.limit) ≡ gained + (before.drawn - after.limit)
 

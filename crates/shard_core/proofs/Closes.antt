@@ -11,6 +11,7 @@ use Rattle.std.specs.declared.vec.Vec.{Vec}
 use Rattle.cost_laws.specs.Orders.{IsLawOf}
 use Rattle.dp_claims.specs.Enough.{Has}
 use Rattle.dp_model.specs.Costs.{order_word}
+use Rattle.dp_model.specs.declared.answers.Keep.TheVariants as keeps
 use Rattle.dp_model.specs.declared.parts.JoinOp.{JoinOp}
 use Rattle.dom_store.specs.Contents as store
 use Rattle.dom_store.specs.Order.{IsLeastFloor, better_floor}
@@ -47,6 +48,9 @@ row_of taken = record { kept = taken.kept; dropped = taken.dropped }
 pub apart_in : (p : Pass) (ns : List Node) → store.Apart p.model p.prune ns → Apart p ns
 apart_in p [] h = tt
 apart_in p (n ∷ ns) h = (h.0, apart_in p ns h.1)
+
+none_before : keeps.Layer ≡ keeps.All → ⊥
+none_before e = cc
 
 pub covered_in : (p : Pass) (taken : Taken) (n : Node) → store.IsCovered p.model p.prune (taken.kept ++ taken.dropped) n → IsCovered p (row_of taken) n
 covered_in p taken n h = (h.0, has_cases taken.kept taken.dropped h.0 h.1, h.2)
@@ -213,7 +217,8 @@ module _ {A B : Type 0} where
           few = subst (λ (k : ℕ). length taken.kept ≤ k) st.belongs.share_is splits.few;
           full = λ n h. splits.full n h ∙ st.belongs.share_is;
         };
-        covered = λ n h. covered_in p taken n (splits.covered n (st.collects.all 0 n (subst (λ (l : ℕ). Received p r.start r.received l n) (sym at_layer) h)));
+        is_new = λ n h c. absurd (none_before (sym st.belongs.keep ∙ c.0));
+        covered = λ n h. inl (covered_in p taken n (splits.covered n (st.collects.all 0 n (subst (λ (l : ℕ). Received p r.start r.received l n) (sym at_layer) h))));
       }
 
   pub closes : (p : Pass) (s : Shard A B) (r : ShardRecord) → IsReady p s.me r → Stands p s r → (taken : Taken) → Splits p s.share (nodes_at s.collected.items 0) taken → (collected' : Vec (Layer B) Global) → AreOf s.layout collected'.items

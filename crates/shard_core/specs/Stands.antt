@@ -1,6 +1,7 @@
 -- When a running shard stands for a record of a pass.
 use Rattle.std.specs.Prelude.{◌≡◌, ℕ, ◌+◌, ◌≤◌, ◌<◌, Bool, true, List, [], ◌∷◌, ◌++◌, map, length, get_or, Option, Some, None, ℤ}
 use Rattle.dp_claims.specs.Enough.{Has}
+use Rattle.dp_model.specs.declared.answers.Keep.TheVariants as keeps
 use Rattle.dp_model.specs.declared.parts.JoinOp.{JoinOp}
 use Rattle.dp_model.specs.declared.parts.PlainState.{PlainState}
 use Rattle.cost_laws.specs.Orders.{IsLawOf}
@@ -98,6 +99,7 @@ pub record Belongs (p : Pass) (me shards share : ℕ) (search : Search) (layout 
   pub share_is : share ≡ p.share
   pub model : search.model ≡ p.model
   pub prune : search.prune ≡ p.prune
+  pub keep : p.keep ≡ keeps.Layer
   pub layout_is : IsLayoutOf p.model layout
   pub owner : (state : PlainState) → owner_of layout state shards ≡ p.owner state
   pub inner : StartsInner p

@@ -3,6 +3,7 @@
 ghost use Rattle.std.specs.Prelude.{◌≡◌, ◌↔◌, ℕ, ◌+◌, ◌<◌, ◌≤◌, true, false, IsTrue, List, [], ◌∷◌, ◌++◌, length, get_or, Some, None, ℤ, pos, ◌≤ℤ◌, is_some, IfSome, IfNone, IfOk, IfErr, OnOk, OnErr};
 ghost use Rattle.std.specs.List.{All};
 ghost use Rattle.cost_laws.specs.Orders.{InWideRange, IsLawOf};
+ghost use Rattle.dp_model.specs.declared.answers.Keep.TheVariants as keeps;
 ghost use Rattle.dp_model.specs.declared.parts.PlainState.{PlainState};
 ghost use Rattle.path_log.specs.Paths.{entry, with_step};
 ghost use Rattle.state_layout.specs.Conditions.{IsNodeFor, IsNodeOf};
@@ -117,7 +118,7 @@ impl<'m, L: CostLaw, K: Covers> Shard<'m, L, K> {
         requires law { IsLawOf model.now L.minimize L.operator }
         requires below { shard < options.now.workers }
         requires node { IfSome start (IsNodeOf model.now) }
-        ensures { (p : Pass) → Suited p L.minimize L.operator K.prune K.minimize K.operator → p.model ≡ model.now → p.prune ≡ options.now.prune → p.shards ≡ options.now.workers → p.share ≡ share
+        ensures { (p : Pass) → Suited p L.minimize L.operator K.prune K.minimize K.operator → p.model ≡ model.now → p.prune ≡ options.now.prune → p.keep ≡ keeps.Layer → p.shards ≡ options.now.workers → p.share ≡ share
             → ((state : PlainState) → owner_of (slots_of model.now.objects model.now.variables) state options.now.workers ≡ p.owner state) → StartsInner p → Starts p shard start
             → IfOk result (λ s. (s.me ≡ shard) × Stands p s (fresh p.shards start)) }
     {

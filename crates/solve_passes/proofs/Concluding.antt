@@ -2,6 +2,7 @@
 use Rattle.std.proofs.Common.{◌≡◌, ℕ, ◌+◌, ◌^◌, ◌<◌, ◌≤◌, true, false, Result, Ok, Err, List, [], ◌∷◌, ◌++◌, refl, sym, subst, Option, None, ◌⊎◌, inl, inr, arith}
 use Rattle.std.specs.Prelude.{OnErr, OnOk}
 use Rattle.std.specs.Result.{is_err}
+use Rattle.dp_model.specs.declared.answers.Keep.TheVariants as keeps
 use Rattle.dp_claims.specs.Enough.{IsAtMostReached}
 use Rattle.dp_model.specs.declared.answers.Found.{Found}
 use Rattle.dp_model.specs.declared.answers.Options.{Options}
@@ -38,7 +39,7 @@ module _ (m : Model) (options : Options) (printing : Printing) (before old : Opt
     (h : HistoryOf m printing before old progress)
     (new : IsNew m progress.held found)
     (share : progress.schedule.share ≡ 2 ^ progress.passes)
-    (reached : IsAtMostReached m tally.visited)
+    (reached : IsAtMostReached m keeps.Layer tally.visited)
     (within : progress.visited + tally.visited ≤ options.budget) where
   abbrev this : Pass
   this = pass_of progress found tally.visited tally.dropped

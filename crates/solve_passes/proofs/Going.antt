@@ -1,6 +1,7 @@
 -- What a run came to after a pass, by what is known of the pass.
 use Rattle.std.proofs.Common.{◌≡◌, ℕ, ◌+◌, ◌-◌, ◌*◌, ◌^◌, ◌<◌, ◌≤◌, List, [], ◌∷◌, ◌++◌, sym, ap, ◌∙◌, subst, Option, Some, None, inl, inr, ℤ, pos, arith}
 use Rattle.std.specs.Prelude.{IfNone, IfSome}
+use Rattle.dp_model.specs.declared.answers.Keep.TheVariants as keeps
 use Rattle.board_words.specs.Rules.{IsWhole}
 use Rattle.board_words.specs.Seats.{BoardFacts, IsSeatOf, SeatFacts}
 use Rattle.board_words.specs.Steps.{best_known}
@@ -77,7 +78,7 @@ module _ (m : Model) (options : Options) (board : BoardFacts) (progress : Progre
   pub within : (end : PassEnd) → Made end → progress.visited + (tally_in end).visited ≤ options.budget
   within end made = let h = drawn_in run seat.view after.view end made in omega (arith, h.drawn, h.visits, ongoing.drawn, ongoing.within, limited)
 
-  pub reached : (end : PassEnd) → Made end → IsAtMostReached m (tally_in end).visited
+  pub reached : (end : PassEnd) → Made end → IsAtMostReached m keeps.Layer (tally_in end).visited
   reached end made =
       let h = drawn_in run seat.view after.view end made in
       reached_less m h.gained (tally_in end).visited h.reached (omega (arith, h.drawn, h.visits, ongoing.drawn, ongoing.within, limited))

@@ -6,6 +6,7 @@ use Rattle.std.specs.Option.{option_map, option_to_list}
 use Rattle.std.proofs.lemmas.List.{append-nil}
 use Rattle.std.proofs.lemmas.List.Sums.{sum_by-append}
 use Rattle.std.proofs.lemmas.Grind.{flat_map-append}
+use Rattle.dp_model.specs.declared.answers.Keep.TheVariants as keeps
 use Rattle.dp_claims.specs.Enough.{IsAtMostReached}
 use Rattle.dp_model.specs.Costs.{IsBetter}
 use Rattle.dp_model.specs.declared.answers.Found.{Found}
@@ -42,7 +43,7 @@ dropping_more (q ∷ ps) p d h = (h.0, dropping_more ps p d h.1)
 visits_more : (ps : List Pass) (p : Pass) → visits (ps ++ p ∷ []) ≡ visits ps + p.visited
 visits_more ps p = sum_by-append (λ (q : Pass). q.visited) ps (p ∷ []) ∙ omega arith
 
-reached_more : (m : Model) (ps : List Pass) (p : Pass) → AllByRecursion (λ (q : Pass). IsAtMostReached m q.visited) ps → IsAtMostReached m p.visited → AllByRecursion (λ (q : Pass). IsAtMostReached m q.visited) (ps ++ p ∷ [])
+reached_more : (m : Model) (ps : List Pass) (p : Pass) → AllByRecursion (λ (q : Pass). IsAtMostReached m keeps.Layer q.visited) ps → IsAtMostReached m keeps.Layer p.visited → AllByRecursion (λ (q : Pass). IsAtMostReached m keeps.Layer q.visited) (ps ++ p ∷ [])
 reached_more m [] p h r = (r, tt)
 reached_more m (q ∷ ps) p h r = (h.0, reached_more m ps p h.1 r)
 
@@ -95,7 +96,7 @@ held_more m held fs (Some f) h new = record {
 -- ---- passes
 
 -- one pass more
-pub passes_more : (m : Model) (held : Option Found) (count visited : ℕ) (ps : List Pass) (p : Pass) → Passes m held count visited ps → p.number ≡ count + 1 → p.share ≡ 2 ^ count → IsAtMostReached m p.visited → IsNew m held p.found →
+pub passes_more : (m : Model) (held : Option Found) (count visited : ℕ) (ps : List Pass) (p : Pass) → Passes m held count visited ps → p.number ≡ count + 1 → p.share ≡ 2 ^ count → IsAtMostReached m keeps.Layer p.visited → IsNew m held p.found →
     Passes m (held_after held p.found) (count + 1) (visited + p.visited) (ps ++ p ∷ [])
 passes_more m held count visited ps p h number share reached new =
     let x = held_more m held (solutions_of ps) p.found (record { legal = h.legal; improving = h.improving; last = h.last }) new in

@@ -2,6 +2,7 @@
 use Rattle.std.specs.Prelude.{◌≡◌, ℕ, ◌+◌, ◌*◌, ◌^◌, ◌<◌, ◌≤◌, ◌⊎◌, List, [], ◌∷◌, length, Option, Some, None, IfSome, pos}
 use Rattle.std.specs.List.{flat_map, AllByRecursion}
 use Rattle.std.specs.Option.{option_map, option_to_list}
+use Rattle.dp_model.specs.declared.answers.Keep.TheVariants as keeps
 use Rattle.board_words.specs.Rules.{no_word, IsWhole}
 use Rattle.board_words.specs.Seats.{BoardFacts, SeatFacts, IsSeatOf}
 use Rattle.board_words.specs.Steps.{best_known}
@@ -36,7 +37,7 @@ pub record Passes (m : Model) (held : Option Found) (count visited : ℕ) (ps : 
   pub counted : length ps ≡ count
   pub numbered : NumberedFrom 1 ps
   pub spent : visits ps ≡ visited
-  pub reached : AllByRecursion (λ (p : Pass). IsAtMostReached m p.visited) ps
+  pub reached : AllByRecursion (λ (p : Pass). IsAtMostReached m keeps.Layer p.visited) ps
   pub legal : AllByRecursion (λ (f : Found). Solution m f.steps f.cost) (solutions_of ps)
   pub improving : Improving m.minimize (solutions_of ps)
   pub last : last_cost (solutions_of ps) ≡ option_map (λ (f : Found). f.cost) held
@@ -70,8 +71,8 @@ pub record IsOngoing (m : Model) (options : Options) (board : BoardFacts) (progr
   pub drawn : seat.view.drawn ≡ progress.visited
   pub within : progress.visited ≤ options.budget
   pub best : IsWordOf m (best_known seat.view) progress.held
-  pub few_drawn : (r : ℕ) → AreReachedAtMost m r → progress.visited ≤ progress.passes * r
-  pub narrow : (w : ℕ) → IsWidthAtMost m w → 0 < progress.passes → 2 ^ progress.passes < 2 * w
+  pub few_drawn : (r : ℕ) → AreReachedAtMost m keeps.Layer r → progress.visited ≤ progress.passes * r
+  pub narrow : (w : ℕ) → IsWidthAtMost m keeps.Layer w → 0 < progress.passes → 2 ^ progress.passes < 2 * w
 
 -- ---- one more pass
 

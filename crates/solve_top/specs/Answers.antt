@@ -1,5 +1,6 @@
 -- When a search has to end with what is known of all lists, or for want of memory.
 use Rattle.std.specs.Prelude.{◌≡◌, ℕ, ◌⊎◌, Bool, true, List, Option, Some}
+use Rattle.dp_model.specs.declared.answers.Keep.TheVariants as keeps
 use Rattle.dp_claims.specs.Enough.{IsEnough}
 use Rattle.dp_model.specs.declared.answers.FaultKind.{FaultKind}
 use Rattle.dp_model.specs.declared.answers.Options.{Options}
@@ -20,7 +21,7 @@ MeetsNone m prune = (steps : List ℕ) (spot : Spot) (kind : FaultKind) → Meet
 -- the model can be searched to the end with these options
 pub record CanEnd (m : Model) (options : Options) : Type 0 where
   pub no_fault : MeetsNone m options.prune
-  pub enough : IsEnough m options.budget
+  pub enough : IsEnough m keeps.Layer options.budget
 
 -- optimal, infeasible, or want of memory; or a read or a write failed
 abbrev pub IsSettled : ℕ → Type 0

@@ -14,7 +14,7 @@ pub first_layers-requires : goal.first_layers-requires
 first_layers-requires g c = some_fits c.args.model.now c.in_ok-layout.layout c.in_ok-layout.ensures c.args.start c.requires.node
 
 pub returns : goal.returns
-returns g c = λ p suited model prune shards share owner inner starts.
+returns g c = λ p suited model prune keep shards share owner inner starts.
     let count : c.workers-shards.result ≡ p.shards = c.workers-shards.ensures ∙ sym shards in
     let layout = c.in_ok-layout.ensures in
     let is_layout = subst (λ (m : Model). IsLayoutOf m c.in_ok-layout.layout) (sym model) layout in
@@ -27,6 +27,7 @@ returns g c = λ p suited model prune shards share owner inner starts.
             share_is = sym share;
             model = ap (λ (x : Search). x.model) c.in_ok-expander.ensures ∙ sym model;
             prune = ap (λ (x : Search). x.prune) c.in_ok-expander.ensures ∙ (c.prune.ensures ∙ sym prune);
+            keep = keep;
             layout_is = is_layout;
             owner = λ state. ap (λ (k : ℕ). owner_of c.in_ok-layout.layout state k) c.workers-shards.ensures ∙ (ap (λ (l : Layout). owner_of l state c.args.options.now.workers) layout ∙ owner state);
             inner = inner;
