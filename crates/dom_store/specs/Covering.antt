@@ -4,7 +4,8 @@ use Rattle.dp_model.specs.Costs.{order_word}
 use Rattle.dp_model.specs.declared.parts.JoinOp.{JoinOp}
 use Rattle.dp_model.specs.declared.parts.PlainState.{PlainState}
 use Rattle.state_layout.specs.Tests.{is_same_state, dominates_by}
-use Rattle.state_layout.specs.Signatures.{signature_of, state_words, hash_of}
+use Rattle.state_layout.specs.Signatures.{signature_of, state_words}
+use Rattle.state_layout.specs.Keys.{key_of as words_key}
 use Rattle.state_layout.specs.declared.layout.Slot.{Slot}
 use Rattle.state_layout.specs.declared.node.Node.{Node}
 
@@ -27,10 +28,10 @@ IsTransitive prune minimize operator =
     (slots : List Slot) (a b c : Node)
     → covers prune minimize operator slots a b ≡ true → covers prune minimize operator slots b c ≡ true → covers prune minimize operator slots a c ≡ true
 
--- The key of a node's row: the hash over its state's signature with pruning on, and over all its words with pruning off.
+-- The key of a node's row: that of its state's signature with pruning on, and of all its words with pruning off.
 abbrev pub key_of : (prune : Bool) → List Slot → Node → ℕ
-key_of false slots n = hash_of (state_words slots n.state)
-key_of true slots n = hash_of (signature_of slots n.state)
+key_of false slots n = words_key (state_words slots n.state)
+key_of true slots n = words_key (signature_of slots n.state)
 
 -- a node and what it covers have one key
 abbrev pub KeepsKey : (prune minimize : Bool) → JoinOp → Type 0

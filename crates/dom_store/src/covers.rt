@@ -33,8 +33,8 @@ pub trait Covers {
         ensures test { result ≡ covers prune minimize operator layout.now n.now other.now }
         ensures covering { (m : DpModel) → IsLayoutOf m layout.now → IsLawOf m minimize operator → IsTrue result ↔ CoversIn m prune n.now.state n.now.cost other.now.state other.now.cost };
 
-    /// The key of a node's row, in which the nodes stand that it may cover and that may cover it: the hash over its state's
-    /// signature where states are compared by dominance, and else over all words of the state.
+    /// The key of a node's row, in which the nodes stand that it may cover and that may cover it: that of its state's
+    /// signature where states are compared by dominance, and else of all words of the state.
     fn key(layout: &Layout, n: &Node) -> u64
         requires { IsNodeFor layout.now n.now }
         ensures { result ≡ key_of prune layout.now n.now };
@@ -82,7 +82,7 @@ impl<L: CostLaw> Covers for Exact<L> {
     }
 
     fn key(layout: &Layout, n: &Node) -> u64 {
-        layout.state_hash(&n.state)
+        layout.state_key(&n.state)
     }
 
     fn glance(layout: &Layout, n: &Node) -> Glance {
@@ -115,7 +115,7 @@ impl<L: CostLaw> Covers for Dominating<L> {
     }
 
     fn key(layout: &Layout, n: &Node) -> u64 {
-        layout.signature_hash(&n.state)
+        layout.signature_key(&n.state)
     }
 
     fn glance(layout: &Layout, n: &Node) -> Glance {
