@@ -1,5 +1,5 @@
 -- Which nodes cover which, as a test over a layout and a law of costs, and what such a test keeps.
-use Rattle.std.specs.Prelude.{◌≡◌, ℕ, Bool, true, false, ◌&&◌, List, int_le}
+use Rattle.std.specs.Prelude.{◌≡◌, ℕ, Bool, true, false, ◌&&◌, List, Option, None, ℤ, int_le}
 use Rattle.dp_model.specs.Costs.{order_word}
 use Rattle.dp_model.specs.declared.parts.JoinOp.{JoinOp}
 use Rattle.dp_model.specs.declared.parts.PlainState.{PlainState}
@@ -16,6 +16,10 @@ replaces true slots s other = dominates_by slots s other
 -- A node covers another: its cost so far is no worse, and its state replaces the other's.
 unfoldable pub covers : (prune minimize : Bool) → JoinOp → List Slot → Node → Node → Bool
 covers prune minimize operator slots n other = replaces prune slots n.state other.state && int_le (order_word minimize operator n.cost) (order_word minimize operator other.cost)
+
+-- a node of which only the state and the cost so far are known
+abbrev pub bare : PlainState → Option ℤ → Node
+bare s cost = record { state = s; cost = cost; floor = None; parent = None; transition = 0 }
 
 -- each node covers itself
 abbrev pub IsReflexive : (prune minimize : Bool) → JoinOp → Type 0
