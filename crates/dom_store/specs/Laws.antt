@@ -21,7 +21,7 @@ use Rattle.state_layout.specs.Keys.{key_of as words_key}
 use Rattle.state_layout.specs.declared.layout.Slot.{Slot}
 use Rattle.state_layout.specs.declared.node.Node.{Node}
 use Rattle.state_layout.proofs.Deciding.{same_value_decides, same_values_decide, dominates_decides, dominated_signature, dominated_merit}
-use Rattle.dom_store.specs.Covering.{replaces, covers, key_of, IsReflexive, IsTransitive, KeepsKey}
+use Rattle.dom_store.specs.Covering.{bare, replaces, covers, key_of, IsReflexive, IsTransitive, KeepsKey}
 use Rattle.dom_store.specs.Glances.{ShowsAtGlance}
 
 both : (a b : Bool) → a ≡ true → b ≡ true → (a && b) ≡ true
@@ -161,6 +161,11 @@ state_decides s other = let d = same_values_decide s.values other.values in (λ 
 replaces_decides : (m : Model) (prune : Bool) (s other : PlainState) → Decides (replaces prune (slots_of m.objects m.variables) s other) (Replaces m prune s other)
 replaces_decides m false s other = state_decides s other
 replaces_decides m true s other = dominates_decides m s other
+
+-- only the state and the cost so far of a node count
+pub covers_bare : (prune minimize : Bool) (operator : JoinOp) (slots : List Slot) (n other : Node) → covers prune minimize operator slots (bare n.state n.cost) other ≡ covers prune minimize operator slots n other
+unfolding covers
+covers_bare prune minimize operator slots n other = refl
 
 -- covering by the layout and the law of a model is covering in the model
 pub covers_decides : (m : Model) (prune : Bool) (n other : Node) → Decides (covers prune m.minimize m.join (slots_of m.objects m.variables) n other) (Covers m prune n.state n.cost other.state other.cost)
