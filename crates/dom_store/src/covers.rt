@@ -43,8 +43,8 @@ pub trait Covers {
         requires other { IsNodeFor layout.now other.now }
         ensures { result ≡ covers prune minimize operator layout.now (bare state.now cost) other.now };
 
-    /// The key of a node's row, in which the nodes stand that it may cover and that may cover it: the hash over its state's
-    /// signature where states are compared by dominance, and else over all words of the state.
+    /// The key of a node's row, in which the nodes stand that it may cover and that may cover it: that of its state's
+    /// signature where states are compared by dominance, and else of all words of the state.
     fn key(layout: &Layout, n: &Node) -> u64
         requires { IsNodeFor layout.now n.now }
         ensures { result ≡ key_of prune layout.now n.now };
@@ -92,7 +92,7 @@ impl<L: CostLaw> Covers for Exact<L> {
     }
 
     fn key(layout: &Layout, n: &Node) -> u64 {
-        layout.state_hash(&n.state)
+        layout.state_key(&n.state)
     }
 
     fn glance(layout: &Layout, n: &Node) -> Glance {
@@ -125,7 +125,7 @@ impl<L: CostLaw> Covers for Dominating<L> {
     }
 
     fn key(layout: &Layout, n: &Node) -> u64 {
-        layout.signature_hash(&n.state)
+        layout.signature_key(&n.state)
     }
 
     fn glance(layout: &Layout, n: &Node) -> Glance {
