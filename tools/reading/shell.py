@@ -1,0 +1,157 @@
+"""What the tools share as commands: words, files, errors of one line, and lines of a file with a caret."""
+
+import argparse
+import os
+import subprocess
+import sys
+
+from . import model
+from .places import NAMES, Refused
+
+TOP = os.path.dirname(os.path.dirname(os.path.dirname(os.path.abspath(__file__))))
+MOST_BYTES = 16777216
+WIDTH = 110
+
+
+class Stop(Exception):
+    """An end with one line of why."""
+
+
+class Words(argparse.ArgumentParser):
+    """The words of a tool: an error is one line, and status 2."""
+
+    def __init__(self, about, **more):
+        super().__init__(description=about, formatter_class=argparse.RawDescriptionHelpFormatter, allow_abbrev=False, **more)
+
+    def error(self, message):
+        raise Stop(f"{message} (--help tells more)")
+
+
+def run(name, main):
+    """Runs a tool: whatever ends it is told in one line, with status 2."""
+    sys.setrecursionlimit(30000)
+    status = 2
+    try:
+        status = main(sys.argv[1:]) or 0
+        sys.stdout.flush()
+    except Stop as stop:
+        tell(name, stop)
+    except Refused as refused:
+        what = "list" if refused.file == "list" else "model"
+        tell(name, f"the {what} is refused: {refused.line_printed()}" + (f" ({refused.why})" if refused.why else ""))
+    except BrokenPipeError:
+        os.dup2(os.open(os.devnull, os.O_WRONLY), sys.stdout.fileno())
+    except KeyboardInterrupt:
+        tell(name, "interrupted")
+    except (OSError, UnicodeError, RecursionError, MemoryError) as error:
+        tell(name, f"{type(error).__name__}: {error}")
+    sys.exit(status)
+
+
+def tell(name, what):
+    print(f"{name}: {' '.join(str(what).split())}", file=sys.stderr)
+
+
+def bytes_of(path):
+    """The bytes of a file, or of standard input for `-`."""
+    try:
+        if path == "-":
+            data = sys.stdin.buffer.read()
+        else:
+            with open(path, "rb") as file:
+                data = file.read(MOST_BYTES + 1)
+    except OSError as error:
+        raise Stop(f"{path}: {error.strerror}") from None
+    if len(data) > MOST_BYTES:
+        raise Stop(f"{path}: more than {MOST_BYTES} bytes")
+    return data
+
+
+def model_of(domain, problem):
+    return model.load(bytes_of(domain), bytes_of(problem))
+
+
+def steps_of(data):
+    """The lines of the last solution in a text with what `solve` printed; None where there is none."""
+    rows = data.split(b"\n")
+    found = None
+    for k, row in enumerate(rows):
+        words = row.split(b" ")
+        if len(words) == 3 and words[0] == b"solution" and words[2].isdigit():
+            found = rows[k + 1 : k + 1 + int(words[2])]
+    return None if found is None else b"".join(row + b"\n" for row in found)
+
+
+def list_of(m, path):
+    """The steps of a file with a list, or with what `solve` printed."""
+    data = bytes_of(path)
+    try:
+        return model.read_list(m, data)
+    except Refused:
+        steps = steps_of(data)
+        if steps is None:
+            raise
+        return model.read_list(m, steps)
+
+
+def run_program(program, words):
+    """What a build of the solver prints for these words, and its status."""
+    if not os.path.isfile(program):
+        raise Stop(f"{program}: no such program")
+    try:
+        done = subprocess.run([os.path.abspath(program), *words], stdout=subprocess.PIPE, stderr=subprocess.DEVNULL, stdin=subprocess.DEVNULL, check=False)
+    except OSError as error:
+        raise Stop(f"{program}: {error.strerror}: it is no program that can be run") from None
+    return done.stdout.decode("utf-8", "replace"), done.returncode
+
+
+def files_in(words):
+    """The command and the files among the words of the solver, by their names in refusals."""
+    command, files, k, options = (words[0] if words else ""), [], 1, True
+    while k < len(words):
+        if options and words[k] == "--":
+            options = False
+        elif options and words[k].startswith("--"):
+            k += 0 if "=" in words[k] else 1
+        else:
+            files.append(words[k])
+        k += 1
+    return command, dict(zip(("domain", "problem", "list"), files))
+
+
+# ---- lines with a caret
+
+def visible(text):
+    """A text on one line, without control characters."""
+    return "".join(c if c.isprintable() else " " if c == "\t" else "\ufffd" for c in text)
+
+
+def pointed(data, line, column, last=None):
+    """A line of a file with a caret under the byte of that column, up to the byte before `last`."""
+    rows = (data[3:] if data.startswith(b"\xef\xbb\xbf") else data).split(b"\n")
+    raw = rows[line - 1].removesuffix(b"\r") if line <= len(rows) else b""
+    before = visible(raw[: column - 1].decode("utf-8", "replace"))
+    under = visible(raw[column - 1 : last].decode("utf-8", "replace")) if last else ""
+    text = visible(raw.decode("utf-8", "replace"))
+    start, width = len(before), max(1, len(under))
+    cut = max(0, start - WIDTH // 2)
+    shown = (".." if cut else "") + text[cut : cut + WIDTH] + (".." if len(text) > cut + WIDTH else "")
+    width = min(width, max(1, cut + WIDTH - start))
+    margin = f"{line:5} | "
+    return [margin + shown, " " * 5 + " | " + " " * (start - cut + 2 * bool(cut)) + "^" * width]
+
+
+def pointed_form(data, node, form):
+    """The line with a form of an expression, with carets under it."""
+    start = node.source(form.offset)
+    end = node.source((form.end or form.offset + 1) - 1)
+    last = end[1] if end[0] == start[0] else None
+    rows = pointed(data, start[0], start[1], last)
+    if last is None:
+        raw = data.split(b"\n")[start[0] - 1].rstrip()
+        rows = pointed(data, start[0], start[1], len(raw))
+    return rows
+
+
+def refusal_names():
+    return NAMES

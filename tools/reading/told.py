@@ -1,0 +1,60 @@
+"""Expressions with the values of their parts, and changes of a state, in words."""
+
+from .values import Fault, Values, shown
+
+MOST_PARTS = 8
+
+
+def changes(m, before, after):
+    """What changed of a state, for each variable: None where nothing did."""
+    found = []
+    for v, old, new in zip(m.variables, before, after):
+        if old == new:
+            found.append(None)
+        elif v.kind == "set" and len(old ^ new) < len(new):
+            found.append(" ".join([f"-{k}" for k in sorted(old - new)] + [f"+{k}" for k in sorted(new - old)]))
+        else:
+            found.append(shown(new))
+    return found
+
+
+def values_in(m, tree, state, args, raw):
+    """The parts of an expression with their values, the whole first."""
+    values, found = Values(m), {}
+
+    def look(part):
+        if part.op in ("fixed", "all"):
+            return
+        text = " ".join(raw[part.form.offset : part.form.end].decode("utf-8", "replace").split())
+        if text not in found:
+            try:
+                found[text] = shown(values.of(part, state, args))
+            except Fault as fault:
+                found[text] = f"no value ({fault.kind})"
+        for inner in operands(part):
+            look(inner)
+
+    for inner in operands(tree):
+        look(inner)
+    return list(found.items())[:MOST_PARTS]
+
+
+def operands(tree):
+    if tree.op in ("fixed", "param", "var"):
+        return []
+    if tree.op in ("cell", "sum"):
+        return tree.parts[1]
+    if tree.op == "all":
+        return [tree.parts[1]]
+    return tree.parts
+
+
+def why_false(m, part, state, args):
+    """In words why a condition is false: of a forall for which members, and the values of its parts."""
+    tree, out = part.tree, []
+    if tree.op == "all":
+        members, tree, args = Values(m).counterexample(tree, state, args)
+        if members:
+            out.append("it is false for " + ", ".join(members))
+    out += [f"{text} = {value}" for text, value in values_in(m, tree, state, args, part.node.raw)]
+    return out
