@@ -8,7 +8,7 @@ import re
 from pathlib import Path
 
 GUIDE = "docs/GUIDE.md"
-FILES = "models/deliveries/*.yaml"
+FILES = "models/**/*.yaml"
 NAMES = {"domain": "d", "problem": "p", "list": "l"}
 LAST = " | tail -n 1"
 STATUSES = {

@@ -26,6 +26,7 @@ class Problem:
     of what is better: 1 where more is, -1 where less is."""
 
     folder = domain = problem = ""
+    comes_back = False  # whether lists may come to a state again
     maximize = False
     operator = "+"
     resources = {}
@@ -656,11 +657,79 @@ class VehicleRouting(Problem):
                     ends = (0, *cuts, 7)
                     best = min(best, sum(tours(order[a:b]) for a, b in zip(ends, ends[1:])))
         return best
+class Hall(Problem):
+    """A way through a hall to its exit, with a door that a key opens."""
+
+    folder = "grid"
+    comes_back = True
+    resources = {2: 1}
+    plan = ["#########", "#a..#...#", "#.#.d.#e#", "#.#.#.###", "#..k#...#", "#########"]
+    moves = [("right", 1, 0), ("left", -1, 0), ("down", 0, 1), ("up", 0, -1)]
+
+    def place_of(self, thing):
+        return next((x, y) for y, row in enumerate(self.plan) for x, what in enumerate(row) if what == thing)
+
+    def start(self):
+        return *self.place_of("a"), 0
+
+    def base_cost(self, state):
+        return 0 if state[:2] == self.place_of("e") else None
+
+    def free(self, state):
+        x, y, key = state
+        for name, dx, dy in self.moves:
+            what = self.plan[y + dy][x + dx]
+            if what != "#" and (what != "d" or key):
+                yield name, 1, (x + dx, y + dy, key)
+        if (x, y) == self.place_of("k") and not key:
+            yield "take", 1, (x, y, 1)
+
+    def steps_between(self, start, end, walls):
+        """How many steps a way from one place to another takes, by breadth first search."""
+        reached, steps = {start}, 0
+        while end not in reached:
+            following = reached | {
+                (x + dx, y + dy) for x, y in reached for _, dx, dy in self.moves if self.plan[y + dy][x + dx] not in walls
+            }
+            if following == reached:
+                return math.inf
+            reached, steps = following, steps + 1
+        return steps
+
+    def optimum(self):
+        start, key, end = map(self.place_of, "ake")
+        return min(self.steps_between(start, end, "#d"), self.steps_between(start, key, "#d") + 1 + self.steps_between(key, end, "#"))
+
+
+class KeyBehind(Hall):
+    """With the key behind the door that it opens."""
+
+    problem = "drafts/key_behind.yaml"
+    plan = ["#########", "#a..#...#", "#.#.d.#e#", "#.#.#.###", "#...#..k#", "#########"]
+
+
+class Ladder(Problem):
+    """A step down, and out: with a preference that is dishonest where the nodes of all layers cover."""
+
+    folder, domain, problem = "grid", "drafts/ladder.yaml", "drafts/ladder_from_1.yaml"
+    resources = {0: 1}
+
+    def start(self):
+        return (1,)
+
+    def base_cost(self, state):
+        return 0 if state[0] == 3 else None
+
+    def free(self, state):
+        if state[0] == 1:
+            yield "down", 0, (0,)
+        if state[0] == 0:
+            yield "out", 1, (3,)
 
 
 PROBLEMS = [
     Tour(), Tardiness(), Talent(), AssemblyLine(), GraphClearing(), PickupDelivery(), BinPacking(), Knapsack(), RoundTour(),
-    Deliveries(), JobShop(), VehicleRouting(), ULine(),
+    Deliveries(), JobShop(), VehicleRouting(), ULine(), Hall(),
 ]
-# The deliveries in those files that the guide shows.
-OF_THE_GUIDE = [Deliveries(), PlainDeliveries(), CountedTwice(), TooMuch()]
+# The deliveries, and the ways through a hall, in those files that the guide shows.
+OF_THE_GUIDE = [Deliveries(), PlainDeliveries(), CountedTwice(), TooMuch(), Hall(), KeyBehind(), Ladder()]
