@@ -84,10 +84,10 @@ remembers_more p keep layout old new rows taken h same added =
       keep_is = h.keep_is;
       layout_is = same ∙ h.layout_is;
       nodes_are =
-        added
-        ∙ (ap (λ (ns : List PastNode). ns ++ map past_node (past_with keep taken.kept)) h.nodes_are
-        ∙ (ap (λ (k : Keep). map past_node (past_of p.keep rows) ++ map past_node (past_with k taken.kept)) h.keep_is
-        ∙ (sym (map-append past_node (past_of p.keep rows) (past_with p.keep taken.kept)) ∙ sym (ap (map past_node) (past.grows p.keep rows (row_of taken))))));
+          added
+          ∙ (ap (λ (ns : List PastNode). ns ++ map past_node (past_with keep taken.kept)) h.nodes_are
+          ∙ (ap (λ (k : Keep). map past_node (past_of p.keep rows) ++ map past_node (past_with k taken.kept)) h.keep_is
+          ∙ (sym (map-append past_node (past_of p.keep rows) (past_with p.keep taken.kept)) ∙ sym (ap (map past_node) (past.grows p.keep rows (row_of taken))))));
     }
 
 pub dropped_push : (rows : List LedgerRow) (w : LedgerRow) → all_dropped (rows ++ w ∷ []) ≡ all_dropped rows ++ w.dropped
