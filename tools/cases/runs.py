@@ -10,12 +10,12 @@ A case is its title, its texts, its runs (words, output, status), and its runs o
 the lines before it depend on how the workers of a search take turns."""
 
 import json
-import sys
 from collections import Counter
 from pathlib import Path
 
 import guide_runs
 import models_check
+from asked import asked
 from case_lines import block, entry
 from model_problems import PROBLEMS
 from small_runs import ORDERS, RUNS
@@ -120,4 +120,4 @@ def main(folder):
         file.writelines(out)
 
 
-main(sys.argv[1])
+main(asked(__doc__, 1, 1, "folder")[0])

@@ -12,6 +12,7 @@ import sys
 import tempfile
 from pathlib import Path
 
+from asked import asked
 from case_lines import unescaped_bytes
 
 CRATE = Path("crates/cases_runs")
@@ -77,4 +78,5 @@ def main(program, names):
 
 
 if __name__ == "__main__":
-    main(os.path.abspath(sys.argv[1]), sys.argv[2:])
+    words = asked(__doc__, 1, None, "program")
+    main(os.path.abspath(words[0]), words[1:])
