@@ -2,14 +2,12 @@ use Rattle.std.proofs.Common.{◌≡◌, ℕ, List, Option, ap, ◌∙◌}
 use Rattle.command_line.specs.Jobs.{options_of}
 use Rattle.command_line.proofs.reading.found_options.Goals as goal
 
-options_same : (a b p k a' b' p' k' : Option (List ℕ)) → a ≡ a' → b ≡ b' → p ≡ p' → k ≡ k' → options_of a b p k ≡ options_of a' b' p' k'
-options_same a b p k a' b' p' k' ea eb ep ek =
-    ap (λ (x : Option (List ℕ)). options_of x b p k) ea
-    ∙ (ap (λ (x : Option (List ℕ)). options_of a' x p k) eb
-    ∙ (ap (λ (x : Option (List ℕ)). options_of a' b' x k) ep
-    ∙ ap (λ (x : Option (List ℕ)). options_of a' b' p' x) ek))
+same_options : (a b c d a' b' c' d' : Option (List ℕ)) → a ≡ a' → b ≡ b' → c ≡ c' → d ≡ d' → options_of a b c d ≡ options_of a' b' c' d'
+same_options a b c d a' b' c' d' e f g h =
+    ap (λ (x : Option (List ℕ)). options_of x b c d) e
+    ∙ (ap (λ (x : Option (List ℕ)). options_of a' x c d) f
+    ∙ (ap (λ (x : Option (List ℕ)). options_of a' b' x d) g
+    ∙ ap (λ (x : Option (List ℕ)). options_of a' b' c' x) h))
 
 pub returns : goal.returns
-returns c =
-    c.options_of.ensures
-    ∙ options_same _ _ _ _ _ _ _ _ c.get_str-workers.ensures c.get_str-budget.ensures c.get_str-prune.ensures c.get_str.ensures
+returns c = c.options_of.ensures ∙ same_options _ _ _ _ _ _ _ _ c.get_str-workers.ensures c.get_str-budget.ensures c.get_str-prune.ensures c.get_str.ensures
