@@ -8,7 +8,7 @@ import re
 from pathlib import Path
 
 GUIDE = "docs/GUIDE.md"
-FILES = "models/deliveries/*.yaml"
+FILES = "models/**/*.yaml"
 NAMES = {"domain": "d", "problem": "p", "list": "l"}
 LAST = " | tail -n 1"
 STATUSES = {
@@ -25,13 +25,21 @@ def status_of(text):
 
 def blocks(kind):
     """The pieces of the guide that stand between fences of a kind, without their indent."""
-    guide = Path(GUIDE).read_text(encoding="utf-8")
-    for indent, text in re.findall(rf"^( *)```{kind}\n(.*?)^ *```$", guide, re.DOTALL | re.MULTILINE):
-        yield "".join(line.removeprefix(indent) for line in text.splitlines(True))
+    inside, indent, piece = None, "", []
+    for line in Path(GUIDE).read_text(encoding="utf-8").splitlines(True):
+        text = line.strip()
+        if inside is None and text.startswith("```"):
+            inside, indent, piece = text[3:], line[: line.index("`")], []
+        elif inside is not None and text == "```":
+            if inside == kind:
+                yield "".join(piece)
+            inside = None
+        elif inside is not None:
+            piece.append(line.removeprefix(indent))
 
 
 def commands():
-    """The words of each command, whether its last line is shown alone, and its text."""
+    """The words of each command of the solver, whether its last line is shown alone, and its text."""
     for block in blocks(""):
         for part in re.split(r"^\$ ", block, flags=re.MULTILINE)[1:]:
             command, text = part.split("\n", 1)

@@ -312,6 +312,7 @@ ACCEPTED = [
     ("solve d p --workers 00000000000000000001", JUMP_OUT), ("solve d p --budget 00000000000000000003", JUMP_OUT),
     ("solve d p --", JUMP_OUT), ("solve -- d p", JUMP_OUT), ("solve d -- p", JUMP_OUT), ("solve --prune off -- d p", JUMP_OUT),
     ("solve --budget=3 --prune=off --workers=1 -- d p", JUMP_OUT), ("solve --workers=64 d --budget 1099511627776 p --prune=on", JUMP_OUT),
+    ("solve d p --keep all", JUMP_OUT), ("solve --keep=layer -- d p", JUMP_OUT),
 ]
 STOPPED = ["solve d p --budget 2", "solve --budget=2 -- d p", "solve d --budget 00000000000000000002 p"]
 NO_FILE = [
@@ -323,11 +324,11 @@ MEANINGLESS = [
     # an option twice, without a value, with an empty one, with another option behind it
     "solve d p --prune off --prune on", "solve d p --workers 1 --workers 1", "solve d p --budget=3 --budget=3", "gen path 2 0 --workers=8 --workers 8",
     "solve d p --prune", "solve d p --workers", "solve d p --budget", "solve --prune d p", "solve d p --prune=", "solve d p --workers=", "solve d p --budget=",
-    "solve d p --prune ", "solve d p --workers ", "solve d p --workers --budget 3", "solve d p --budget --workers 3", "solve d p --prune -- off",
+    "solve d p --keep", "solve d p --keep=", "solve d p --keep all --keep all", "solve d p --keep layers", "solve d p --keep All", "solve d p --prune ", "solve d p --workers ", "solve d p --workers --budget 3", "solve d p --budget --workers 3", "solve d p --prune -- off",
     # other names, other cases, other ways to write an option
     "solve d p --work 1", "solve d p --workerss 1", "solve d p --Workers 1", "solve d p --WORKERS=1", "solve d p -workers 1", "solve d p -w1", "solve d p -p off",
     "solve d p ---prune off", "solve d p --=off", "solve d p --prune:off", "solve d p --no-prune", "solve d p --prune\u00e9 off", "solve d p --workers1",
-    "solve d p --gap on", "solve d p --keep all", "show d p --prune off", "replay d p l --workers 1", "gen path 2 0 --budget 3",
+    "solve d p --gap on", "show d p --keep all", "gen path 2 0 --keep all", "show d p --prune off", "replay d p l --workers 1", "gen path 2 0 --budget 3",
     # other values
     "solve d p --prune OFF", "solve d p --prune On", "solve d p --prune 1", "solve d p --prune true", "solve d p --prune=off=on", "solve d p --prune \u043eff",
     "solve d p --prune off,on", "solve d p --prune='off'",

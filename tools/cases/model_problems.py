@@ -3,6 +3,7 @@
 Nothing here reads a model. models_check.py compares the two, and searches the states."""
 
 import math
+from functools import cache
 from itertools import combinations, permutations, product
 
 
@@ -15,11 +16,17 @@ def rows(text):
     return [[int(word) for word in line.split()] for line in text.split("\n")]
 
 
+def distances(points):
+    """The distances between points of a plane, rounded down."""
+    return [[math.isqrt((a - c) ** 2 + (b - d) ** 2) for c, d in points] for a, b in points]
+
+
 class Problem:
     """A problem as states and steps. A state is a tuple; `resources` names its places that are resources, with the sign
     of what is better: 1 where more is, -1 where less is."""
 
     folder = domain = problem = ""
+    comes_back = False  # whether lists may come to a state again
     maximize = False
     operator = "+"
     resources = {}
@@ -499,9 +506,230 @@ class TooMuch(Deliveries):
     demand = [0, 1, 6, 2, 1]
 
 
+class ULine(AssemblyLine):
+    """Tasks on a line in the form of a U: behind all of their predecessors, or before all of their successors."""
+
+    folder = "u_line"
+    cycle, time = 10, [3, 2, 5, 2, 8, 8, 8, 7, 4]
+
+    def fits(self, task, state):
+        left, idle = state
+        after = {other for other, those in self.before.items() if task in those}
+        return self.time[task] <= idle and not (self.before.get(task, set()) & left and after & left)
+
+    def optimum(self):
+        """The fewest stations of all orders in which each task comes behind its predecessors or before its successors."""
+        arcs = [(a, b) for b, those in self.before.items() for a in those]
+
+        def fewest(placed, stations, idle):
+            if len(placed) == len(self.time):
+                return stations
+            found = []
+            for task, time in enumerate(self.time):
+                behind = all(a in placed for a, b in arcs if b == task)
+                ahead = all(b in placed for a, b in arcs if a == task)
+                if task not in placed and (behind or ahead):
+                    opened = time > idle
+                    found.append(fewest(placed | {task}, stations + opened, (self.cycle if opened else idle) - time))
+            return min(found)
+
+        return fewest(frozenset(), 0, 0)
+
+
+class JobShop(Problem):
+    """Jobs on three machines: each is a chain of operations, which all have ended as early as can be."""
+
+    folder = "job_shop"
+    operator = "max"
+    resources = {2: -1, 3: -1, 4: -1, 5: -1}
+    jobs = [[(0, 4), (1, 3), (2, 5)], [(0, 2), (2, 4), (1, 4)], [(1, 3), (0, 5), (2, 2)]]
+    machine, length = zip(*(pair for job in jobs for pair in job))
+
+    def before(self, o):
+        return frozenset(range(o // 3 * 3, o))
+
+    def of_machine(self, m):
+        return frozenset(o for o in range(9) if self.machine[o] == m)
+
+    def start(self):
+        return frozenset(range(9)), frozenset(), 0, 0, 0, 0
+
+    def base_cost(self, state):
+        return None if state[0] else 0
+
+    def free(self, state):
+        left, running, clock, *ends = state
+        for o in sorted(left):
+            if not self.before(o) & (left | running) and not self.of_machine(self.machine[o]) & running:
+                after = [clock + self.length[o] if m == self.machine[o] else end for m, end in enumerate(ends)]
+                yield f"begin {o}", clock + self.length[o], (without(left, o), running | {o}, clock, *after)
+        for m, end in enumerate(ends):
+            if end and all(end <= other for other in ends if other):
+                after = [0 if k == m else other for k, other in enumerate(ends)]
+                yield f"end_{m}", None, (left, running - self.of_machine(m), end, *after)
+
+    def bounds(self, state):
+        left, _, clock, *ends = state
+        of_machines = []
+        for m, end in enumerate(ends):
+            theirs = left & self.of_machine(m)
+            of_machines.append(max(clock, end) + sum(self.length[o] for o in theirs) if theirs else 0)
+        return of_machines + [clock + sum(self.length[o : o // 3 * 3 + 3]) if o in left else 0 for o in range(9)]
+
+    def optimum(self):
+        """The best of all orders of the operations on each machine."""
+        best = math.inf
+        for orders in product(*(permutations(sorted(self.of_machine(m))) for m in range(3))):
+            ends, done = {}, -1
+            while done < len(ends):
+                done = len(ends)
+                for order in orders:
+                    for k, o in enumerate(order):
+                        needed = [*([order[k - 1]] if k else []), *([o - 1] if o % 3 else [])]
+                        if o not in ends and all(other in ends for other in needed):
+                            ends[o] = self.length[o] + max((ends[other] for other in needed), default=0)
+            if len(ends) == 9:
+                best = min(best, max(ends.values()))
+        return best
+
+
+class VehicleRouting(Problem):
+    """Vehicles of one capacity from place 0 to customers, each within its time."""
+
+    folder = "vehicle_routing"
+    resources = {2: -1, 3: -1, 4: -1}
+    fleet, capacity = 3, 10
+    demand = [0, 4, 3, 5, 2, 6, 3, 4]
+    ready, due = [0, 0, 15, 0, 20, 5, 30, 10], [90, 30, 60, 45, 70, 40, 80, 55]
+    service = [0, 3, 3, 3, 3, 3, 3, 3]
+    way = distances([(20, 20), (30, 20), (32, 28), (20, 34), (12, 30), (8, 18), (14, 8), (27, 10)])
+
+    def start(self):
+        return frozenset(range(1, 8)), 0, 0, 0, 1
+
+    def base_cost(self, state):
+        return 0 if not state[0] and state[1] == 0 else None
+
+    def there(self, at, to, time):
+        """When a vehicle is done with a customer, from a place and a time on; None where it comes too late."""
+        comes = time + self.way[at][to]
+        return max(comes, self.ready[to]) + self.service[to] if comes <= self.due[to] else None
+
+    def free(self, state):
+        left, at, load, time, used = state
+        for to in sorted(left):
+            done = self.there(at, to, time)
+            if load + self.demand[to] <= self.capacity and done is not None:
+                yield f"visit {to}", self.way[at][to], (without(left, to), to, load + self.demand[to], done, used)
+        home = time + self.way[at][0]
+        for to in sorted(left):
+            done = self.there(0, to, 0)
+            if at != 0 and used < self.fleet and home <= self.due[0] and done is not None:
+                yield f"send {to}", self.way[at][0] + self.way[0][to], (without(left, to), to, self.demand[to], done, used + 1)
+        if not left and at != 0 and home <= self.due[0]:
+            yield "home", self.way[at][0], (left, 0, load, time, used)
+
+    def bounds(self, state):
+        left, _, load, *_ = state
+        into = [min(self.way[a][b] for a in range(8) if a != b) for b in range(8)]
+        beyond = max(0, sum(self.demand[c] for c in left) - (self.capacity - load))
+        return [sum(into[c] for c in left) + into[0] * (1 + math.ceil(beyond / self.capacity))]
+
+    def optimum(self):
+        """The best of all ways to cut an order of the customers into tours."""
+
+        def tour(customers):
+            if sum(self.demand[c] for c in customers) > self.capacity:
+                return math.inf
+            at = time = total = 0
+            for to in customers:
+                total += self.way[at][to]
+                at, time = to, self.there(at, to, time)
+                if time is None:
+                    return math.inf
+            return total + self.way[at][0] if time + self.way[at][0] <= self.due[0] else math.inf
+
+        tours = cache(tour)
+        best = math.inf
+        for order in permutations(range(1, 8)):
+            for parts in range(self.fleet):
+                for cuts in combinations(range(1, 7), parts):
+                    ends = (0, *cuts, 7)
+                    best = min(best, sum(tours(order[a:b]) for a, b in zip(ends, ends[1:])))
+        return best
+class Hall(Problem):
+    """A way through a hall to its exit, with a door that a key opens."""
+
+    folder = "grid"
+    comes_back = True
+    resources = {2: 1}
+    plan = ["#########", "#a..#...#", "#.#.d.#e#", "#.#.#.###", "#..k#...#", "#########"]
+    moves = [("right", 1, 0), ("left", -1, 0), ("down", 0, 1), ("up", 0, -1)]
+
+    def place_of(self, thing):
+        return next((x, y) for y, row in enumerate(self.plan) for x, what in enumerate(row) if what == thing)
+
+    def start(self):
+        return *self.place_of("a"), 0
+
+    def base_cost(self, state):
+        return 0 if state[:2] == self.place_of("e") else None
+
+    def free(self, state):
+        x, y, key = state
+        for name, dx, dy in self.moves:
+            what = self.plan[y + dy][x + dx]
+            if what != "#" and (what != "d" or key):
+                yield name, 1, (x + dx, y + dy, key)
+        if (x, y) == self.place_of("k") and not key:
+            yield "take", 1, (x, y, 1)
+
+    def steps_between(self, start, end, walls):
+        """How many steps a way from one place to another takes, by breadth first search."""
+        reached, steps = {start}, 0
+        while end not in reached:
+            following = reached | {
+                (x + dx, y + dy) for x, y in reached for _, dx, dy in self.moves if self.plan[y + dy][x + dx] not in walls
+            }
+            if following == reached:
+                return math.inf
+            reached, steps = following, steps + 1
+        return steps
+
+    def optimum(self):
+        start, key, end = map(self.place_of, "ake")
+        return min(self.steps_between(start, end, "#d"), self.steps_between(start, key, "#d") + 1 + self.steps_between(key, end, "#"))
+
+
+class KeyBehind(Hall):
+    """With the key behind the door that it opens."""
+
+    problem = "drafts/key_behind.yaml"
+    plan = ["#########", "#a..#...#", "#.#.d.#e#", "#.#.#.###", "#...#..k#", "#########"]
+
+
+class Ladder(Problem):
+    """A step down, and out: with a preference that is dishonest where the nodes of all layers cover."""
+
+    folder, domain, problem = "grid", "drafts/ladder.yaml", "drafts/ladder_from_1.yaml"
+    resources = {0: 1}
+
+    def start(self):
+        return (1,)
+
+    def base_cost(self, state):
+        return 0 if state[0] == 3 else None
+
+    def free(self, state):
+        if state[0] == 1:
+            yield "down", 0, (0,)
+        if state[0] == 0:
+            yield "out", 1, (3,)
+
+
 PROBLEMS = [
     Tour(), Tardiness(), Talent(), AssemblyLine(), GraphClearing(), PickupDelivery(), BinPacking(), Knapsack(), RoundTour(),
-    Deliveries(),
+    Deliveries(), JobShop(), VehicleRouting(), ULine(), Hall(),
 ]
-# The deliveries in those files that the guide shows.
-OF_THE_GUIDE = [Deliveries(), PlainDeliveries(), CountedTwice(), TooMuch()]
+# The deliveries, and the ways through a hall, in those files that the guide shows.
+OF_THE_GUIDE = [Deliveries(), PlainDeliveries(), CountedTwice(), TooMuch(), Hall(), KeyBehind(), Ladder()]

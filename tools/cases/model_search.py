@@ -10,8 +10,8 @@ DEFAULT_BUDGET = 10_000_000
 class Search:
     """Complete anytime beam search with one worker, and what it prints."""
 
-    def __init__(self, problem, prune=True, budget=DEFAULT_BUDGET):
-        self.problem, self.prune, self.budget = problem, prune, budget
+    def __init__(self, problem, prune=True, budget=DEFAULT_BUDGET, keep="layer"):
+        self.problem, self.prune, self.budget, self.keep = problem, prune, budget, keep
         self.best = math.inf  # the word of the best total so far
         self.drawn = 0
         self.list = ()  # the last that was printed
@@ -38,12 +38,14 @@ class Search:
             signs[i] * a >= signs[i] * b if i in signs else a == b for i, (a, b) in enumerate(zip(state, other))
         )
 
+    def covers(self, node, other):
+        return self.word(node[1]) <= self.word(other[1]) and self.replaces(node[0], other[0])
+
     def add(self, layer, node):
         """Adds a node to a layer, unless one there covers it; what it covers goes."""
-        state, cost = node[0], node[1]
-        if any(self.word(c) <= self.word(cost) and self.replaces(s, state) for s, c, *_ in layer):
+        if any(self.covers(held, node) for held in layer):
             return
-        layer[:] = [n for n in layer if not (self.word(cost) <= self.word(n[1]) and self.replaces(state, n[0]))]
+        layer[:] = [held for held in layer if not self.covers(node, held)]
         layer.append(node)
 
     def is_pruned(self, floor, looked):
@@ -74,10 +76,14 @@ class Search:
         layer = [(start, None, self.floor(start, None), ())]
         visited = dropped = 0
         held = None
+        past = []  # the kept nodes of all layers before, where they cover too
         while layer:
+            layer = [node for node in layer if not any(self.covers(before, node) for before in past)]
             # nodes stand in the order of adding, which a stable sort keeps
             layer.sort(key=lambda n: (self.word(n[1] if n[2] is None else n[2]), self.word(n[1])))
             dropped += len(layer[share:])
+            if self.keep == "all":
+                past += layer[:share]
             following = []
             for node in layer[:share]:
                 looked = self.best

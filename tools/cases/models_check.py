@@ -11,9 +11,9 @@ class with its own states and steps, and as a plain enumeration of all solutions
 For each it asks
 
 - that the best cost of all lists of steps is that of the enumeration;
-- that the dual bounds and the preferences tell the truth in all states that are reached;
+- that the dual bounds and the preferences tell the truth in all states that are reached, a preferred state needing no more steps;
 - that its own complete anytime beam search (model_search.py), with one worker, prints what the README shows and what PROGRAM
-  prints, with pruning and without, and with small budgets; that with several workers the last line is the same; and that lists
+  prints, with pruning and without, with the nodes of a layer kept and with those of all, and with small budgets; that with several workers the last line is the same; and that lists
   of steps are replayed as they should be.
 
 The cases of the file models.txt of crates/cases_runs are written from these runs, by runs.py."""
@@ -24,7 +24,7 @@ import subprocess
 import sys
 from functools import cache
 from glob import glob
-from itertools import permutations
+from itertools import permutations, product
 from pathlib import Path
 
 from model_problems import OF_THE_GUIDE, PROBLEMS
@@ -37,49 +37,66 @@ LAST = "| tail -n 1"
 
 # ---- all states: the best cost, and whether bounds and preferences tell the truth
 
+def states_of(problem):
+    """All allowed states that are reached."""
+    states, new = set(), [problem.start()]
+    while new:
+        state = new.pop()
+        if state not in states and problem.is_allowed(state):
+            states.add(state)
+            if problem.base_cost(state) is None:
+                new += [successor for *_, successor in problem.steps(state)]
+    return states
+
+
+def values_by_length(problem, states):
+    """For each length, until nothing changes, the best cost of what completes a state in at most so many steps; None where nothing does."""
+    values = {state: problem.base_cost(state) for state in states}
+    inner = [state for state in states if problem.base_cost(state) is None]
+    while True:
+        yield values
+        following = dict(values)
+        for state in inner:
+            rests = [(weight, values[successor]) for _, weight, successor in problem.steps(state) if successor in states]
+            costs = [problem.join(weight, rest) for weight, rest in rests if rest is not None]
+            if costs:
+                following[state] = problem.best(costs)
+        if following == values:
+            return
+        values = following
+
+
 def look_through(problem):
-    """The best cost of all lists; how many states, bounds and pairs of states were looked at; and what is not true of them."""
-    values = {}
-
-    def value(state):
-        """The best cost of what completes an allowed state; None where nothing does."""
-        if state not in values:
-            end = problem.base_cost(state)
-            values[state] = None  # no state comes back to itself
-            if end is not None:
-                values[state] = end
-            else:
-                after = [(weight, value(s)) for _, weight, s in problem.steps(state) if problem.is_allowed(s)]
-                costs = [problem.join(weight, rest) for weight, rest in after if rest is not None]
-                values[state] = problem.best(costs) if costs else None
-        return values[state]
-
-    best = value(problem.start())
-    inner = [state for state in values if problem.base_cost(state) is None]
-    wrong = []
-    bounds = pairs = 0
+    """The best cost of all lists; how many states, bounds and pairs of states were looked at; and what is not true of them. Of two
+    states the preferred one must be as good in each number of steps, as is asked where the nodes of all layers cover."""
+    states = states_of(problem)
+    inner = [state for state in states if problem.base_cost(state) is None]
+    search = Search(problem)
+    groups = {}
+    for state in inner:
+        groups.setdefault(tuple(v for i, v in enumerate(state) if i not in problem.resources), []).append(state)
+    pairs = [(a, b) for group in groups.values() for a, b in permutations(group, 2) if search.replaces(a, b)]
+    wrong, bounds = [], 0
+    for values in values_by_length(problem, states):
+        for a, b in pairs:
+            if values[b] is not None and (values[a] is None or problem.better(values[b], values[a])):
+                wrong.append(f"{a} is preferred to {b}: {values[a]}, {values[b]}")
     for state in inner:
         for bound in problem.bounds(state):
             bounds += 1
             if values[state] is not None and problem.better(values[state], bound):
                 wrong.append(f"the bound {bound} of {state}, whose value is {values[state]}")
-    search = Search(problem)
-    groups = {}
-    for state in inner:
-        groups.setdefault(tuple(v for i, v in enumerate(state) if i not in problem.resources), []).append(state)
-    for group in groups.values():
-        for a, b in permutations(group, 2):
-            if search.replaces(a, b):
-                pairs += 1
-                if values[b] is not None and (values[a] is None or problem.better(values[b], values[a])):
-                    wrong.append(f"{a} is preferred to {b}: {values[a]}, {values[b]}")
-    return best, (len(inner), bounds, pairs), wrong
+    return values[problem.start()], (len(inner), bounds, len(pairs)), wrong
 
 
 # ---- the runs of a model, and what they are compared with
 
 BUDGETS = (1, 5, 20)
+LONG_BUDGET = 10_000
 WORKERS = (2, 4)
+WORKERS_OF_ALL = (2, 7)
+KEEPS = {"layer": [], "all": ["--keep", "all"]}
+PRUNES = {True: [], False: ["--prune", "off"]}
 
 
 def files_of(problem):
@@ -89,31 +106,38 @@ def files_of(problem):
 
 
 @cache
-def searched(problem, prune, budget=DEFAULT_BUDGET):
-    search = Search(problem, prune, budget)
+def searched(problem, prune, budget=DEFAULT_BUDGET, keep="layer"):
+    search = Search(problem, prune, budget, keep)
     text, status = search.run()
     return text, status, search.list
 
 
+def keeps_of(problem):
+    """With which nodes kept its searches come to an end: those of all layers, where lists may come to a state again."""
+    return ["all"] if problem.comes_back else ["layer", "all"]
+
+
 def solve_runs(problem):
     """Words behind `solve DOMAIN PROBLEM`, the whole text, the status."""
-    runs = [([], searched(problem, True)[:2]), (["--prune", "off"], searched(problem, False)[:2])]
-    runs += [(["--budget", str(budget)], searched(problem, True, budget)[:2]) for budget in BUDGETS]
-    return [(words, *told) for words, told in runs]
+    for keep in keeps_of(problem):
+        for prune, words in PRUNES.items():
+            yield [*words, *KEEPS[keep]], *searched(problem, prune, keep=keep)[:2]
+    for budget in (*BUDGETS, LONG_BUDGET) if problem.comes_back else BUDGETS:
+        yield ["--budget", str(budget)], *searched(problem, True, budget)[:2]
 
 
 def last_runs(problem):
     """Words behind `solve DOMAIN PROBLEM`, the last line, the status: other workers find other lists first."""
-    for prune in (True, False):
-        text, status, _ = searched(problem, prune)
-        for workers in WORKERS:
-            words = ["--workers", str(workers), *([] if prune else ["--prune", "off"])]
-            yield words, text.splitlines()[-1], status
+    for keep in keeps_of(problem):
+        for prune, words in PRUNES.items():
+            text, status, _ = searched(problem, prune, keep=keep)
+            for workers in WORKERS_OF_ALL if keep == "all" else WORKERS:
+                yield ["--workers", str(workers), *words, *KEEPS[keep]], text.splitlines()[-1], status
 
 
 def replay_runs(problem):
     """Lists, the text, the status: the best list, the same without its last step, with its last step twice, and with its first."""
-    best = searched(problem, True)[2]
+    best = searched(problem, True, keep="all")[2]
     lists = [best, best[:-1], (*best, best[-1]), (best[0], *best)]
     return [("".join(f"{step}\n" for step in steps), *replayed(problem, list(steps))) for steps in lists]
 
@@ -190,8 +214,8 @@ def check(problem, program):
     best, counts, wrong = look_through(problem)
     differences.compare(f"{problem.folder}: the best cost of all lists", optimum, best)
     differences.compare(f"{problem.folder}: honest", [], wrong)
-    for prune in (True, False):
-        text, _, _ = searched(problem, prune)
+    for keep, prune in product(keeps_of(problem), PRUNES):
+        text, _, _ = searched(problem, prune, keep=keep)
         differences.compare(f"{problem.folder}: the verdict", f"verdict optimal {optimum}", text.splitlines()[-1])
     check_texts(f"{MODELS}/{problem.folder}/README.md", [problem], differences)
     if program:

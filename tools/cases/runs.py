@@ -30,6 +30,7 @@ TABLES = [
     ("replay", "replay", 4),
     ("whole", "models", 3),
     ("pruned", "pruned", 3),
+    ("keep", "keep", 4),
     ("field", "field", None),
 ]
 TEXTS = ("domain", "problem", "list")

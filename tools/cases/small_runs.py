@@ -193,6 +193,10 @@ WITHOUT_MEANING = [
     "solve d p --prune off more",
     "Solve d p --prune off",
     "solve d p --prune off --prune off",
+    "solve d p --keep",
+    "solve d p --keep some",
+    "solve d p --keep All",
+    "solve d p --keep all --keep all",
     "solve d p --workers 0",
     "solve d p --workers 65",
     "solve d p --workers +1",
@@ -200,6 +204,7 @@ WITHOUT_MEANING = [
     "solve d p -w 1",
     "replay d p",
     "replay d p l --prune off",
+    "replay d p l --keep all",
     "show d",
     "show d p l",
     "show d p --workers 1",
@@ -222,6 +227,7 @@ WITHOUT_MEANING = [
     "gen path 2 0 --workers 65",
     "gen path 2 0 --budget 5",
     "gen path 2 0 --prune off",
+    "gen path 2 0 --keep all",
 ]
 
 ON = words("solve d p")
@@ -635,6 +641,31 @@ verdict optimal 3
 """
 
 # From 0 to 1 and back, and never to 5.
+# From 0 to 1 at once for 5, or by 2 for 1 and 1; from 1 back to 0 for nothing, or out for 1.
+ROUNDS = """\
+domain: rounds
+state_variables: [ { name: x, type: integer } ]
+transitions:
+  - { name: far, preconditions: [ (= x 0) ], effects: { x: 1 }, cost: (+ cost 5) }
+  - { name: mid, preconditions: [ (= x 0) ], effects: { x: 2 }, cost: (+ cost 1) }
+  - { name: in, preconditions: [ (= x 2) ], effects: { x: 1 }, cost: (+ cost 1) }
+  - { name: back, preconditions: [ (= x 1) ], effects: { x: 0 }, cost: (+ cost 0) }
+  - { name: out, preconditions: [ (= x 1) ], effects: { x: 3 }, cost: (+ cost 1) }
+base_cases: [ [ (= x 3) ] ]
+"""
+
+# Pass 1 keeps 0, 2 and 1 and drops the 1 that costs 5. Pass 2 keeps 0, both states of the next layer, and 1 at its better cost;
+# both times 0 comes again at no less than its cost.
+ROUNDS_OUT = """\
+solution 3 3
+mid
+in
+out
+pass 1 share 1 visited 3 dropped 1
+pass 2 share 2 visited 4 dropped 0
+verdict optimal 3
+"""
+
 FLIP = """\
 domain: flip
 state_variables:
@@ -768,7 +799,23 @@ RULES = [
         [
             (words("solve d p --budget 10"), told("pass 1 share 1 visited 10 dropped 0", "verdict stopped 10"), 11),
             (words("solve d p --budget 1"), told("pass 1 share 1 visited 1 dropped 0", "verdict stopped 1"), 11),
+            # The two states are kept once each, and two visits are enough.
+            (words("solve d p --keep all"), told("pass 1 share 1 visited 2 dropped 0", "verdict infeasible"), 10),
+            (words("solve d p --keep all --budget 2"), told("pass 1 share 1 visited 2 dropped 0", "verdict infeasible"), 10),
+            (words("solve --keep=all --budget 1 d p"), told("pass 1 share 1 visited 1 dropped 0", "verdict stopped 1"), 11),
+            (words("solve d p --keep layer --budget 1"), told("pass 1 share 1 visited 1 dropped 0", "verdict stopped 1"), 11),
         ],
+        [(words(f"solve d p --keep all --workers {workers}"), "verdict infeasible\n", 10) for workers in (1, 2, 7, 64)],
+    ),
+    (
+        "a round that leads back to the target",
+        [("domain", ROUNDS), ("problem", problem("rounds", "x", 0))],
+        [
+            (words("solve d p --prune off --keep all"), ROUNDS_OUT, 0),
+            (words("solve d p --prune off --keep all --budget 8"), ROUNDS_OUT, 0),
+            (words("solve d p --prune on --keep all"), ROUNDS_OUT, 0),
+        ],
+        [(words(f"solve d p --keep all --workers {workers}"), "verdict optimal 3\n", 0) for workers in (1, 2, 7, 64)],
     ),
     (
         "a resource",

@@ -115,7 +115,9 @@ class Parser:
             if token == b")":
                 self.refuse(21, offset, "this bracket closes nothing")
             self.test_word(offset, token)
-            self.refuse(23, offset, "the expression has ended before this")
+            word = token.decode("utf-8")
+            front = f": an operator stands in front of its operands, as ({word} A B)" if word in OPERATORS else ""
+            self.refuse(23, offset, f"the expression has ended before this{front}")
         return form
 
 
@@ -147,8 +149,8 @@ class Scope:
     """The names in force: variables, tables, and parameters, of which the innermost counts."""
 
     def __init__(self, variables, tables, objects):
-        self.variables = {v.name: v for v in reversed(variables)}
-        self.tables = {t.name: t for t in reversed(tables)}
+        self.variables = {v.name: v for v in variables}
+        self.tables = {t.name: t for t in tables}
         self.objects = objects
         self.params = []
 
@@ -242,7 +244,9 @@ class Scope:
         given = len(form.parts) - 1
         if (count is None and given < least) or (count is not None and given != count):
             wanted = f"{least} or more operands" if count is None else f"{count} operand{'s' * (count > 1)}"
-            self.refuse(32, form, f"`{form.parts[0].word}` takes {wanted}, and {given} stand{'s' * (given == 1)} here")
+            called = next((a.word for a, b in zip(form.parts[1:], form.parts[2:]) if a.kind == "word" and b.kind == "list" and a.end == b.offset), None)
+            hint = f"; `{called}(..)` are two operands, and the cell of a table is ({called} ..)" if called else ""
+            self.refuse(32, form, f"`{form.parts[0].word}` takes {wanted}, and {given} stand{'s' * (given == 1)} here{hint}")
         return form.parts[1:]
 
     def head(self, form, wanted, ops):

@@ -72,17 +72,14 @@ def model_of(domain, problem):
 
 
 def steps_of(data):
-    """The lines of a list of steps, or of the last solution in what `solve` printed."""
+    """The lines of the last solution in a text with what `solve` printed; None where there is none."""
     rows = data.split(b"\n")
     found = None
     for k, row in enumerate(rows):
         words = row.split(b" ")
         if len(words) == 3 and words[0] == b"solution" and words[2].isdigit():
             found = rows[k + 1 : k + 1 + int(words[2])]
-    printed = rows and rows[0].split(b" ")[0] in (b"solution", b"pass", b"verdict")
-    if printed and found is None:
-        raise Stop("there is no solution in what was printed")
-    return b"".join(row + b"\n" for row in found) if printed else data
+    return None if found is None else b"".join(row + b"\n" for row in found)
 
 
 def list_of(m, path):
@@ -92,7 +89,7 @@ def list_of(m, path):
         return model.read_list(m, data)
     except Refused:
         steps = steps_of(data)
-        if steps is data:
+        if steps is None:
             raise
         return model.read_list(m, steps)
 

@@ -12,13 +12,14 @@ use std::thread::Threads;
 use std::{fs, io};
 
 /// The files of cases, in the order in which they are run.
-const FILES: [&str; 12] = [
+const FILES: [&str; 13] = [
     "one_variable.txt",
     "first_form.txt",
     "refusals.txt",
     "replay.txt",
     "whole.txt",
     "pruned.txt",
+    "keep.txt",
     "field.txt",
     "small.txt",
     "orders.txt",

@@ -3,6 +3,7 @@ use Rattle.std.specs.Prelude.{ℕ, Bool, true, false, ◌&&◌, nat_le, nat_lt, 
 use Rattle.std.specs.Str.{bytes_eq, all_ascii_digits}
 use Rattle.std.specs.Str.Parse.{digits_value}
 use Rattle.clap.specs.Words.{Kinds}
+use Rattle.dp_model.specs.declared.answers.Keep.{Keep}
 use Rattle.dp_model.specs.declared.answers.Keep.TheVariants as keeps
 use Rattle.dp_model.specs.declared.answers.Options.{Options}
 use Rattle.model_gen.specs.declared.kinds.GenKind.{GenKind}
@@ -33,11 +34,15 @@ abbrev pub on_or_off : Option (List ℕ) → Option Bool
 on_or_off None = Some true
 on_or_off (Some text) = if bytes_eq text (codes "on") then Some true else (if bytes_eq text (codes "off") then Some false else None)
 
--- one worker, 10,000,000 visits and pruning, where nothing else is given; the nodes of a layer cover those of the layer alone
-abbrev pub options_of : (workers budget prune : Option (List ℕ)) → Option Options
-options_of workers budget prune =
-    option_and_then (λ w. option_and_then (λ b. option_map (λ p. record { workers = w; budget = b; prune = p; keep = keeps.Layer })
-    (on_or_off prune)) (number_or 10000000 1 1099511627776 budget)) (number_or 1 1 64 workers)
+abbrev pub layer_or_all : Option (List ℕ) → Option Keep
+layer_or_all None = Some keeps.Layer
+layer_or_all (Some text) = if bytes_eq text (codes "layer") then Some keeps.Layer else (if bytes_eq text (codes "all") then Some keeps.All else None)
+
+-- one worker, 10,000,000 visits, pruning, and nodes that cover those of their layer alone, where nothing else is given
+abbrev pub options_of : (workers budget prune keep : Option (List ℕ)) → Option Options
+options_of workers budget prune keep =
+    option_and_then (λ w. option_and_then (λ b. option_and_then (λ p. option_map (λ k. record { workers = w; budget = b; prune = p; keep = k })
+    (layer_or_all keep)) (on_or_off prune)) (number_or 10000000 1 1099511627776 budget)) (number_or 1 1 64 workers)
 
 -- ---- jobs
 
@@ -46,10 +51,10 @@ abbrev pub unless_fault : Kinds → Option Job → Option Job
 unless_fault [] job = job
 unless_fault (kind ∷ kinds) job = None
 
-abbrev pub solve_job : (domain problem workers budget prune : Option (List ℕ)) → Option Job
-solve_job (Some domain) (Some problem) workers budget prune = option_map (λ options. Solve domain problem options) (options_of workers budget prune)
-solve_job (Some domain) None workers budget prune = None
-solve_job None problem workers budget prune = None
+abbrev pub solve_job : (domain problem workers budget prune keep : Option (List ℕ)) → Option Job
+solve_job (Some domain) (Some problem) workers budget prune keep = option_map (λ options. Solve domain problem options) (options_of workers budget prune keep)
+solve_job (Some domain) None workers budget prune keep = None
+solve_job None problem workers budget prune keep = None
 
 abbrev pub replay_job : (domain problem list : Option (List ℕ)) → Option Job
 replay_job (Some domain) (Some problem) (Some list) = Some (Replay domain problem list)
@@ -78,7 +83,7 @@ unfoldable pub solve_words : List (List ℕ) → Option Job
 solve_words ws =
     unless_fault (faults_in solve ws)
     (solve_job (value_in solve ws (codes "domain")) (value_in solve ws (codes "problem")) (value_in solve ws (codes "workers"))
-    (value_in solve ws (codes "budget")) (value_in solve ws (codes "prune")))
+    (value_in solve ws (codes "budget")) (value_in solve ws (codes "prune")) (value_in solve ws (codes "keep")))
 
 unfoldable pub replay_words : List (List ℕ) → Option Job
 replay_words ws =

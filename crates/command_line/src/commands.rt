@@ -44,7 +44,8 @@ pub(crate) fn solve<'a>(alloc: Global) -> Result<Command<'a>, AllocError>
             .arg(word(alloc, "problem"))?
             .arg(option(alloc, "workers"))?
             .arg(option(alloc, "budget"))?
-            .arg(option(alloc, "prune"))?,
+            .arg(option(alloc, "prune"))?
+            .arg(option(alloc, "keep"))?,
     )
 }
 

@@ -1,7 +1,7 @@
 //! The job that the words ask for.
 
 ghost use Rattle.std.specs.Prelude.{◌≡◌, None, Some, map, option_map, string_bytes, IfOk, IsErrOf};
-ghost use Rattle.command_line.specs.Jobs.{on_or_off, options_of, solve_words, replay_words, show_words, gen_words, gen_job, by_command, job_of};
+ghost use Rattle.command_line.specs.Jobs.{on_or_off, layer_or_all, options_of, solve_words, replay_words, show_words, gen_words, gen_job, by_command, job_of};
 
 use crate::commands::{found, generate, replay, show, solve};
 use crate::jobs::{Job, WordsEnd};
@@ -36,17 +36,34 @@ fn on_or_off(word: Option<&str>) -> Option<bool>
     }
 }
 
-fn options_of(workers: Option<&str>, budget: Option<&str>, prune: Option<&str>) -> Option<Options>
-    ensures { result ≡ options_of (option_map (λ t. t.now) workers.entry) (option_map (λ t. t.now) budget.entry) (option_map (λ t. t.now) prune.entry) }
+/// Which kept nodes cover: those of a layer, where the words say nothing of it.
+fn layer_or_all(word: Option<&str>) -> Option<Keep>
+    ensures { result ≡ layer_or_all (option_map (λ t. t.now) word.entry) }
+{
+    match word {
+        None | Some("layer") => Some(Keep::Layer),
+        Some("all") => Some(Keep::All),
+        Some(_) => None,
+    }
+}
+
+fn options_of(
+    workers: Option<&str>,
+    budget: Option<&str>,
+    prune: Option<&str>,
+    keep: Option<&str>,
+) -> Option<Options>
+    ensures { result ≡ options_of (option_map (λ t. t.now) workers.entry) (option_map (λ t. t.now) budget.entry) (option_map (λ t. t.now) prune.entry) (option_map (λ t. t.now) keep.entry) }
 {
     let workers = number_or(1, 1, MOST_WORKERS, workers)?;
     let budget = number_or(VISITS, 1, MOST_VISITS, budget)?;
     let prune = on_or_off(prune)?;
+    let keep = layer_or_all(keep)?;
     Some(Options {
         workers: workers as u32,
         budget,
         prune,
-        keep: Keep::Layer,
+        keep,
     })
 }
 
@@ -62,7 +79,8 @@ fn solve_words(alloc: Global, words: &Vec<String>) -> Result<Job, WordsEnd>
     };
     let workers = matches.get_str("workers");
     let budget = matches.get_str("budget");
-    let Some(options) = options_of(workers, budget, matches.get_str("prune")) else {
+    let prune = matches.get_str("prune");
+    let Some(options) = options_of(workers, budget, prune, matches.get_str("keep")) else {
         return Err(WordsEnd::Usage);
     };
     Ok(Job::Solve {

@@ -7,3 +7,4 @@ pub mod Promises
 pub mod Ranks
 pub mod Sorting
 pub mod Sharing
+pub mod Sweeping

@@ -16,11 +16,12 @@ use Rattle.dp_claims.specs.Dominance.{Covers, Replaces}
 use Rattle.state_layout.specs.Slots.{slots_of}
 use Rattle.state_layout.specs.Tests.{is_same_value, are_same_values, is_same_state, is_at_most, is_at_least, are_at_least}
 use Rattle.state_layout.specs.Merits.{merit_of}
-use Rattle.state_layout.specs.Signatures.{hash_of, state_words}
+use Rattle.state_layout.specs.Signatures.{state_words}
+use Rattle.state_layout.specs.Keys.{key_of as words_key}
 use Rattle.state_layout.specs.declared.layout.Slot.{Slot}
 use Rattle.state_layout.specs.declared.node.Node.{Node}
 use Rattle.state_layout.proofs.Deciding.{same_value_decides, same_values_decide, dominates_decides, dominated_signature, dominated_merit}
-use Rattle.dom_store.specs.Covering.{replaces, covers, key_of, IsReflexive, IsTransitive, KeepsKey}
+use Rattle.dom_store.specs.Covering.{bare, replaces, covers, key_of, IsReflexive, IsTransitive, KeepsKey}
 use Rattle.dom_store.specs.Glances.{ShowsAtGlance}
 
 both : (a b : Bool) → a ≡ true → b ≡ true → (a && b) ≡ true
@@ -106,8 +107,8 @@ replaces_trans false slots a b c h k = same_values_trans a.values b.values c.val
 replaces_trans true slots a b c h k = all_trans slots a.values b.values c.values h k
 
 replaces_key : (prune : Bool) (slots : List Slot) (n other : Node) → replaces prune slots n.state other.state ≡ true → key_of prune slots n ≡ key_of prune slots other
-replaces_key false slots n other h = ap (λ (xs : List PlainValue). hash_of (state_words slots (record { values = xs }))) ((same_values_decide n.state.values other.state.values).0 h)
-replaces_key true slots n other h = ap hash_of (dominated_signature slots n.state other.state h)
+replaces_key false slots n other h = ap (λ (xs : List PlainValue). words_key (state_words slots (record { values = xs }))) ((same_values_decide n.state.values other.state.values).0 h)
+replaces_key true slots n other h = ap words_key (dominated_signature slots n.state other.state h)
 
 same_merit : (slots : List Slot) (a b : PlainState) → is_same_state a b ≡ true → merit_of slots b ≤ℤ merit_of slots a
 same_merit slots a b h =
@@ -160,6 +161,11 @@ state_decides s other = let d = same_values_decide s.values other.values in (λ 
 replaces_decides : (m : Model) (prune : Bool) (s other : PlainState) → Decides (replaces prune (slots_of m.objects m.variables) s other) (Replaces m prune s other)
 replaces_decides m false s other = state_decides s other
 replaces_decides m true s other = dominates_decides m s other
+
+-- only the state and the cost so far of a node count
+pub covers_bare : (prune minimize : Bool) (operator : JoinOp) (slots : List Slot) (n other : Node) → covers prune minimize operator slots (bare n.state n.cost) other ≡ covers prune minimize operator slots n other
+unfolding covers
+covers_bare prune minimize operator slots n other = refl
 
 -- covering by the layout and the law of a model is covering in the model
 pub covers_decides : (m : Model) (prune : Bool) (n other : Node) → Decides (covers prune m.minimize m.join (slots_of m.objects m.variables) n other) (Covers m prune n.state n.cost other.state other.cost)

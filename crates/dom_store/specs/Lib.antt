@@ -4,3 +4,4 @@ pub mod Laws
 pub mod Contents
 pub mod Places
 pub mod Order
+pub mod Past

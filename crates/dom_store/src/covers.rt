@@ -6,14 +6,14 @@ ghost use Rattle.dp_model.specs.declared.parts.JoinOp.{JoinOp};
 ghost use Rattle.dp_model.specs.declared.whole.Model.{Model as DpModel};
 ghost use Rattle.dp_claims.specs.Dominance.{Covers as CoversIn};
 ghost use Rattle.cost_laws.specs.Orders.{IsLawOf};
-ghost use Rattle.state_layout.specs.Conditions.{IsLayoutOf, IsNodeFor};
-ghost use Rattle.dom_store.specs.Covering.{covers, key_of, IsReflexive, IsTransitive, KeepsKey};
+ghost use Rattle.state_layout.specs.Conditions.{IsLayoutOf, IsPackedFor, IsNodeFor};
+ghost use Rattle.dom_store.specs.Covering.{bare, covers, key_of, IsReflexive, IsTransitive, KeepsKey};
 ghost use Rattle.dom_store.specs.Glances.{IsGlanceOf, ShowsAtGlance};
 ghost use Rattle.dom_store.specs.Laws.{reflexive, transitive, one_key, shows_at_glance};
 
 use crate::glance::{Glance, glance_of};
 use cost_laws::CostLaw;
-use state_layout::{Layout, Node};
+use state_layout::{Layout, Node, Packed};
 use std::marker::PhantomData;
 
 /// When a node covers another.
@@ -31,10 +31,20 @@ pub trait Covers {
         requires left { IsNodeFor layout.now n.now }
         requires right { IsNodeFor layout.now other.now }
         ensures test { result ≡ covers prune minimize operator layout.now n.now other.now }
-        ensures covering { (m : DpModel) → IsLayoutOf m layout.now → IsLawOf m minimize operator → IsTrue result ↔ CoversIn m prune n.now.state n.now.cost other.now.state other.now.cost };
+        ensures covering { (m : DpModel) → IsLayoutOf m layout.now → IsLawOf m minimize operator → IsTrue result ↔ CoversIn m prune n.now.state n.now.cost other.now.state other.now.cost }
+    {
+        Self::covers_from(layout, &n.state, n.cost, other)
+    }
 
-    /// The key of a node's row, in which the nodes stand that it may cover and that may cover it: the hash over its state's
-    /// signature where states are compared by dominance, and else over all words of the state.
+    /// Whether a node of this state and this cost so far covers another: nothing else of it counts.
+    fn covers_from(layout: &Layout, state: &Packed, cost: Option<i64>, other: &Node) -> bool
+        requires state { IsPackedFor layout.now state.now }
+        requires cost { IfSome cost InRange }
+        requires other { IsNodeFor layout.now other.now }
+        ensures { result ≡ covers prune minimize operator layout.now (bare state.now cost) other.now };
+
+    /// The key of a node's row, in which the nodes stand that it may cover and that may cover it: that of its state's
+    /// signature where states are compared by dominance, and else of all words of the state.
     fn key(layout: &Layout, n: &Node) -> u64
         requires { IsNodeFor layout.now n.now }
         ensures { result ≡ key_of prune layout.now n.now };
@@ -77,12 +87,12 @@ impl<L: CostLaw> Covers for Exact<L> {
 
     ghost shows_at_glance = { shows_at_glance false L.minimize L.operator };
 
-    fn covers(layout: &Layout, n: &Node, other: &Node) -> bool {
-        layout.same(&n.state, &other.state) && is_no_worse::<L>(n, other)
+    fn covers_from(layout: &Layout, state: &Packed, cost: Option<i64>, other: &Node) -> bool {
+        layout.same(state, &other.state) && is_no_worse::<L>(cost, other.cost)
     }
 
     fn key(layout: &Layout, n: &Node) -> u64 {
-        layout.state_hash(&n.state)
+        layout.state_key(&n.state)
     }
 
     fn glance(layout: &Layout, n: &Node) -> Glance {
@@ -110,12 +120,12 @@ impl<L: CostLaw> Covers for Dominating<L> {
 
     ghost shows_at_glance = { shows_at_glance true L.minimize L.operator };
 
-    fn covers(layout: &Layout, n: &Node, other: &Node) -> bool {
-        layout.dominates(&n.state, &other.state) && is_no_worse::<L>(n, other)
+    fn covers_from(layout: &Layout, state: &Packed, cost: Option<i64>, other: &Node) -> bool {
+        layout.dominates(state, &other.state) && is_no_worse::<L>(cost, other.cost)
     }
 
     fn key(layout: &Layout, n: &Node) -> u64 {
-        layout.signature_hash(&n.state)
+        layout.signature_key(&n.state)
     }
 
     fn glance(layout: &Layout, n: &Node) -> Glance {
@@ -123,11 +133,11 @@ impl<L: CostLaw> Covers for Dominating<L> {
     }
 }
 
-// whether the cost so far of a node is no worse than that of another
-fn is_no_worse<L: CostLaw>(n: &Node, other: &Node) -> bool
-    requires left { IfSome n.now.cost InRange }
-    requires right { IfSome other.now.cost InRange }
-    ensures { result ≡ int_le (order_word L.minimize L.operator n.now.cost) (order_word L.minimize L.operator other.now.cost) }
+// whether a cost so far is no worse than another
+fn is_no_worse<L: CostLaw>(cost: Option<i64>, other: Option<i64>) -> bool
+    requires left { IfSome cost InRange }
+    requires right { IfSome other InRange }
+    ensures { result ≡ int_le (order_word L.minimize L.operator cost) (order_word L.minimize L.operator other) }
 {
-    L::word(n.cost) <= L::word(other.cost)
+    L::word(cost) <= L::word(other)
 }

@@ -5,12 +5,17 @@ mod covers;
 mod glance;
 mod keeping;
 mod order;
+mod past;
+mod past_node;
 mod places;
 mod store;
+mod sweep;
 mod taking;
 
 pub use covers::{Covers, Dominating, Exact};
 pub use glance::Glance;
 pub use keeping::Added;
+pub use past::PastStore;
+pub use past_node::PastNode;
 pub use store::DomStore;
 pub use taking::Taken;

@@ -1,6 +1,6 @@
 //! The store of a layer's nodes.
 
-ghost use Rattle.std.specs.Prelude.{◌≡◌, ◌+◌, ◌++◌, [], if◌then◌else◌, length, min, IfOk, OnOk, IfErr, OnErr};
+ghost use Rattle.std.specs.Prelude.{◌≡◌, ◌+◌, ◌++◌, ◌⊎◌, [], if◌then◌else◌, length, min, IfOk, OnOk, IfErr, OnErr};
 ghost use Rattle.dp_claims.specs.Enough.{Has};
 ghost use Rattle.dp_model.specs.declared.whole.Model.{Model as DpModel};
 ghost use Rattle.cost_laws.specs.Orders.{IsLawOf};
@@ -9,10 +9,13 @@ ghost use Rattle.state_layout.specs.declared.node.Node.{Node};
 ghost use Rattle.dom_store.specs.Covering.{covers};
 ghost use Rattle.dom_store.specs.Contents.{is_covered, with_node, IsCovered, Apart};
 ghost use Rattle.dom_store.specs.Order.{IsOrdering, IsLeastFloor};
+ghost use Rattle.dom_store.specs.Past.{covers_past, not_past, IsPast};
 
 use crate::covers::Covers;
 use crate::glance::Glance;
 use crate::keeping::{Added, add_node};
+use crate::past::PastStore;
+use crate::sweep::clear_past;
 use crate::taking::{Taken, take_nodes};
 use cost_laws::CostLaw;
 use dp_base::Seq;
@@ -83,6 +86,19 @@ impl<K: Covers> DomStore<K> {
             &mut self.count,
             node,
         )
+    }
+
+    /// Takes out the nodes that the past covers. The others stay in their order. It takes no memory.
+    pub fn drop_past(&mut self, layout: &Layout, past: &PastStore<K>)
+        requires layout { layout.now ≡ self.old.layout }
+        requires past { past.now.layout ≡ layout.now }
+        ensures nodes { self.new.nodes ≡ not_past (covers_past K.prune K.minimize K.operator layout.now) past.now.nodes self.old.nodes }
+        ensures layout { self.new.layout ≡ self.old.layout }
+        ensures left { (m : DpModel) → IsLayoutOf m layout.now → IsLawOf m K.minimize K.operator → (n : Node) → Has self.old.nodes n → Has self.new.nodes n ⊎ IsPast m K.prune past.now.nodes n }
+        ensures news { (m : DpModel) → IsLayoutOf m layout.now → IsLawOf m K.minimize K.operator → (n : Node) → Has self.new.nodes n → IsPast m K.prune past.now.nodes n → ⊥ }
+    {
+        let gone = clear_past::<K>(layout, &mut self.places, past);
+        self.count -= gone;
     }
 
     /// Takes all nodes out, in order: by the word of the floor, or of the cost so far where there is no floor; then by the

@@ -2,7 +2,7 @@
 use Rattle.std.proofs.Common.{◌≡◌, ℕ, ◌+◌, ◌-◌, ◌≤◌, ◌<◌, ◌^◌, zero, List, [], ◌∷◌, ◌++◌, length, take, drop, Option, None, refl, sym, subst, ◌∙◌, arith}
 use Rattle.std.specs.Prelude.{ℤ}
 use Rattle.std.proofs.lemmas.List.{take-append-drop, length-take-le}
-use Rattle.dp_model.specs.declared.answers.Keep.TheVariants as keeps
+use Rattle.dp_model.specs.declared.answers.Keep.{Keep}
 use Rattle.board_words.specs.Steps.{best_known}
 use Rattle.board_words.specs.declared.seat.View.{View}
 use Rattle.dp_claims.specs.Enough.{Has, Different, ArePairs, IsAtMostReached}
@@ -33,8 +33,8 @@ different_front [] ys h = tt
 different_front (x ∷ xs) ys h = (λ there. h.0 (has_left xs ys x there), different_front xs ys h.1)
 
 -- the first so many pairs are as many
-few_reached : (m : Model) (pairs : List (ℕ × PlainState)) → ArePairs m keeps.Layer pairs → (n : ℕ) → n ≤ length pairs → IsAtMostReached m keeps.Layer n
-few_reached m pairs are n le =
+few_reached : (m : Model) (keep : Keep) (pairs : List (ℕ × PlainState)) → ArePairs m keep pairs → (n : ℕ) → n ≤ length pairs → IsAtMostReached m keep n
+few_reached m keep pairs are n le =
     let e = take-append-drop n pairs in (
       take n pairs,
       record {
@@ -53,12 +53,12 @@ module _ (p : Pass) (records : List ShardRecord) (before after : View) (tally : 
   counted : IsCounted p records
   counted = enough p records left.inner left.together
 
-  pub drew : HasDrawn p.model before after tally.visited
+  pub drew : HasDrawn p.model p.keep before after tally.visited
   drew =
       record {
         gained = left.gained;
         drawn = left.drawn;
-        reached = few_reached p.model (kept_pairs records p.shards) counted.kept left.gained left.few_drawn;
+        reached = few_reached p.model p.keep (kept_pairs records p.shards) counted.kept left.gained left.few_drawn;
         late = left.late;
         visits = left.visits;
       }

@@ -1,6 +1,6 @@
 -- What the answer of a pass says, by the views of the board's whole seat before and after the pass.
 use Rattle.std.specs.Prelude.{◌≡◌, ℕ, ◌+◌, ◌-◌, ◌^◌, ◌≤◌, ◌<◌, ◌⊎◌, List, [], ◌++◌, length, zero, suc, Option, Some, IfSome, ℤ, pos, ◌≤ℤ◌}
-use Rattle.dp_model.specs.declared.answers.Keep.TheVariants as keeps
+use Rattle.dp_model.specs.declared.answers.Keep.{Keep}
 use Rattle.board_words.specs.Steps.{best_known}
 use Rattle.board_words.specs.declared.seat.View.{View}
 use Rattle.dp_claims.specs.Enough.{IsAtMostReached}
@@ -24,11 +24,11 @@ use Rattle.pass_ends.specs.declared.answers.PassEnd.TheVariants as ends
 -- ---- of every answer
 
 -- The numbers that a pass drew are no more than there are pairs of a length and an inner state that a path of this length leads
--- to. Of the whole run's numbers those are late that are not below the budget, and the others were visits.
-pub record HasDrawn (m : Model) (before after : View) (visited : ℕ) : Type 0 where
+-- to; where nodes kept in earlier layers cover too, lean paths. Of the whole run's numbers those are late that are not below the budget, and the others were visits.
+pub record HasDrawn (m : Model) (keep : Keep) (before after : View) (visited : ℕ) : Type 0 where
   pub gained : ℕ
   pub drawn : after.drawn ≡ before.drawn + gained
-  pub reached : IsAtMostReached m keeps.Layer gained
+  pub reached : IsAtMostReached m keep gained
   pub late : after.late ≡ after.drawn - after.limit
   pub visits : visited + (after.drawn - after.limit) ≡ gained + (before.drawn - after.limit)
 
@@ -80,5 +80,5 @@ pub record IsHalted (p : Pass) (before after : View) (cause : Cause) (best : Opt
 -- ---- the answer
 
 abbrev pub IsPassEnd : Pass → View → View → PassEnd → Type 0
-IsPassEnd p before after (ends.Closed visited dropped floor best) = HasDrawn p.model before after visited × IsLegal p.model best × IsClosed p before after visited dropped floor best
-IsPassEnd p before after (ends.Halted cause visited dropped best) = HasDrawn p.model before after visited × IsLegal p.model best × IsHalted p before after cause best
+IsPassEnd p before after (ends.Closed visited dropped floor best) = HasDrawn p.model p.keep before after visited × IsLegal p.model best × IsClosed p before after visited dropped floor best
+IsPassEnd p before after (ends.Halted cause visited dropped best) = HasDrawn p.model p.keep before after visited × IsLegal p.model best × IsHalted p before after cause best

@@ -1,7 +1,6 @@
 -- The pass that options ask for.
 use Rattle.std.specs.Prelude.{ℕ, ◌%◌, ◌^◌, ◌≤◌, ◌<◌}
 use Rattle.std.proofs.lemmas.Nat.{mod_below}
-use Rattle.dp_model.specs.declared.answers.Keep.TheVariants as keeps
 use Rattle.dp_model.specs.declared.answers.Options.{Options}
 use Rattle.dp_model.specs.declared.whole.Model.{Model}
 use Rattle.state_layout.specs.Signatures.{hash_of, owner_of, signature_of}
@@ -24,7 +23,7 @@ pass_of m options share some =
     record {
       model = m;
       prune = options.prune;
-      keep = keeps.Layer;
+      keep = options.keep;
       shards = options.workers;
       share = share;
       owner = λ s. owner_of (slots_of m.objects m.variables) s options.workers;

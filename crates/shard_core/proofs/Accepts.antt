@@ -78,6 +78,7 @@ module _ {A B : Type 0} where
         letters = st.letters;
         intake = ink;
         collects = col;
+        past = st.past;
         outbox = st.outbox;
       }
 
@@ -112,5 +113,6 @@ module _ {A B : Type 0} where
         letters = st.letters;
         intake = st.intake;
         collects = collects_same p s.layer s.layout s.collected.items collected'.items r.start r.received are nodes busy st.collects;
+        past = st.past;
         outbox = st.outbox;
       }

@@ -1,40 +1,46 @@
 -- A shard that closes a layer stands for the record that closed it.
-use Rattle.std.proofs.Common.{◌≡◌, ℕ, ◌+◌, ◌≤◌, ◌<◌, inl, inr, zero, suc, Bool, true, false, if◌then◌else◌, List, [], ◌∷◌, ◌++◌, length, get_or, Option, Some, None, refl, sym, subst, ◌∙◌, ap, arith, append_assoc, append-nil, length-append}
+use Rattle.std.proofs.Common.{◌≡◌, ℕ, ◌+◌, ◌≤◌, ◌<◌, inl, inr, zero, suc, Bool, true, false, if◌then◌else◌, List, [], ◌∷◌, ◌++◌, ◌⊎◌, length, map, get_or, Option, Some, None, refl, sym, subst, ◌∙◌, ap, arith, append_assoc, append-nil, length-append}
 use Rattle.std.specs.Prelude.{ℤ, ◌≤ℤ◌, int_lt}
 use Rattle.std.proofs.lemmas.Int.{ints}
 use Rattle.std.proofs.lemmas.Bool.{cases_lt}
-use Rattle.std.proofs.lemmas.List.{get_or_past, length_push}
+use Rattle.std.proofs.lemmas.List.{get_or_past, length_push, map-append}
 use Rattle.std.proofs.lemmas.List.Sums.{sum_by-cons}
 use Rattle.std.specs.declared.alloc.Global.{Global}
 use Rattle.std.specs.declared.collections.VecDeque.{VecDeque}
 use Rattle.std.specs.declared.vec.Vec.{Vec}
 use Rattle.cost_laws.specs.Orders.{IsLawOf}
+use Rattle.dp_claims.specs.Dominance.{Covers}
 use Rattle.dp_claims.specs.Enough.{Has}
 use Rattle.dp_model.specs.Costs.{order_word}
-use Rattle.dp_model.specs.declared.answers.Keep.TheVariants as keeps
+use Rattle.dp_model.specs.declared.answers.Keep.{Keep}
 use Rattle.dp_model.specs.declared.parts.JoinOp.{JoinOp}
 use Rattle.dom_store.specs.Contents as store
 use Rattle.dom_store.specs.Order.{IsLeastFloor, better_floor}
+use Rattle.dom_store.specs.Past.{Past, past_node, IsPast}
+use Rattle.dom_store.specs.declared.past_node.PastNode.{PastNode}
 use Rattle.dom_store.specs.declared.taking.Taken.{Taken}
+use Rattle.state_layout.specs.declared.layout.Layout.{Layout}
 use Rattle.state_layout.specs.declared.node.Node.{Node}
 use Rattle.pass_ledger.specs.Events.{close, CanClose}
 use Rattle.pass_ledger.specs.Groups.{unfinished}
 use Rattle.pass_ledger.specs.Letters.{of, InGroups, states_at, all_states_at}
 use Rattle.pass_ledger.specs.Passes.{Pass}
-use Rattle.pass_ledger.specs.Rows.{Received, IsCovered, Apart}
+use Rattle.pass_ledger.specs.Past.{past_of, past_with, IsCoveredBy}
+use Rattle.pass_ledger.specs.Rows.{Received, IsCovered, IsCoveredBefore, IsNew, Apart}
 use Rattle.pass_ledger.specs.declared.mail.Letter.{Letter}
 use Rattle.pass_ledger.specs.declared.mail.Letter.TheVariants.{State, Mark}
 use Rattle.pass_ledger.specs.declared.records.LedgerRow.{LedgerRow}
 use Rattle.pass_ledger.specs.declared.records.ShardRecord.{ShardRecord}
 use Rattle.pass_ledger.specs.declared.records.Unsent.{Unsent}
-use Rattle.pass_ledger.proofs.Lists.{has_left, has_right, has_cases}
+use Rattle.pass_ledger.proofs.Lists.{has_none, has_head, has_cases, has_left, has_right, has_map}
 use Rattle.pass_ledger.proofs.Groups.{marks, states}
+use Rattle.pass_ledger.proofs.Past.{past, new_row, row_covers}
 use Rattle.pass_ledger.proofs.Steps.{own_close}
 use Rattle.shard_core.specs.Calls.{IsReady, IsClosed}
 use Rattle.shard_core.specs.Floors.{floor_of}
 use Rattle.shard_core.specs.Layers.{nodes_at, busy_at, AreOf, Splits}
 use Rattle.shard_core.specs.Outgoing.{count_to}
-use Rattle.shard_core.specs.Stands.{Stands, all_dropped}
+use Rattle.shard_core.specs.Stands.{Stands, Remembers, all_dropped}
 use Rattle.shard_core.specs.declared.layers.Layer.{Layer}
 use Rattle.shard_core.specs.declared.shard.Closed.{Closed}
 use Rattle.shard_core.specs.declared.shard.Shard.{Shard}
@@ -49,11 +55,40 @@ pub apart_in : (p : Pass) (ns : List Node) → store.Apart p.model p.prune ns �
 apart_in p [] h = tt
 apart_in p (n ∷ ns) h = (h.0, apart_in p ns h.1)
 
-none_before : keeps.Layer ≡ keeps.All → ⊥
-none_before e = cc
+-- ---- the past
 
-pub covered_in : (p : Pass) (taken : Taken) (n : Node) → store.IsCovered p.model p.prune (taken.kept ++ taken.dropped) n → IsCovered p (row_of taken) n
-covered_in p taken n h = (h.0, has_cases taken.kept taken.dropped h.0 h.1, h.2)
+is_kept : (ns : List Node) (n : Node) → Has ns n → Has (map past_node ns) (past_node n)
+is_kept [] n h = absurd (has_none n h)
+is_kept (m ∷ ns) n h = elim (has_head m ns n h) [ inl e ↦ (0, ap (λ (x : Node). Some (past_node x)) e) | inr more ↦ (let r = is_kept ns n more in (suc r.0, r.1)) ]
+
+-- what is kept of nodes covers what these cover
+covered_to : (p : Pass) (ns : List Node) (n : Node) → IsCoveredBy p ns n → IsPast p.model p.prune (map past_node ns) n
+covered_to p ns n c = (past_node c.0, is_kept ns c.0 c.1, c.2)
+
+covered_from : (p : Pass) (ns : List Node) (n : Node) → IsPast p.model p.prune (map past_node ns) n → IsCoveredBy p ns n
+covered_from p ns n c = let r = has_map past_node ns c.0 c.1 in (r.0, r.1, subst (λ (x : PastNode). Covers p.model p.prune x.state x.cost n.state n.cost) (sym r.2) c.2)
+
+-- a row that is split off beside the past is new, and what it does not cover the past covers
+module _ (p : Pass) (rows : List LedgerRow) (past : List PastNode) (is : past ≡ map past_node (past_of p.keep rows)) (taken : Taken) where
+  pub new_beside : ((n : Node) → Has (taken.kept ++ taken.dropped) n → IsPast p.model p.prune past n → ⊥) → IsNew p rows (length rows) (row_of taken)
+  new_beside news = new_row p rows (past_of p.keep rows) (row_of taken) refl (λ n h c. news n h (subst (λ (ns : List PastNode). IsPast p.model p.prune ns n) (sym is) (covered_to p (past_of p.keep rows) n c)))
+
+  pub covered_beside : (n : Node) → store.IsCovered p.model p.prune (taken.kept ++ taken.dropped) n ⊎ IsPast p.model p.prune past n → IsCovered p (row_of taken) n ⊎ IsCoveredBefore p rows (length rows) n
+  covered_beside n (inl c) = row_covers p rows (past_of p.keep rows) (row_of taken) refl n (inl c)
+  covered_beside n (inr c) = row_covers p rows (past_of p.keep rows) (row_of taken) refl n (inr (covered_from p (past_of p.keep rows) n (subst (λ (ns : List PastNode). IsPast p.model p.prune ns n) is c)))
+
+-- the past grows by what the closed layer adds to it
+pub remembers_more : (p : Pass) (keep : Keep) (layout : Layout) (old new : Past) (rows : List LedgerRow) (taken : Taken) → Remembers p keep layout old rows → new.layout ≡ old.layout → new.nodes ≡ old.nodes ++ map past_node (past_with keep taken.kept) → Remembers p keep layout new (rows ++ row_of taken ∷ [])
+remembers_more p keep layout old new rows taken h same added =
+    record {
+      keep_is = h.keep_is;
+      layout_is = same ∙ h.layout_is;
+      nodes_are =
+          added
+          ∙ (ap (λ (ns : List PastNode). ns ++ map past_node (past_with keep taken.kept)) h.nodes_are
+          ∙ (ap (λ (k : Keep). map past_node (past_of p.keep rows) ++ map past_node (past_with k taken.kept)) h.keep_is
+          ∙ (sym (map-append past_node (past_of p.keep rows) (past_with p.keep taken.kept)) ∙ sym (ap (map past_node) (past.grows p.keep rows (row_of taken))))));
+    }
 
 pub dropped_push : (rows : List LedgerRow) (w : LedgerRow) → all_dropped (rows ++ w ∷ []) ≡ all_dropped rows ++ w.dropped
 dropped_push [] w = append-nil w.dropped
@@ -133,12 +168,12 @@ module _ {A B : Type 0} where
           let past = (marks (of r.posted j) (st.ends.1.own.sends.lawful j).groups).1 s.me (l + 1) m.0 m.1 m.2 in
           omega (arith, past, e, open_is)
 
-  pub closed : (p : Pass) (s : Shard A B) (r : ShardRecord) → IsReady p s.me r → Stands p s r → (taken : Taken) → Splits p s.share (nodes_at s.collected.items 0) taken → (collected' : Vec (Layer B) Global) → AreOf s.layout collected'.items
+  pub closed : (p : Pass) (s : Shard A B) (r : ShardRecord) → IsReady p s.me r → Stands p s r → (taken : Taken) → Splits p s.share s.past.nodes (nodes_at s.collected.items 0) taken → (past' : Past) → past'.layout ≡ s.past.layout → past'.nodes ≡ s.past.nodes ++ map past_node (past_with s.keep taken.kept) → (collected' : Vec (Layer B) Global) → AreOf s.layout collected'.items
       → ((d : ℕ) → nodes_at collected'.items d ≡ nodes_at s.collected.items (d + 1)) → ((d : ℕ) → busy_at collected'.items d ≡ busy_at s.collected.items (d + 1))
       → (waiting' : VecDeque Node Global) → waiting'.items ≡ taken.kept → (sent' : Vec ℕ Global) → ((j : ℕ) → get_or sent'.items j 0 ≡ 0) → length sent'.items ≡ length s.sent.items
       → (dropped' : ℕ) → dropped' ≡ s.dropped + length taken.dropped → (floor' : Option ℤ) → floor' ≡ floor_of p.model.minimize p.model.join s.dropped (length taken.dropped) s.least_floor taken.least_floor
-      → CanClose p r (row_of taken) × Stands p (record s { layer = s.layer + 1; collected = collected'; waiting = waiting'; told = 0; sent = sent'; total = 0; dropped = dropped'; least_floor = floor' }) (close r (row_of taken))
-  closed p s r ready st taken splits collected' are nodes busy waiting' wis sent' zeros same dropped' dis floor' fis = (
+      → CanClose p r (row_of taken) × Stands p (record s { layer = s.layer + 1; collected = collected'; past = past'; waiting = waiting'; told = 0; sent = sent'; total = 0; dropped = dropped'; least_floor = floor' }) (close r (row_of taken))
+  closed p s r ready st taken splits past' past_layout past_nodes collected' are nodes busy waiting' wis sent' zeros same dropped' dis floor' fis = (
     can,
     record {
       belongs = st.belongs;
@@ -171,6 +206,7 @@ module _ {A B : Type 0} where
         busy = λ d e. (let h = st.collects.busy (d + 1) (sym (busy d) ∙ e) in (h.0, h.1, h.2, h.3, h.4, subst (λ (l : ℕ). Has (of r.received h.0) (Mark h.1 l h.2 h.3)) (up d) h.5, h.6));
         calm = λ d j f y t h pos. busy d ∙ st.collects.calm (d + 1) j f y t (subst (λ (l : ℕ). Has (of r.received j) (Mark f l y t)) (sym (up d)) h) pos;
       };
+      past = remembers_more p s.keep s.layout s.past past' r.rows taken st.past past_layout past_nodes;
       outbox = record {
         few = omega arith;
         long = same ∙ st.outbox.long;
@@ -217,29 +253,29 @@ module _ {A B : Type 0} where
           few = subst (λ (k : ℕ). length taken.kept ≤ k) st.belongs.share_is splits.few;
           full = λ n h. splits.full n h ∙ st.belongs.share_is;
         };
-        is_new = λ n h c. absurd (none_before (sym st.belongs.keep ∙ c.0));
-        covered = λ n h. inl (covered_in p taken n (splits.covered n (st.collects.all 0 n (subst (λ (l : ℕ). Received p r.start r.received l n) (sym at_layer) h))));
+        is_new = new_beside p r.rows s.past.nodes st.past.nodes_are taken splits.news;
+        covered = λ n h. covered_beside p r.rows s.past.nodes st.past.nodes_are taken n (splits.covered n (st.collects.all 0 n (subst (λ (l : ℕ). Received p r.start r.received l n) (sym at_layer) h)));
       }
 
-  pub closes : (p : Pass) (s : Shard A B) (r : ShardRecord) → IsReady p s.me r → Stands p s r → (taken : Taken) → Splits p s.share (nodes_at s.collected.items 0) taken → (collected' : Vec (Layer B) Global) → AreOf s.layout collected'.items
+  pub closes : (p : Pass) (s : Shard A B) (r : ShardRecord) → IsReady p s.me r → Stands p s r → (taken : Taken) → Splits p s.share s.past.nodes (nodes_at s.collected.items 0) taken → (past' : Past) → past'.layout ≡ s.past.layout → past'.nodes ≡ s.past.nodes ++ map past_node (past_with s.keep taken.kept) → (collected' : Vec (Layer B) Global) → AreOf s.layout collected'.items
       → ((d : ℕ) → nodes_at collected'.items d ≡ nodes_at s.collected.items (d + 1)) → ((d : ℕ) → busy_at collected'.items d ≡ busy_at s.collected.items (d + 1))
       → (waiting' : VecDeque Node Global) → waiting'.items ≡ taken.kept → (sent' : Vec ℕ Global) → ((j : ℕ) → get_or sent'.items j 0 ≡ 0) → length sent'.items ≡ length s.sent.items → (layer' : ℕ) → layer' ≡ s.layer + 1
       → (out : Closed) → out.kept ≡ length taken.kept → out.dropped ≡ length taken.dropped → out.least_floor ≡ taken.least_floor → (dropped' : ℕ) → dropped' ≡ s.dropped + out.dropped
       → (minimize : Bool) (operator : JoinOp) → IsLawOf p.model minimize operator → (floor' : Option ℤ) → floor' ≡ floor_of minimize operator s.dropped out.dropped s.least_floor out.least_floor
-      → IsClosed p r out (record s { layer = layer'; collected = collected'; waiting = waiting'; told = 0; sent = sent'; total = 0; dropped = dropped'; least_floor = floor' })
-  closes p s r ready st taken splits collected' are nodes busy waiting' wis sent' zeros same layer' layer_is out kept_is dropped_is least_is dropped' dis minimize operator law floor' fis =
+      → IsClosed p r out (record s { layer = layer'; collected = collected'; past = past'; waiting = waiting'; told = 0; sent = sent'; total = 0; dropped = dropped'; least_floor = floor' })
+  closes p s r ready st taken splits past' past_layout past_nodes collected' are nodes busy waiting' wis sent' zeros same layer' layer_is out kept_is dropped_is least_is dropped' dis minimize operator law floor' fis =
       record {
         row = row_of taken;
         can = all.0;
         kept = kept_is;
         dropped = dropped_is;
         floor = subst (λ (f : Option ℤ). IsLeastFloor p.model.minimize p.model.join taken.dropped f) (sym least_is) splits.floor;
-        stands = subst (λ (l : ℕ). Stands p (record s { layer = l; collected = collected'; waiting = waiting'; told = 0; sent = sent'; total = 0; dropped = dropped'; least_floor = floor' }) (close r (row_of taken))) (sym layer_is) all.1;
+        stands = subst (λ (l : ℕ). Stands p (record s { layer = l; collected = collected'; past = past'; waiting = waiting'; told = 0; sent = sent'; total = 0; dropped = dropped'; least_floor = floor' }) (close r (row_of taken))) (sym layer_is) all.1;
       }
     where
       floor_is : floor' ≡ floor_of p.model.minimize p.model.join s.dropped (length taken.dropped) s.least_floor taken.least_floor
       floor_is = by_law p.model minimize operator (λ b o. floor' ≡ floor_of b o s.dropped (length taken.dropped) s.least_floor taken.least_floor) law
           (fis ∙ (ap (λ (n : ℕ). floor_of minimize operator s.dropped n s.least_floor out.least_floor) dropped_is ∙ ap (λ (f : Option ℤ). floor_of minimize operator s.dropped (length taken.dropped) s.least_floor f) least_is))
 
-      all : CanClose p r (row_of taken) × Stands p (record s { layer = s.layer + 1; collected = collected'; waiting = waiting'; told = 0; sent = sent'; total = 0; dropped = dropped'; least_floor = floor' }) (close r (row_of taken))
-      all = closed p s r ready st taken splits collected' are nodes busy waiting' wis sent' zeros same dropped' (dis ∙ ap (λ (n : ℕ). s.dropped + n) dropped_is) floor' floor_is
+      all : CanClose p r (row_of taken) × Stands p (record s { layer = s.layer + 1; collected = collected'; past = past'; waiting = waiting'; told = 0; sent = sent'; total = 0; dropped = dropped'; least_floor = floor' }) (close r (row_of taken))
+      all = closed p s r ready st taken splits past' past_layout past_nodes collected' are nodes busy waiting' wis sent' zeros same dropped' (dis ∙ ap (λ (n : ℕ). s.dropped + n) dropped_is) floor' floor_is

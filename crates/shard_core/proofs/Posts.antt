@@ -90,6 +90,7 @@ module _ {A B : Type 0} where
           letters = lis;
           intake = st.intake;
           collects = st.collects;
+          past = st.past;
           outbox = subst (λ (us : List Unsent). Outbox p s.layer s.waiting.items us s.told s.sent.items s.total (append_at r.posted u.to x)) (sym lis) box;
         };
       }
@@ -180,6 +181,7 @@ module _ {A B : Type 0} where
           letters = lis ∙ sym empty ∙ st.letters;
           intake = st.intake;
           collects = st.collects;
+          past = st.past;
           outbox = subst (λ (us : List Unsent). Outbox p s.layer s.waiting.items us (s.told + 1) s.sent.items s.total (append_at r.posted s.told x)) (sym lis) box;
         };
       }
@@ -264,6 +266,7 @@ module _ {A B : Type 0} where
         letters = e ∙ st.letters;
         intake = st.intake;
         collects = st.collects;
+        past = st.past;
         outbox = subst (λ (us : List Unsent). Outbox p s.layer s.waiting.items us s.told s.sent.items s.total r.posted) (sym e) st.outbox;
       }
 

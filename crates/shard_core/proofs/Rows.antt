@@ -14,9 +14,12 @@ use Rattle.dp_claims.specs.Enough.{Has}
 use Rattle.state_layout.specs.declared.layout.Layout.{Layout}
 use Rattle.state_layout.specs.declared.node.Node.{Node}
 use Rattle.dom_store.specs.Contents.{IsCovered, Apart, with_node}
+use Rattle.dom_store.specs.Past.{IsPast}
+use Rattle.dom_store.specs.declared.past_node.PastNode.{PastNode}
 use Rattle.dom_store.specs.declared.taking.Taken.{Taken}
 use Rattle.dom_store.proofs.Members.{has_filtered}
-use Rattle.pass_ledger.proofs.Lists.{has_none, has_head, has_cases, has_right}
+use Rattle.dp_claims.proofs.Covering.{transitive}
+use Rattle.pass_ledger.proofs.Lists.{has_none, has_head, has_cases, has_left, has_right}
 use Rattle.pass_ledger.proofs.Appends.{get_push}
 use Rattle.shard_core.specs.Layers.{nodes_at, busy_at, nodes_of, AreOf, Merges, Splits}
 use Rattle.shard_core.specs.declared.layers.Layer.{Layer}
@@ -119,6 +122,10 @@ pub wide : (minimize : Bool) (operator : JoinOp) (layout : Layout) (result : Res
 wide minimize operator layout (Err x) floor fits = tt
 wide minimize operator layout (Ok t) floor fits = floor_wide minimize operator t.dropped t.least_floor floor (λ n h. (fits n (has_right t.kept t.dropped n h)).2.floor)
 
+pub fit_kept : (layout other : Layout) → layout ≡ other → (result : Result Taken AllocError) → IfOk result (λ t. (n : Node) → Has (t.kept ++ t.dropped) n → IsNodeFor layout n) → IfOk result (λ t. (n : Node) → Has t.kept n → IsNodeFor other n)
+fit_kept layout other e (Err x) fits = tt
+fit_kept layout other e (Ok t) fits = λ n h. subst (λ (l : Layout). IsNodeFor l n) e (fits n (has_left t.kept t.dropped n h))
+
 pub merges : (p : Pass) (prune : Bool) → prune ≡ p.prune → (old : List Node) (node : Node) (new : List Node) → ((n : Node) → Has new n → Has old n ⊎ (n ≡ node)) → ((n : Node) → IsCovered p.model prune old n → IsCovered p.model prune new n)
     → IsCovered p.model prune new node → Merges p old node new
 merges p prune e old node new only kept added =
@@ -142,17 +149,40 @@ pub dropped_full : (share : ℕ) (nodes kept dropped : List Node) → length kep
 dropped_full share nodes kept [] kept_is all n h = absurd (has_none n h)
 dropped_full share nodes kept (m ∷ dropped) kept_is all n h = omega (arith, kept_is, all)
 
-pub splits : (p : Pass) (share : ℕ) (nodes : List Node) (minimize : Bool) (operator : JoinOp) (prune : Bool) → prune ≡ p.prune → IsLawOf p.model minimize operator → (result : Result Taken AllocError)
-    → IfOk result (λ t. IsOrdering minimize operator nodes (t.kept ++ t.dropped)) → IfOk result (λ t. length t.kept ≡ min share (length nodes)) → IfOk result (λ t. length t.kept + length t.dropped ≡ length nodes)
-    → IfOk result (λ t. IsLeastFloor minimize operator t.dropped t.least_floor) → ((n : Node) → IsCovered p.model prune nodes n → IfOk result (λ t. IsCovered p.model prune (t.kept ++ t.dropped) n))
-    → IfOk result (λ t. Apart p.model prune (t.kept ++ t.dropped)) → IfOk result (λ t. Splits p share nodes t)
-splits p share nodes minimize operator prune e law (Err x) order kept all floor covered apart = tt
-splits p share nodes minimize operator prune e law (Ok t) order kept all floor covered apart =
+-- what was covered is covered by one that is left, or by the past
+covered_left : (p : Pass) (past : List PastNode) (nodes left : List Node) → ((n : Node) → Has nodes n → Has left n ⊎ IsPast p.model p.prune past n) → (n : Node) → IsCovered p.model p.prune nodes n → IsCovered p.model p.prune left n ⊎ IsPast p.model p.prune past n
+covered_left p past nodes left each n c =
+    elim (each c.0 c.1) [
+      | inl here ↦ inl (c.0, here, c.2)
+      | inr gone ↦ inr (gone.0, gone.1, transitive p.model p.prune gone.0.state c.0.state n.state gone.0.cost c.0.cost n.cost gone.2 c.2)
+    ]
+
+covered_split : (p : Pass) (past : List PastNode) (left out : List Node) → ((n : Node) → IsCovered p.model p.prune left n → IsCovered p.model p.prune out n) → (n : Node) → IsCovered p.model p.prune left n ⊎ IsPast p.model p.prune past n → IsCovered p.model p.prune out n ⊎ IsPast p.model p.prune past n
+covered_split p past left out h n (inl c) = inl (h n c)
+covered_split p past left out h n (inr c) = inr c
+
+pub splits : (p : Pass) (share : ℕ) (past : List PastNode) (nodes left : List Node) (minimize : Bool) (operator : JoinOp) (prune : Bool) → prune ≡ p.prune → IsLawOf p.model minimize operator → ((n : Node) → Has left n → Has nodes n)
+    → ((n : Node) → Has nodes n → Has left n ⊎ IsPast p.model prune past n) → ((n : Node) → Has left n → IsPast p.model prune past n → ⊥) → (result : Result Taken AllocError)
+    → IfOk result (λ t. IsOrdering minimize operator left (t.kept ++ t.dropped)) → IfOk result (λ t. length t.kept ≡ min share (length left)) → IfOk result (λ t. length t.kept + length t.dropped ≡ length left)
+    → IfOk result (λ t. IsLeastFloor minimize operator t.dropped t.least_floor) → ((n : Node) → IsCovered p.model prune left n → IfOk result (λ t. IsCovered p.model prune (t.kept ++ t.dropped) n))
+    → IfOk result (λ t. Apart p.model prune (t.kept ++ t.dropped)) → IfOk result (λ t. Splits p share past nodes t)
+splits p share past nodes left minimize operator prune e law only each news (Err x) order kept all floor covered apart = tt
+splits p share past nodes left minimize operator prune e law only each news (Ok t) order kept all floor covered apart =
     record {
-      from = order.from;
-      covered = subst (λ (b : Bool). (n : Node) → IsCovered p.model b nodes n → IsCovered p.model b (t.kept ++ t.dropped) n) e covered;
+      from = λ n h. only n (order.from n h);
+      news = λ n h. is_new n (order.from n h);
+      covered = λ n c. covered_split p past left (t.kept ++ t.dropped) are_covered n (covered_left p past nodes left are_left n c);
       apart = subst (λ (b : Bool). Apart p.model b (t.kept ++ t.dropped)) e apart;
       few = omega (arith, kept);
-      full = dropped_full share nodes t.kept t.dropped kept all;
+      full = dropped_full share left t.kept t.dropped kept all;
       floor = subst (λ (o : JoinOp). IsLeastFloor p.model.minimize o t.dropped t.least_floor) law.1 (subst (λ (b : Bool). IsLeastFloor b operator t.dropped t.least_floor) law.0 floor);
     }
+  where
+    are_left : (n : Node) → Has nodes n → Has left n ⊎ IsPast p.model p.prune past n
+    are_left = subst (λ (b : Bool). (n : Node) → Has nodes n → Has left n ⊎ IsPast p.model b past n) e each
+
+    is_new : (n : Node) → Has left n → IsPast p.model p.prune past n → ⊥
+    is_new = subst (λ (b : Bool). (n : Node) → Has left n → IsPast p.model b past n → ⊥) e news
+
+    are_covered : (n : Node) → IsCovered p.model p.prune left n → IsCovered p.model p.prune (t.kept ++ t.dropped) n
+    are_covered = subst (λ (b : Bool). (n : Node) → IsCovered p.model b left n → IsCovered p.model b (t.kept ++ t.dropped) n) e covered

@@ -1,11 +1,14 @@
 -- A new shard stands for the record of a shard that has not begun.
-use Rattle.std.proofs.Common.{◌≡◌, ℕ, ◌+◌, ◌<◌, inl, inr, zero, suc, true, false, List, [], length, get_or, replicate, Option, Some, None, refl, sym, subst, ◌∙◌, ap, arith}
+use Rattle.std.proofs.Common.{◌≡◌, ℕ, ◌+◌, ◌<◌, inl, inr, zero, suc, true, false, List, [], length, get_or, map, replicate, Option, Some, None, refl, sym, subst, ◌∙◌, ap, arith}
 use Rattle.std.proofs.lemmas.List.{get_or-replicate, length-replicate}
 use Rattle.std.proofs.lemmas.List.Sums.{sum_by-cons}
 use Rattle.dp_claims.specs.Enough.{Has}
 use Rattle.dom_store.specs.Contents.{IsCovered}
 use Rattle.dom_store.specs.Order.{IsLeastFloor}
+use Rattle.dom_store.specs.Past.{past_node}
 use Rattle.std.specs.Prelude.{IfSome}
+use Rattle.dp_model.specs.declared.answers.Keep.{Keep}
+use Rattle.dp_model.specs.declared.answers.Keep.TheVariants.{Layer, All}
 use Rattle.dp_model.specs.declared.whole.Model.{Model}
 use Rattle.state_layout.specs.Conditions.{IsLayoutOf, IsNodeOf, IsNodeFor}
 use Rattle.state_layout.specs.declared.layout.Layout.{Layout}
@@ -14,6 +17,7 @@ use Rattle.pass_ledger.specs.Events.{fresh}
 use Rattle.pass_ledger.specs.Groups.{unfinished}
 use Rattle.pass_ledger.specs.Letters.{of, states_at, all_states_at}
 use Rattle.pass_ledger.specs.Passes.{Pass}
+use Rattle.pass_ledger.specs.Past.{past_of}
 use Rattle.pass_ledger.specs.Records.{Own, Starts}
 use Rattle.pass_ledger.specs.Rows.{Received}
 use Rattle.pass_ledger.specs.declared.mail.Letter.{Letter}
@@ -23,6 +27,10 @@ use Rattle.shard_core.specs.Layers.{nodes_at, busy_at, AreOf, Merges}
 use Rattle.shard_core.specs.Outgoing.{count_to}
 use Rattle.shard_core.specs.Stands.{Stands, Belongs}
 use Rattle.shard_core.specs.declared.shard.Shard.{Shard}
+
+past_begins : (keep : Keep) → past_of keep [] ≡ []
+past_begins Layer = refl
+past_begins All = refl
 
 none_of : (shards j : ℕ) → of (replicate shards []) j ≡ []
 none_of zero j = refl
@@ -55,12 +63,12 @@ only_start p (Some m) nodes none some n h = elim ((some m refl).only n h) [ inl 
 
 module _ {A B : Type 0} where
   -- the layers of a new shard: layer 0 has the target's node in its owner, and nothing else is there
-  pub new_stands : (p : Pass) (start : Option Node) (s : Shard A B) → Belongs p s.me s.shards s.share s.expander s.layout → Starts p s.me start → Own p s.me (fresh p.shards start) → ((n : Node) → start ≡ Some n → IsNodeOf p.model n)
+  pub new_stands : (p : Pass) (start : Option Node) (s : Shard A B) → Belongs p s.me s.shards s.share s.expander s.layout → s.keep ≡ p.keep → s.past.layout ≡ s.layout → s.past.nodes ≡ [] → Starts p s.me start → Own p s.me (fresh p.shards start) → ((n : Node) → start ≡ Some n → IsNodeOf p.model n)
       → s.layer ≡ 0 → s.waiting.items ≡ [] → s.letters.items ≡ [] → s.visited ≡ 0 → s.log.shard ≡ s.me → s.log.entries ≡ [] → s.held ≡ None → s.fault ≡ None → s.dropped ≡ 0 → s.least_floor ≡ None
       → length s.open_layers.items ≡ p.shards → ((j : ℕ) → j < p.shards → get_or s.open_layers.items j 1 ≡ 1) → s.told ≡ p.shards → length s.sent.items ≡ p.shards → ((j : ℕ) → j < p.shards → get_or s.sent.items j 0 ≡ 0) → s.total ≡ 0
       → AreOf s.layout s.collected.items → ((d : ℕ) → busy_at s.collected.items d ≡ false) → ((n : Node) → start ≡ Some n → IsCovered p.model p.prune (nodes_at s.collected.items 0) n) → ((n : Node) → Has (nodes_at s.collected.items 0) n → start ≡ Some n) → ((d : ℕ) → nodes_at s.collected.items (suc d) ≡ [])
       → Stands p s (fresh p.shards start)
-  new_stands p start s belongs starts own good layer waiting letters visited shard entries held fault dropped floor open_long open_is told sent_long sent_is total are calm covers only later =
+  new_stands p start s belongs keep past_layout past_none starts own good layer waiting letters visited shard entries held fault dropped floor open_long open_is told sent_long sent_is total are calm covers only later =
       record {
         belongs = belongs;
         ends = (shard, record { own = own; log_is = entries; visited_is = visited; held_is = held; fault_is = fault; dropped_is = dropped; floor_is = subst (λ f. IsLeastFloor p.model.minimize p.model.join [] f) (sym floor) (inl refl) });
@@ -78,6 +86,7 @@ module _ {A B : Type 0} where
           busy = λ d e. absurd (let clash : true ≡ false = sym e ∙ calm d in cc);
           calm = λ d j f y t h _. absurd (no_letter p.shards j (Mark f (s.layer + d) y t) h);
         };
+        past = record { keep_is = keep; layout_is = past_layout; nodes_are = past_none ∙ sym (ap (map past_node) (past_begins p.keep)) };
         outbox = record {
           few = omega (arith, told);
           long = sent_long;

@@ -243,6 +243,7 @@ module _ {A B : Type 0} where
           letters = st.letters;
           intake = st.intake;
           collects = st.collects;
+          past = st.past;
           outbox = record {
             few = st.outbox.few;
             long = st.outbox.long;

@@ -244,6 +244,7 @@ module _ {A B : Type 0} where
           letters = lis ∙ ap (λ (us : List Unsent). us ++ made) st.letters;
           intake = st.intake;
           collects = st.collects;
+          past = st.past;
           outbox = record {
             few = st.outbox.few;
             long = long ∙ st.belongs.shards_are;

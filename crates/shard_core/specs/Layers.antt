@@ -5,6 +5,8 @@ use Rattle.state_layout.specs.declared.layout.Layout.{Layout}
 use Rattle.state_layout.specs.declared.node.Node.{Node}
 use Rattle.dom_store.specs.Contents.{IsCovered, Apart}
 use Rattle.dom_store.specs.Order.{IsLeastFloor}
+use Rattle.dom_store.specs.Past.{IsPast}
+use Rattle.dom_store.specs.declared.past_node.PastNode.{PastNode}
 use Rattle.dom_store.specs.declared.taking.Taken.{Taken}
 use Rattle.pass_ledger.specs.Passes.{Pass}
 use Rattle.shard_core.specs.declared.layers.Layer.{Layer}
@@ -35,10 +37,12 @@ pub record Merges (p : Pass) (old : List Node) (node : Node) (new : List Node) :
   pub kept : (n : Node) → IsCovered p.model p.prune old n → IsCovered p.model p.prune new n
   pub added : IsCovered p.model p.prune new node
 
--- The nodes of a layer are shared out: at most the share is kept, and the others are dropped.
-pub record Splits (p : Pass) (share : ℕ) (nodes : List Node) (taken : Taken) : Type 0 where
+-- The nodes of a layer are shared out: those that the past covers are gone, of the others at most the share is kept, and the
+-- rest is dropped.
+pub record Splits (p : Pass) (share : ℕ) (past : List PastNode) (nodes : List Node) (taken : Taken) : Type 0 where
   pub from : (n : Node) → Has (taken.kept ++ taken.dropped) n → Has nodes n
-  pub covered : (n : Node) → IsCovered p.model p.prune nodes n → IsCovered p.model p.prune (taken.kept ++ taken.dropped) n
+  pub news : (n : Node) → Has (taken.kept ++ taken.dropped) n → IsPast p.model p.prune past n → ⊥
+  pub covered : (n : Node) → IsCovered p.model p.prune nodes n → IsCovered p.model p.prune (taken.kept ++ taken.dropped) n ⊎ IsPast p.model p.prune past n
   pub apart : Apart p.model p.prune (taken.kept ++ taken.dropped)
   pub few : length taken.kept ≤ share
   pub full : (n : Node) → Has taken.dropped n → length taken.kept ≡ share

@@ -1,7 +1,7 @@
 -- When a running shard stands for a record of a pass.
 use Rattle.std.specs.Prelude.{◌≡◌, ℕ, ◌+◌, ◌≤◌, ◌<◌, Bool, true, List, [], ◌∷◌, ◌++◌, map, length, get_or, Option, Some, None, ℤ}
 use Rattle.dp_claims.specs.Enough.{Has}
-use Rattle.dp_model.specs.declared.answers.Keep.TheVariants as keeps
+use Rattle.dp_model.specs.declared.answers.Keep.{Keep}
 use Rattle.dp_model.specs.declared.parts.JoinOp.{JoinOp}
 use Rattle.dp_model.specs.declared.parts.PlainState.{PlainState}
 use Rattle.cost_laws.specs.Orders.{IsLawOf}
@@ -12,10 +12,12 @@ use Rattle.state_layout.specs.declared.layout.Layout.{Layout}
 use Rattle.state_layout.specs.declared.node.Node.{Node}
 use Rattle.dom_store.specs.Contents.{IsCovered}
 use Rattle.dom_store.specs.Order.{IsLeastFloor}
+use Rattle.dom_store.specs.Past.{Past, past_node}
 use Rattle.pass_ledger.specs.Groups.{unfinished}
 use Rattle.pass_ledger.specs.Letters.{of, states_at, all_states_at}
 use Rattle.pass_ledger.specs.Logs.{entry_of}
 use Rattle.pass_ledger.specs.Passes.{Pass, StartsInner}
+use Rattle.pass_ledger.specs.Past.{past_of}
 use Rattle.pass_ledger.specs.Records.{Own}
 use Rattle.pass_ledger.specs.Rows.{Received}
 use Rattle.pass_ledger.specs.declared.mail.Letter.{Letter}
@@ -56,6 +58,14 @@ pub record Collects {B : Type 0} (p : Pass) (layer : ℕ) (layout : Layout) (col
   pub all : (d : ℕ) (n : Node) → Received p start received (layer + d) n → IsCovered p.model p.prune (nodes_at collected d) n
   pub busy : (d : ℕ) → busy_at collected d ≡ true → (j : ℕ) × (from : ℕ) × (to_you : ℕ) × (total : ℕ) × (j < p.shards) × Has (of received j) (Mark from (layer + d) to_you total) × (0 < total)
   pub calm : (d j from to_you total : ℕ) → Has (of received j) (Mark from (layer + d) to_you total) → 0 < total → busy_at collected d ≡ true
+
+-- ---- nodes of the closed layers
+
+-- The past has the nodes that cover those of later layers: the kept ones of all rows, or none.
+pub record Remembers (p : Pass) (keep : Keep) (layout : Layout) (past : Past) (rows : List LedgerRow) : Type 0 where
+  pub keep_is : keep ≡ p.keep
+  pub layout_is : past.layout ≡ layout
+  pub nodes_are : past.nodes ≡ map past_node (past_of p.keep rows)
 
 -- ---- letters that are handed out
 
@@ -99,7 +109,6 @@ pub record Belongs (p : Pass) (me shards share : ℕ) (search : Search) (layout 
   pub share_is : share ≡ p.share
   pub model : search.model ≡ p.model
   pub prune : search.prune ≡ p.prune
-  pub keep : p.keep ≡ keeps.Layer
   pub layout_is : IsLayoutOf p.model layout
   pub owner : (state : PlainState) → owner_of layout state shards ≡ p.owner state
   pub inner : StartsInner p
@@ -115,4 +124,5 @@ pub record Stands {A B : Type 0} (p : Pass) (s : Shard A B) (r : ShardRecord) : 
   pub letters : s.letters.items ≡ r.unsent
   pub intake : Intake p.shards s.open_layers.items r.received
   pub collects : Collects p s.layer s.layout s.collected.items r.start r.received
+  pub past : Remembers p s.keep s.layout s.past r.rows
   pub outbox : Outbox p s.layer s.waiting.items s.letters.items s.told s.sent.items s.total r.posted

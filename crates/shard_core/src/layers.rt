@@ -2,13 +2,14 @@
 
 ghost use Rattle.std.specs.Prelude.{◌≡◌, ℕ, ◌+◌, ◌<◌, true, false, List, [], length, option_to_list, IfOk, IfErr, OnErr, OnOk, IfSome, Option, Some, None};
 ghost use Rattle.cost_laws.specs.Orders.{InWideRange, IsLawOf};
+ghost use Rattle.dp_claims.specs.Enough.{Has};
 ghost use Rattle.state_layout.specs.Conditions.{IsLayoutOf, IsNodeFor};
 ghost use Rattle.state_layout.specs.declared.node.Node.{Node};
 ghost use Rattle.pass_ledger.specs.Passes.{Pass};
 ghost use Rattle.shard_core.specs.Layers.{nodes_at, busy_at, AreOf, Merges, Splits};
 
 use cost_laws::CostLaw;
-use dom_store::{Covers, DomStore, Taken};
+use dom_store::{Covers, DomStore, PastStore, Taken};
 use state_layout::{Layout, Node};
 use std::alloc::{AllocError, Global};
 
@@ -175,22 +176,26 @@ pub(crate) fn is_busy<K: Covers>(layers: &[Layer<K>]) -> bool
     }
 }
 
-/// Takes the first layer out, with its best nodes kept up to the share.
+/// Takes the first layer out, without the nodes that the past covers, and with its best nodes kept up to the share.
 #[tactic(auto, using(crate::proofs::Rows::rest_at, crate::proofs::Rows::rest_layouts, crate::proofs::Rows::dropped_full))]
 pub(crate) fn take_layer<L: CostLaw, K: Covers>(
     alloc: Global,
     layout: &Layout,
     layers: &mut Vec<Layer<K>>,
+    past: &PastStore<K>,
     share: u64,
 ) -> Result<Taken, AllocError>
     requires layouts { AreOf layout.now layers.old.items }
+    requires past { past.now.layout ≡ layout.now }
     ensures layouts { AreOf layout.now layers.new.items }
-    ensures split { (p : Pass) → IsLayoutOf p.model layout.now → IsLawOf p.model L.minimize L.operator → IsLawOf p.model K.minimize K.operator → K.prune ≡ p.prune → IfOk result (λ taken. Splits p share (nodes_at layers.old.items 0) taken) }
+    ensures split { (p : Pass) → IsLayoutOf p.model layout.now → IsLawOf p.model L.minimize L.operator → IsLawOf p.model K.minimize K.operator → K.prune ≡ p.prune → IfOk result (λ taken. Splits p share past.now.nodes (nodes_at layers.old.items 0) taken) }
+    ensures fits { IfOk result (λ taken. (n : Node) → Has taken.kept n → IsNodeFor layout.now n) }
     ensures nodes { OnOk result ((d : ℕ) → nodes_at layers.new.items d ≡ nodes_at layers.old.items (d + 1)) }
     ensures busy { OnOk result ((d : ℕ) → busy_at layers.new.items d ≡ busy_at layers.old.items (d + 1)) }
     ensures wide { IfOk result (λ taken. IfSome taken.least_floor InWideRange) }
 {
     open_layers(alloc, layout, layers, 0)?;
     let mut layer = layers.remove(0);
+    layer.nodes.drop_past(layout, past);
     layer.nodes.take_best::<L>(alloc, share)
 }

@@ -6,6 +6,7 @@ mod intake;
 mod layers;
 mod offers;
 mod outbox;
+mod past;
 mod shard;
 
 pub use layers::Layer;

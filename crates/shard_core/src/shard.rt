@@ -3,7 +3,6 @@
 ghost use Rattle.std.specs.Prelude.{◌≡◌, ◌↔◌, ℕ, ◌+◌, ◌<◌, ◌≤◌, true, false, IsTrue, List, [], ◌∷◌, ◌++◌, length, get_or, Some, None, ℤ, pos, ◌≤ℤ◌, is_some, IfSome, IfNone, IfOk, IfErr, OnOk, OnErr};
 ghost use Rattle.std.specs.List.{All};
 ghost use Rattle.cost_laws.specs.Orders.{InWideRange, IsLawOf};
-ghost use Rattle.dp_model.specs.declared.answers.Keep.TheVariants as keeps;
 ghost use Rattle.dp_model.specs.declared.parts.PlainState.{PlainState};
 ghost use Rattle.path_log.specs.Paths.{entry, with_step};
 ghost use Rattle.state_layout.specs.Conditions.{IsNodeFor, IsNodeOf};
@@ -29,9 +28,10 @@ use crate::intake::are_past;
 use crate::layers::{Layer, collect, first_layers, is_busy, note_total, take_layer};
 use crate::offers::hold_best;
 use crate::outbox::send_all;
+use crate::past::remember;
 use cost_laws::CostLaw;
-use dom_store::Covers;
-use dp_model::{Model as DpModel, Options};
+use dom_store::{Covers, PastStore};
+use dp_model::{Keep, Model as DpModel, Options};
 use pass_ledger::{FaultHere, Held, Letter, Unsent};
 use path_log::{PathLog, StepId};
 use spot_eval::SpotFault;
@@ -48,6 +48,8 @@ pub struct Shard<'m, L: CostLaw, K: Covers> {
     pub shards: u32,
     /// How many nodes of a layer are kept at most.
     pub share: u64,
+    /// Which kept nodes cover those of a later layer.
+    pub keep: Keep,
     pub layout: Layout,
     pub expander: Expander<'m, L>,
     pub log: PathLog,
@@ -59,6 +61,8 @@ pub struct Shard<'m, L: CostLaw, K: Covers> {
     pub open_layers: Vec<u64>,
     /// The layers from the first one on that is not closed, as far as something of them came.
     pub collected: Vec<Layer<K>>,
+    /// The kept nodes of all closed layers, where they cover those of later layers; else none.
+    pub past: PastStore<K>,
     /// The kept nodes of the last closed layer that were neither visited nor pruned.
     pub waiting: VecDeque<Node>,
     /// The states that were made and not handed out.
@@ -118,13 +122,14 @@ impl<'m, L: CostLaw, K: Covers> Shard<'m, L, K> {
         requires law { IsLawOf model.now L.minimize L.operator }
         requires below { shard < options.now.workers }
         requires node { IfSome start (IsNodeOf model.now) }
-        ensures { (p : Pass) → Suited p L.minimize L.operator K.prune K.minimize K.operator → p.model ≡ model.now → p.prune ≡ options.now.prune → p.keep ≡ keeps.Layer → p.shards ≡ options.now.workers → p.share ≡ share
+        ensures { (p : Pass) → Suited p L.minimize L.operator K.prune K.minimize K.operator → p.model ≡ model.now → p.prune ≡ options.now.prune → p.keep ≡ options.now.keep → p.shards ≡ options.now.workers → p.share ≡ share
             → ((state : PlainState) → owner_of (slots_of model.now.objects model.now.variables) state options.now.workers ≡ p.owner state) → StartsInner p → Starts p shard start
             → IfOk result (λ s. (s.me ≡ shard) × Stands p s (fresh p.shards start)) }
     {
         let shards = options.workers();
         let layout = Layout::of(alloc, model)?;
         let collected = first_layers(alloc, &layout, start)?;
+        let past = PastStore::new(alloc, &layout)?;
         let expander = Expander::new(alloc, model, options.prune())?;
         let open_layers = equal_counts(alloc, shards, 1)?;
         let sent = equal_counts(alloc, shards, 0)?;
@@ -133,6 +138,7 @@ impl<'m, L: CostLaw, K: Covers> Shard<'m, L, K> {
             me: shard,
             shards,
             share,
+            keep: options.keep(),
             layout,
             expander,
             log: PathLog::new(alloc, shard),
@@ -140,6 +146,7 @@ impl<'m, L: CostLaw, K: Covers> Shard<'m, L, K> {
             layer: 0,
             open_layers,
             collected,
+            past,
             waiting: VecDeque::new(alloc),
             letters: VecDeque::new(alloc),
             told: shards,
@@ -228,8 +235,8 @@ impl<'m, L: CostLaw, K: Covers> Shard<'m, L, K> {
         are_past(&self.open_layers, self.layer)
     }
 
-    /// Closes the layer that the shard collects: its best nodes are kept, up to the share, and wait. On `Err` memory ran out,
-    /// and the shard is only ended.
+    /// Closes the layer that the shard collects: those of its nodes that the past covers go, the best of the others are kept,
+    /// up to the share, and wait. On `Err` memory ran out, and the shard is only ended.
     pub fn close(&mut self) -> Result<Closed, AllocError>
         requires { (p : Pass) × (r : ShardRecord) × Stands p self.old r × IsReady p self.old.me r }
         ensures closed { (p : Pass) (r : ShardRecord) → Suited p L.minimize L.operator K.prune K.minimize K.operator → Stands p self.old r → IsReady p self.old.me r → IfOk result (λ closed. IsClosed p r closed self.new) }
@@ -237,13 +244,20 @@ impl<'m, L: CostLaw, K: Covers> Shard<'m, L, K> {
         ensures me { self.new.me ≡ self.old.me }
     {
         let layer = sum(self.layer, 1)?;
-        let taken = take_layer::<L, K>(self.alloc, &self.layout, &mut self.collected, self.share)?;
+        let taken = take_layer::<L, K>(
+            self.alloc,
+            &self.layout,
+            &mut self.collected,
+            &self.past,
+            self.share,
+        )?;
         let closed = Closed {
             kept: taken.kept.list().len() as u64,
             dropped: taken.dropped.list().len() as u64,
             least_floor: taken.least_floor,
         };
         let dropped = sum(self.dropped, closed.dropped)?;
+        remember(self.keep, &self.layout, &mut self.past, taken.kept.list())?;
         self.least_floor = merged_floor::<L>(
             self.dropped,
             closed.dropped,

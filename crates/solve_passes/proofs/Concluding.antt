@@ -2,7 +2,6 @@
 use Rattle.std.proofs.Common.{◌≡◌, ℕ, ◌+◌, ◌^◌, ◌<◌, ◌≤◌, true, false, Result, Ok, Err, List, [], ◌∷◌, ◌++◌, refl, sym, subst, Option, None, ◌⊎◌, inl, inr, arith}
 use Rattle.std.specs.Prelude.{OnErr, OnOk}
 use Rattle.std.specs.Result.{is_err}
-use Rattle.dp_model.specs.declared.answers.Keep.TheVariants as keeps
 use Rattle.dp_claims.specs.Enough.{IsAtMostReached}
 use Rattle.dp_model.specs.declared.answers.Found.{Found}
 use Rattle.dp_model.specs.declared.answers.Options.{Options}
@@ -36,10 +35,10 @@ all ps progress tally found = ps ++ pass_of progress found tally.visited tally.d
 
 -- after one pass more
 module _ (m : Model) (options : Options) (printing : Printing) (before old : Option (List ℕ)) (progress : Progress) (tally : Tally) (found : Option Found)
-    (h : HistoryOf m printing before old progress)
+    (h : HistoryOf m options.keep printing before old progress)
     (new : IsNew m progress.held found)
     (share : progress.schedule.share ≡ 2 ^ progress.passes)
-    (reached : IsAtMostReached m keeps.Layer tally.visited)
+    (reached : IsAtMostReached m options.keep tally.visited)
     (within : progress.visited + tally.visited ≤ options.budget) where
   abbrev this : Pass
   this = pass_of progress found tally.visited tally.dropped
@@ -47,8 +46,8 @@ module _ (m : Model) (options : Options) (printing : Printing) (before old : Opt
   abbrev run : List Pass
   run = h.passes ++ this ∷ []
 
-  pub grown : Passes m (held_after progress.held found) (progress.passes + 1) (progress.visited + tally.visited) (all h.passes progress tally found)
-  grown = passes_more m progress.held progress.passes progress.visited h.passes this h.known refl share reached new
+  pub grown : Passes m options.keep (held_after progress.held found) (progress.passes + 1) (progress.visited + tally.visited) (all h.passes progress tally found)
+  grown = passes_more m options.keep progress.held progress.passes progress.visited h.passes this h.known refl share reached new
 
   told_on : (mid : Option (List ℕ)) → Takes old mid (lines_of printing m progress tally found) → Takes before mid (passes_text printing m run)
   told_on mid told = subst (Takes before mid) (sym (text_more printing m h.passes this)) (Takes-more before old mid (passes_text printing m h.passes) (lines_of printing m progress tally found) h.told told)
@@ -80,5 +79,5 @@ module _ (m : Model) (options : Options) (printing : Printing) (before old : Opt
   }
 
   -- nodes were dropped, and the run goes on
-  pub went_on : (mid : Option (List ℕ)) → Takes old mid (lines_of printing m progress tally found) → 0 < tally.dropped → History m printing before mid (held_after progress.held found) (progress.passes + 1) (progress.visited + tally.visited)
+  pub went_on : (mid : Option (List ℕ)) → Takes old mid (lines_of printing m progress tally found) → 0 < tally.dropped → History m options.keep printing before mid (held_after progress.held found) (progress.passes + 1) (progress.visited + tally.visited)
   went_on mid told some = record { passes = run; told = told_on mid told; known = grown; dropping = dropping_more h.passes this some h.dropping }

@@ -4,7 +4,7 @@ use Rattle.std.proofs.Math.Nat.{mul-le-mul_left, pow-suc}
 use Rattle.std.proofs.Math.Pow.{pow_mono}
 use Rattle.std.proofs.lemmas.Bool.{cases_lt}
 use Rattle.std.proofs.lemmas.List.{take-append-drop, length-take-le}
-use Rattle.dp_model.specs.declared.answers.Keep.TheVariants as keeps
+use Rattle.dp_model.specs.declared.answers.Keep.{Keep}
 use Rattle.dp_claims.specs.Enough.{Has, Different, AreReachedAtMost, IsAtMostReached, IsBelowEnough, IsWidthAtMost}
 use Rattle.dp_model.specs.declared.parts.PlainState.{PlainState}
 use Rattle.dp_model.specs.declared.whole.Model.{Model}
@@ -29,8 +29,8 @@ different_front [] ys d = tt
 different_front (x ∷ xs) ys d = (λ h. d.0 (has_left xs ys x h), different_front xs ys d.1)
 
 -- less than what is reached is reached
-pub reached_less : (m : Model) (n k : ℕ) → IsAtMostReached m keeps.Layer n → k ≤ n → IsAtMostReached m keeps.Layer k
-reached_less m n k h few =
+pub reached_less : (m : Model) (keep : Keep) (n k : ℕ) → IsAtMostReached m keep n → k ≤ n → IsAtMostReached m keep k
+reached_less m keep n k h few =
     let pairs = h.0 in
     let whole : take k pairs ++ drop k pairs ≡ pairs = take-append-drop k pairs in (
       take k pairs,
@@ -41,19 +41,19 @@ reached_less m n k h few =
       length-take-le k pairs (omega (arith, h.2, few)),
     )
 
-pub reached_at_most : (m : Model) (n r : ℕ) → IsAtMostReached m keeps.Layer n → AreReachedAtMost m keeps.Layer r → n ≤ r
-reached_at_most m n r h most = subst (λ (k : ℕ). k ≤ r) h.2 (most h.0 h.1)
+pub reached_at_most : (m : Model) (keep : Keep) (n r : ℕ) → IsAtMostReached m keep n → AreReachedAtMost m keep r → n ≤ r
+reached_at_most m keep n r h most = subst (λ (k : ℕ). k ≤ r) h.2 (most h.0 h.1)
 
 -- ---- passes
 
 -- so many passes, each of which visits what can be reached
-pub more_drawn : (m : Model) (passes before gained : ℕ) → ((r : ℕ) → AreReachedAtMost m keeps.Layer r → before ≤ passes * r) → IsAtMostReached m keeps.Layer gained → (r : ℕ) → AreReachedAtMost m keeps.Layer r → before + gained ≤ (passes + 1) * r
-more_drawn m passes before gained few reached r most = omega (arith, few r most, reached_at_most m gained r reached most)
+pub more_drawn : (m : Model) (keep : Keep) (passes before gained : ℕ) → ((r : ℕ) → AreReachedAtMost m keep r → before ≤ passes * r) → IsAtMostReached m keep gained → (r : ℕ) → AreReachedAtMost m keep r → before + gained ≤ (passes + 1) * r
+more_drawn m keep passes before gained few reached r most = omega (arith, few r most, reached_at_most m keep gained r reached most)
 
 -- more than the budget was drawn, so the budget is not enough
-pub below_enough : (m : Model) (budget passes before gained : ℕ) → ((r : ℕ) → AreReachedAtMost m keeps.Layer r → before ≤ passes * r) → ((w : ℕ) → IsWidthAtMost m keeps.Layer w → 0 < passes → 2 ^ passes < 2 * w) → IsAtMostReached m keeps.Layer gained → budget < before + gained → IsBelowEnough m keeps.Layer budget
-below_enough m budget passes before gained few narrow reached over e =
-    let spent = more_drawn m passes before gained few reached e.r e.reached in
+pub below_enough : (m : Model) (keep : Keep) (budget passes before gained : ℕ) → ((r : ℕ) → AreReachedAtMost m keep r → before ≤ passes * r) → ((w : ℕ) → IsWidthAtMost m keep w → 0 < passes → 2 ^ passes < 2 * w) → IsAtMostReached m keep gained → budget < before + gained → IsBelowEnough m keep budget
+below_enough m keep budget passes before gained few narrow reached over e =
+    let spent = more_drawn m keep passes before gained few reached e.r e.reached in
     let early : passes ≤ e.k =
     elim (cases_lt 0 passes) [
       | inl some ↦

@@ -1,7 +1,6 @@
 -- What a run came to after a pass, by what is known of the pass.
 use Rattle.std.proofs.Common.{◌≡◌, ℕ, ◌+◌, ◌-◌, ◌*◌, ◌^◌, ◌<◌, ◌≤◌, List, [], ◌∷◌, ◌++◌, sym, ap, ◌∙◌, subst, Option, Some, None, inl, inr, ℤ, pos, arith}
 use Rattle.std.specs.Prelude.{IfNone, IfSome}
-use Rattle.dp_model.specs.declared.answers.Keep.TheVariants as keeps
 use Rattle.board_words.specs.Rules.{IsWhole}
 use Rattle.board_words.specs.Seats.{BoardFacts, IsSeatOf, SeatFacts}
 use Rattle.board_words.specs.Steps.{best_known}
@@ -35,7 +34,7 @@ use Rattle.solve_passes.specs.declared.status.Status.{Status}
 
 -- ---- what is known of a pass
 
-drawn_in : (p : ledgers.Pass) (before after : View) (end : PassEnd) → IsPassEnd p before after end → HasDrawn p.model before after (tally_in end).visited
+drawn_in : (p : ledgers.Pass) (before after : View) (end : PassEnd) → IsPassEnd p before after end → HasDrawn p.model p.keep before after (tally_in end).visited
 drawn_in p before after (ends.Closed visited dropped floor best) h = h.0
 drawn_in p before after (ends.Halted cause visited dropped best) h = h.0
 
@@ -50,7 +49,7 @@ is_new m held best (Some f) legal improved = (subst (λ (b : Option Found). IsLe
 
 -- ---- a pass that dropped nothing
 
-verdict_right : (m : Model) (options : Options) (held : Option Found) (count visited : ℕ) (ps : List Pass) → Passes m held count visited ps → LastDroppedNone ps → RightVerdict m options (record { at_target = None; passes = ps; ending = Ended (verdict_of held) }) (verdict_of held)
+verdict_right : (m : Model) (options : Options) (held : Option Found) (count visited : ℕ) (ps : List Pass) → Passes m options.keep held count visited ps → LastDroppedNone ps → RightVerdict m options (record { at_target = None; passes = ps; ending = Ended (verdict_of held) }) (verdict_of held)
 verdict_right m options None count visited ps h last = (nothing_last (solutions_of ps) h.last, inl last)
 verdict_right m options (Some f) count visited ps h last = (h.last, inl last)
 
@@ -78,10 +77,10 @@ module _ (m : Model) (options : Options) (board : BoardFacts) (progress : Progre
   pub within : (end : PassEnd) → Made end → progress.visited + (tally_in end).visited ≤ options.budget
   within end made = let h = drawn_in run seat.view after.view end made in omega (arith, h.drawn, h.visits, ongoing.drawn, ongoing.within, limited)
 
-  pub reached : (end : PassEnd) → Made end → IsAtMostReached m keeps.Layer (tally_in end).visited
+  pub reached : (end : PassEnd) → Made end → IsAtMostReached m options.keep (tally_in end).visited
   reached end made =
       let h = drawn_in run seat.view after.view end made in
-      reached_less m h.gained (tally_in end).visited h.reached (omega (arith, h.drawn, h.visits, ongoing.drawn, ongoing.within, limited))
+      reached_less m options.keep h.gained (tally_in end).visited h.reached (omega (arith, h.drawn, h.visits, ongoing.drawn, ongoing.within, limited))
 
   best_after : (best found : Option Found) → IsLegal m best → IsImproved m progress.held best found → IsLowered run (best_known seat.view) best (best_known after.view) → IsWordOf m (best_known after.view) (held_after progress.held found)
   best_after best found legal improved lowered = word_after run (best_known seat.view) (best_known after.view) progress.held best found legal ongoing.best improved lowered
@@ -104,7 +103,7 @@ module _ (m : Model) (options : Options) (board : BoardFacts) (progress : Progre
         drawn = omega (arith, d.drawn, d.visits, closed.on_time, ongoing.drawn, ongoing.within, limited);
         within = within (ends.Closed visited dropped floor best) made;
         best = best_after best found made.1 improved closed.best_is;
-        few_drawn = more_drawn m progress.passes progress.visited visited ongoing.few_drawn (reached (ends.Closed visited dropped floor best) made);
+        few_drawn = more_drawn m options.keep progress.passes progress.visited visited ongoing.few_drawn (reached (ends.Closed visited dropped floor best) made);
         narrow = λ w widest more. omega (arith, widest wide.0 wide.1 wide.2 wide.3, wide.4, ongoing.share, pow_next progress.passes);
       }
 
@@ -137,7 +136,7 @@ module _ (m : Model) (options : Options) (board : BoardFacts) (progress : Progre
   passes ps end found = all ps progress (tally_in end) found
 
   abbrev Known : List Pass → PassEnd → Option Found → Type 0
-  Known ps end found = Passes m (held_after progress.held found) (progress.passes + 1) (progress.visited + (tally_in end).visited) (passes ps end found)
+  Known ps end found = Passes m options.keep (held_after progress.held found) (progress.passes + 1) (progress.visited + (tally_in end).visited) (passes ps end found)
 
   abbrev Fits : List Pass → Ending → Type 0
   Fits ps ending = RightEnding m options (record { at_target = None; passes = ps; ending = ending }) ending × KeepsWord m options ending
@@ -160,7 +159,7 @@ module _ (m : Model) (options : Options) (board : BoardFacts) (progress : Progre
       let late : seat.view.drawn - after.view.limit < after.view.drawn - after.view.limit = made.2.cause_is.1 in
       let spent : progress.visited + visited ≡ options.budget = omega (arith, d.drawn, d.visits, ongoing.drawn, ongoing.within, limited, late) in
       let more : options.budget < progress.visited + d.gained = omega (arith, d.drawn, ongoing.drawn, ongoing.within, limited, late) in
-      (((spent, sym known.spent, below_enough m options.budget progress.passes progress.visited d.gained ongoing.few_drawn ongoing.narrow d.reached more), λ e needs. some_pass ps (pass_of progress found visited dropped) e), tt)
+      (((spent, sym known.spent, below_enough m options.keep options.budget progress.passes progress.visited d.gained ongoing.few_drawn ongoing.narrow d.reached more), λ e needs. some_pass ps (pass_of progress found visited dropped) e), tt)
   fits_halted ps (causes.Fault fault) visited dropped best found made known = ((made.2.cause_is.1, λ e needs. needs), tt)
   fits_halted ps causes.Memory visited dropped best found made known = (tt, tt)
 
@@ -174,7 +173,7 @@ module _ (m : Model) (options : Options) (board : BoardFacts) (progress : Progre
   new_of end found made improved = is_new m progress.held (tally_in end).best found (legal_in run seat.view after.view end made) improved
 
   ended : (printing : Printing) (old out : Option (List ℕ)) (new : Progress) (end : PassEnd) (found : Option Found) (result : Option Status) → Made end → IsImproved m progress.held (tally_in end).best found → IsFollowed printing m old out progress new (tally_in end) (halt_in end) found result →
-      IfSome result (λ status. (before : Option (List ℕ)) → HistoryOf m printing before old progress → Concluded m options printing before out status)
+      IfSome result (λ status. (before : Option (List ℕ)) → HistoryOf m options.keep printing before old progress → Concluded m options printing before out status)
   ended printing old out new end found None made improved followed = tt
   ended printing old out new end found (Some status) made improved (inl told) = λ before h.
       let new = new_of end found made improved in
@@ -186,7 +185,7 @@ module _ (m : Model) (options : Options) (board : BoardFacts) (progress : Progre
 
   -- the record of a run that is over
   pub concludes : (printing : Printing) (old out : Option (List ℕ)) (new : Progress) (end : PassEnd) (tally : Tally) (halt : Option Cause) (result : Option Status) → Made end → tally ≡ tally_in end → halt ≡ halt_in end → Follows printing old out new tally halt result →
-      IfSome result (λ status. (before : Option (List ℕ)) → HistoryOf m printing before old progress → Concluded m options printing before out status)
+      IfSome result (λ status. (before : Option (List ℕ)) → HistoryOf m options.keep printing before old progress → Concluded m options printing before out status)
   concludes printing old out new end tally halt result made same_tally same_halt h =
       let f = follows printing old out new end tally halt result same_tally same_halt h in
       ended printing old out new end f.0 result made f.1 f.2
@@ -196,13 +195,13 @@ module _ (m : Model) (options : Options) (board : BoardFacts) (progress : Progre
   lost_in tally (Some cause) lost = absurd lost
 
   grows : (printing : Printing) (old out : Option (List ℕ)) (new : Progress) (end : PassEnd) (result : Option Status) → Made end → Follows printing old out new (tally_in end) (halt_in end) result →
-      IfNone result ((before : Option (List ℕ)) → HistoryOf m printing before old progress → HistoryOf m printing before out new)
+      IfNone result ((before : Option (List ℕ)) → HistoryOf m options.keep printing before old progress → HistoryOf m options.keep printing before out new)
   grows printing old out new end (Some status) made f = tt
   grows printing old out new end None made f = λ before h.
-      subst (λ (n : Progress). HistoryOf m printing before out n) (sym f.2.1)
+      subst (λ (n : Progress). HistoryOf m options.keep printing before out n) (sym f.2.1)
       (went_on m options printing before old progress (tally_in end) f.0 h (new_of end f.0 made f.1) ongoing.share (reached end made) (within end made) out f.2.2 (lost_in (tally_in end) (halt_in end) f.2.0))
 
   -- the record so far of a run that goes on
   pub history : (printing : Printing) (old out : Option (List ℕ)) (new : Progress) (end : PassEnd) (tally : Tally) (halt : Option Cause) (result : Option Status) → Made end → tally ≡ tally_in end → halt ≡ halt_in end → Follows printing old out new tally halt result →
-      IfNone result ((before : Option (List ℕ)) → HistoryOf m printing before old progress → HistoryOf m printing before out new)
+      IfNone result ((before : Option (List ℕ)) → HistoryOf m options.keep printing before old progress → HistoryOf m options.keep printing before out new)
   history printing old out new end tally halt result made same_tally same_halt h = grows printing old out new end result made (follows printing old out new end tally halt result same_tally same_halt h)

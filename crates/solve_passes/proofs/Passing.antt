@@ -6,7 +6,7 @@ use Rattle.std.specs.Option.{option_map, option_to_list}
 use Rattle.std.proofs.lemmas.List.{append-nil}
 use Rattle.std.proofs.lemmas.List.Sums.{sum_by-append}
 use Rattle.std.proofs.lemmas.Grind.{flat_map-append}
-use Rattle.dp_model.specs.declared.answers.Keep.TheVariants as keeps
+use Rattle.dp_model.specs.declared.answers.Keep.{Keep}
 use Rattle.dp_claims.specs.Enough.{IsAtMostReached}
 use Rattle.dp_model.specs.Costs.{IsBetter}
 use Rattle.dp_model.specs.declared.answers.Found.{Found}
@@ -43,9 +43,9 @@ dropping_more (q ∷ ps) p d h = (h.0, dropping_more ps p d h.1)
 visits_more : (ps : List Pass) (p : Pass) → visits (ps ++ p ∷ []) ≡ visits ps + p.visited
 visits_more ps p = sum_by-append (λ (q : Pass). q.visited) ps (p ∷ []) ∙ omega arith
 
-reached_more : (m : Model) (ps : List Pass) (p : Pass) → AllByRecursion (λ (q : Pass). IsAtMostReached m keeps.Layer q.visited) ps → IsAtMostReached m keeps.Layer p.visited → AllByRecursion (λ (q : Pass). IsAtMostReached m keeps.Layer q.visited) (ps ++ p ∷ [])
-reached_more m [] p h r = (r, tt)
-reached_more m (q ∷ ps) p h r = (h.0, reached_more m ps p h.1 r)
+reached_more : (m : Model) (keep : Keep) (ps : List Pass) (p : Pass) → AllByRecursion (λ (q : Pass). IsAtMostReached m keep q.visited) ps → IsAtMostReached m keep p.visited → AllByRecursion (λ (q : Pass). IsAtMostReached m keep q.visited) (ps ++ p ∷ [])
+reached_more m keep [] p h r = (r, tt)
+reached_more m keep (q ∷ ps) p h r = (h.0, reached_more m keep ps p h.1 r)
 
 solutions_more : (ps : List Pass) (p : Pass) → solutions_of (ps ++ p ∷ []) ≡ solutions_of ps ++ option_to_list p.found
 solutions_more ps p = flat_map-append (λ (q : Pass). option_to_list q.found) ps (p ∷ []) ∙ ap (λ (xs : List Found). solutions_of ps ++ xs) (append-nil (option_to_list p.found))
@@ -96,31 +96,31 @@ held_more m held fs (Some f) h new = record {
 -- ---- passes
 
 -- one pass more
-pub passes_more : (m : Model) (held : Option Found) (count visited : ℕ) (ps : List Pass) (p : Pass) → Passes m held count visited ps → p.number ≡ count + 1 → p.share ≡ 2 ^ count → IsAtMostReached m keeps.Layer p.visited → IsNew m held p.found →
-    Passes m (held_after held p.found) (count + 1) (visited + p.visited) (ps ++ p ∷ [])
-passes_more m held count visited ps p h number share reached new =
+pub passes_more : (m : Model) (keep : Keep) (held : Option Found) (count visited : ℕ) (ps : List Pass) (p : Pass) → Passes m keep held count visited ps → p.number ≡ count + 1 → p.share ≡ 2 ^ count → IsAtMostReached m keep p.visited → IsNew m held p.found →
+    Passes m keep (held_after held p.found) (count + 1) (visited + p.visited) (ps ++ p ∷ [])
+passes_more m keep held count visited ps p h number share reached new =
     let x = held_more m held (solutions_of ps) p.found (record { legal = h.legal; improving = h.improving; last = h.last }) new in
     let is = sym (solutions_more ps p) in
     record {
       counted = length-append ps (p ∷ []) ∙ ap (λ (n : ℕ). n + 1) h.counted;
       numbered = numbered_more 1 ps p h.numbered (omega (arith, number, h.counted)) (share ∙ ap (λ (n : ℕ). 2 ^ n) (omega (arith, h.counted)));
       spent = visits_more ps p ∙ ap (λ (n : ℕ). n + p.visited) h.spent;
-      reached = reached_more m ps p h.reached reached;
+      reached = reached_more m keep ps p h.reached reached;
       legal = subst (AllByRecursion (λ (f : Found). Solution m f.steps f.cost)) is x.legal;
       improving = subst (Improving m.minimize) is x.improving;
       last = ap last_cost (sym is) ∙ x.last;
     }
 
 -- before any pass
-pub begins : (printing : Printing) (m : Model) (before : Option (List ℕ)) → History m printing before before None 0 0
-begins printing m before = record { passes = []; told = nothing_told printing; known = record { counted = refl; numbered = tt; spent = refl; reached = tt; legal = tt; improving = tt; last = refl }; dropping = tt }
+pub begins : (printing : Printing) (m : Model) (keep : Keep) (before : Option (List ℕ)) → History m keep printing before before None 0 0
+begins printing m keep before = record { passes = []; told = nothing_told printing; known = record { counted = refl; numbered = tt; spent = refl; reached = tt; legal = tt; improving = tt; last = refl }; dropping = tt }
   where
     nothing_told : (p : Printing) → Takes before before (passes_text p m [])
     nothing_told All = Takes-nothing before
     nothing_told VerdictAlone = Takes-nothing before
 
 -- a record of passes and an ending that fits them
-pub right_record : (m : Model) (options : Options) (held : Option Found) (count visited : ℕ) (ps : List Pass) (end : Ending) → Passes m held count visited ps → AllButLastDropped ps → visited ≤ options.budget → RightEnding m options (record { at_target = None; passes = ps; ending = end }) end →
+pub right_record : (m : Model) (options : Options) (held : Option Found) (count visited : ℕ) (ps : List Pass) (end : Ending) → Passes m options.keep held count visited ps → AllButLastDropped ps → visited ≤ options.budget → RightEnding m options (record { at_target = None; passes = ps; ending = end }) end →
     Right m options (record { at_target = None; passes = ps; ending = end })
 right_record m options held count visited ps end h dropping within ending = record {
   numbered = h.numbered;

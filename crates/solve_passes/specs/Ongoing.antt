@@ -2,7 +2,7 @@
 use Rattle.std.specs.Prelude.{◌≡◌, ℕ, ◌+◌, ◌*◌, ◌^◌, ◌<◌, ◌≤◌, ◌⊎◌, List, [], ◌∷◌, length, Option, Some, None, IfSome, pos}
 use Rattle.std.specs.List.{flat_map, AllByRecursion}
 use Rattle.std.specs.Option.{option_map, option_to_list}
-use Rattle.dp_model.specs.declared.answers.Keep.TheVariants as keeps
+use Rattle.dp_model.specs.declared.answers.Keep.{Keep}
 use Rattle.board_words.specs.Rules.{no_word, IsWhole}
 use Rattle.board_words.specs.Seats.{BoardFacts, SeatFacts, IsSeatOf}
 use Rattle.board_words.specs.Steps.{best_known}
@@ -33,24 +33,24 @@ abbrev pub solutions_of : List Pass → List Found
 solutions_of ps = flat_map (λ (p : Pass). option_to_list p.found) ps
 
 -- The passes so far. The last solution that was found is held.
-pub record Passes (m : Model) (held : Option Found) (count visited : ℕ) (ps : List Pass) : Type 0 where
+pub record Passes (m : Model) (keep : Keep) (held : Option Found) (count visited : ℕ) (ps : List Pass) : Type 0 where
   pub counted : length ps ≡ count
   pub numbered : NumberedFrom 1 ps
   pub spent : visits ps ≡ visited
-  pub reached : AllByRecursion (λ (p : Pass). IsAtMostReached m keeps.Layer p.visited) ps
+  pub reached : AllByRecursion (λ (p : Pass). IsAtMostReached m keep p.visited) ps
   pub legal : AllByRecursion (λ (f : Found). Solution m f.steps f.cost) (solutions_of ps)
   pub improving : Improving m.minimize (solutions_of ps)
   pub last : last_cost (solutions_of ps) ≡ option_map (λ (f : Found). f.cost) held
 
 -- the sink took the text of the passes so far, each of which dropped a node
-pub record History (m : Model) (printing : Printing) (before after : Option (List ℕ)) (held : Option Found) (count visited : ℕ) : Type 0 where
+pub record History (m : Model) (keep : Keep) (printing : Printing) (before after : Option (List ℕ)) (held : Option Found) (count visited : ℕ) : Type 0 where
   pub passes : List Pass
   pub told : Takes before after (passes_text printing m passes)
-  pub known : Passes m held count visited passes
+  pub known : Passes m keep held count visited passes
   pub dropping : AllByRecursion (λ (p : Pass). 0 < p.dropped) passes
 
-abbrev pub HistoryOf : Model → Printing → Option (List ℕ) → Option (List ℕ) → Progress → Type 0
-HistoryOf m printing before after progress = History m printing before after progress.held progress.passes progress.visited
+abbrev pub HistoryOf : Model → Keep → Printing → Option (List ℕ) → Option (List ℕ) → Progress → Type 0
+HistoryOf m keep printing before after progress = History m keep printing before after progress.held progress.passes progress.visited
 
 -- ---- how far a run has come
 
@@ -71,8 +71,8 @@ pub record IsOngoing (m : Model) (options : Options) (board : BoardFacts) (progr
   pub drawn : seat.view.drawn ≡ progress.visited
   pub within : progress.visited ≤ options.budget
   pub best : IsWordOf m (best_known seat.view) progress.held
-  pub few_drawn : (r : ℕ) → AreReachedAtMost m keeps.Layer r → progress.visited ≤ progress.passes * r
-  pub narrow : (w : ℕ) → IsWidthAtMost m keeps.Layer w → 0 < progress.passes → 2 ^ progress.passes < 2 * w
+  pub few_drawn : (r : ℕ) → AreReachedAtMost m options.keep r → progress.visited ≤ progress.passes * r
+  pub narrow : (w : ℕ) → IsWidthAtMost m options.keep w → 0 < progress.passes → 2 ^ progress.passes < 2 * w
 
 -- ---- one more pass
 

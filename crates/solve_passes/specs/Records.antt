@@ -2,7 +2,6 @@
 -- it ended; the text and the status of such a record; and which records are right for a model.
 use Rattle.std.specs.Prelude.{◌≡◌, ℕ, ◌+◌, ◌-◌, ◌^◌, ◌<◌, ◌≤◌, Bool, false, ◌⊎◌, List, [], ◌∷◌, ◌++◌, Option, Some, None, IfSome, option_to_list, ℤ, codes}
 use Rattle.std.specs.List.{flat_map, sum_by, AllByRecursion}
-use Rattle.dp_model.specs.declared.answers.Keep.TheVariants as keeps
 use Rattle.dp_model.specs.Costs.{IsBetter}
 use Rattle.dp_base.specs.Bytes.{line}
 use Rattle.solve_report.specs.Lines.{solution_text, pass_line, verdict_text}
@@ -125,7 +124,7 @@ IsBaseTarget m = (cost : ℤ) × Base m m.target cost
 abbrev pub RightVerdict : Model → Options → Record → Verdict → Type 0
 RightVerdict m options r (verdicts.Optimal c) = (last_cost (solutions r) ≡ Some c) × (LastDroppedNone r.passes ⊎ ((r.passes ≡ []) × IsBaseTarget m))
 RightVerdict m options r verdicts.Infeasible = (solutions r ≡ []) × (LastDroppedNone r.passes ⊎ ((r.passes ≡ []) × Forbidden m m.target))
-RightVerdict m options r (verdicts.Stopped v) = (v ≡ options.budget) × (v ≡ visits r.passes) × IsBelowEnough m keeps.Layer options.budget
+RightVerdict m options r (verdicts.Stopped v) = (v ≡ options.budget) × (v ≡ visits r.passes) × IsBelowEnough m options.keep options.budget
 RightVerdict m options r (verdicts.Fault f) = Meets m options.prune f.steps f.spot f.kind
 RightVerdict m options r (verdicts.Legal c) = ⊥
 RightVerdict m options r (verdicts.Illegal n reason) = ⊥
@@ -149,7 +148,7 @@ pub record Right (m : Model) (options : Options) (r : Record) : Type 0 where
   pub numbered : NumberedFrom 1 r.passes
   pub dropping : AllButLastDropped r.passes
   pub within_budget : visits r.passes ≤ options.budget
-  pub reached : AllByRecursion (λ (p : Pass). IsAtMostReached m keeps.Layer p.visited) r.passes
+  pub reached : AllByRecursion (λ (p : Pass). IsAtMostReached m options.keep p.visited) r.passes
   pub legal : AllByRecursion (λ (s : Found). Solution m s.steps s.cost) (solutions r)
   pub improving : Improving m.minimize (solutions r)
   pub base_target : IfSome r.at_target (λ s. (r.passes ≡ []) × IsBaseTarget m)
@@ -159,7 +158,7 @@ pub record Right (m : Model) (options : Options) (r : Record) : Type 0 where
 
 -- where the model is honest, or pruning is off
 abbrev pub IsTrusted : Model → Options → Type 0
-IsTrusted m options = (options.prune ≡ false) ⊎ Honest m keeps.Layer
+IsTrusted m options = (options.prune ≡ false) ⊎ Honest m options.keep
 
 -- `optimal`: none is better; `infeasible`: there is none
 abbrev pub KeepsWord : Model → Options → Ending → Type 0

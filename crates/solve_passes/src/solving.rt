@@ -148,8 +148,8 @@ fn make_pass<R: Wait, S: Sink, G: Gate>(
     requires options { AreOptions options.now }
     requires ongoing { IsOngoing model.now options.now board.now progress.old seat.old }
     ensures goes_on { IfNone result (IsOngoing model.now options.now board.now progress.new seat.new × (progress.old.passes < progress.new.passes)) }
-    ensures history { IfNone result ((before : Option (List ℕ)) → HistoryOf model.now printing before (S.taken out.old) progress.old → HistoryOf model.now printing before (S.taken out.new) progress.new) }
-    ensures ends { IfSome result (λ status. (before : Option (List ℕ)) → HistoryOf model.now printing before (S.taken out.old) progress.old → Concluded model.now options.now printing before (S.taken out.new) status) }
+    ensures history { IfNone result ((before : Option (List ℕ)) → HistoryOf model.now options.now.keep printing before (S.taken out.old) progress.old → HistoryOf model.now options.now.keep printing before (S.taken out.new) progress.new) }
+    ensures ends { IfSome result (λ status. (before : Option (List ℕ)) → HistoryOf model.now options.now.keep printing before (S.taken out.old) progress.old → Concluded model.now options.now printing before (S.taken out.new) status) }
     ensures failed { result ≡ Some Status.WriteFault → Rose (S.faults out.old) (S.faults out.new) }
     ensures count { S.faults out.old ≤ S.faults out.new }
 {

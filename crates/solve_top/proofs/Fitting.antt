@@ -6,12 +6,13 @@ use Rattle.std.specs.Str.Parse.{digits_value}
 use Rattle.std.proofs.lemmas.Bool.Decides.{nat_tests}
 use Rattle.clap.specs.Words.{Kinds}
 use Rattle.command_line.specs.Commands.{value_in, faults_in, solve, replay, show, generate}
-use Rattle.command_line.specs.Jobs.{is_number, number_in, number_or, on_or_off, options_of, unless_fault, solve_job, replay_job, show_job, sized_job, gen_job, solve_words, replay_words, show_words, gen_words, by_command, job_of}
+use Rattle.command_line.specs.Jobs.{is_number, number_in, number_or, on_or_off, layer_or_all, options_of, unless_fault, solve_job, replay_job, show_job, sized_job, gen_job, solve_words, replay_words, show_words, gen_words, by_command, job_of}
 use Rattle.command_line.specs.declared.jobs.Job.{Job}
 use Rattle.command_line.specs.declared.jobs.Job.TheVariants as jobs
 use Rattle.dp_model.specs.declared.answers.Options.{Options}
 use Rattle.model_gen.specs.Kinds.{kind_named, least_size, most_size}
 use Rattle.model_gen.specs.declared.kinds.GenKind.{GenKind}
+use Rattle.dp_model.specs.declared.answers.Keep.{Keep}
 use Rattle.dp_model.specs.declared.answers.Keep.TheVariants as keeps
 use Rattle.pass_ends.specs.Passes.{AreOptions}
 use Rattle.solve_top.specs.Jobs.{JobFits, gen_options}
@@ -66,21 +67,23 @@ budget_bounds text n e = or_bounds 10000000 1 1099511627776 text n (record { low
 
 -- ---- options of a search
 
-are_options : (w b : ℕ) (p : Bool) → Within 1 64 w → Within 1 1099511627776 b → AreOptions (record { workers = w; budget = b; prune = p; keep = keeps.Layer })
-are_options w b p h k = record { some_workers = h.low; few_workers = h.high; some_budget = k.low; small_budget = k.high }
+are_options : (w b : ℕ) (p : Bool) (keep : Keep) → Within 1 64 w → Within 1 1099511627776 b → AreOptions (record { workers = w; budget = b; prune = p; keep = keep })
+are_options w b p keep h k = record { some_workers = h.low; few_workers = h.high; some_budget = k.low; small_budget = k.high }
 
-options_fit : (workers budget prune : Option (List ℕ)) (options : Options) → options_of workers budget prune ≡ Some options → AreOptions options
-options_fit workers budget prune options e =
-    let with_workers = λ (w : ℕ). option_and_then (λ (b : ℕ). option_map (λ (p : Bool). record { workers = w; budget = b; prune = p; keep = keeps.Layer }) (on_or_off prune)) (number_or 10000000 1 1099511627776 budget) in
+options_fit : (workers budget prune keep : Option (List ℕ)) (options : Options) → options_of workers budget prune keep ≡ Some options → AreOptions options
+options_fit workers budget prune keep options e =
+    let with_workers = λ (w : ℕ). option_and_then (λ (b : ℕ). option_and_then (λ (p : Bool). option_map (λ (k : Keep). record { workers = w; budget = b; prune = p; keep = k }) (layer_or_all keep)) (on_or_off prune)) (number_or 10000000 1 1099511627776 budget) in
     let w = then_some with_workers (number_or 1 1 64 workers) options e in
-    let with_budget = λ (b : ℕ). option_map (λ (p : Bool). record { workers = w.0; budget = b; prune = p; keep = keeps.Layer }) (on_or_off prune) in
+    let with_budget = λ (b : ℕ). option_and_then (λ (p : Bool). option_map (λ (k : Keep). record { workers = w.0; budget = b; prune = p; keep = k }) (layer_or_all keep)) (on_or_off prune) in
     let b = then_some with_budget (number_or 10000000 1 1099511627776 budget) options w.2 in
-    let whole : Bool → Options = λ (p : Bool). record { workers = w.0; budget = b.0; prune = p; keep = keeps.Layer } in
-    let p = map_some whole (on_or_off prune) options b.2 in
-    subst AreOptions p.2 (are_options w.0 b.0 p.0 (workers_bounds workers w.0 w.1) (budget_bounds budget b.0 b.1))
+    let with_prune = λ (p : Bool). option_map (λ (k : Keep). record { workers = w.0; budget = b.0; prune = p; keep = k }) (layer_or_all keep) in
+    let p = then_some with_prune (on_or_off prune) options b.2 in
+    let whole : Keep → Options = λ (k : Keep). record { workers = w.0; budget = b.0; prune = p.0; keep = k } in
+    let k = map_some whole (layer_or_all keep) options p.2 in
+    subst AreOptions k.2 (are_options w.0 b.0 p.0 k.0 (workers_bounds workers w.0 w.1) (budget_bounds budget b.0 b.1))
 
 gen_options_fit : (workers : ℕ) → Within 1 64 workers → AreOptions (gen_options workers)
-gen_options_fit workers h = are_options workers 10000000 true h (record { low = omega arith; high = omega arith })
+gen_options_fit workers h = are_options workers 10000000 true keeps.Layer h (record { low = omega arith; high = omega arith })
 
 -- ---- jobs
 
@@ -88,13 +91,13 @@ free_job : (kinds : Kinds) (told : Option Job) (job : Job) → unless_fault kind
 free_job [] told job e = e
 free_job (kind ∷ kinds) told job e = absurd cc
 
-solve_fits : (domain problem workers budget prune : Option (List ℕ)) (job : Job) → solve_job domain problem workers budget prune ≡ Some job → JobFits job
-solve_fits (Some domain) (Some problem) workers budget prune job e =
+solve_fits : (domain problem workers budget prune keep : Option (List ℕ)) (job : Job) → solve_job domain problem workers budget prune keep ≡ Some job → JobFits job
+solve_fits (Some domain) (Some problem) workers budget prune keep job e =
     let whole : Options → Job = λ (options : Options). jobs.Solve domain problem options in
-    let o = map_some whole (options_of workers budget prune) job e in
-    subst JobFits o.2 (options_fit workers budget prune o.0 o.1)
-solve_fits (Some domain) None workers budget prune job e = absurd cc
-solve_fits None problem workers budget prune job e = absurd cc
+    let o = map_some whole (options_of workers budget prune keep) job e in
+    subst JobFits o.2 (options_fit workers budget prune keep o.0 o.1)
+solve_fits (Some domain) None workers budget prune keep job e = absurd cc
+solve_fits None problem workers budget prune keep job e = absurd cc
 
 replay_fits : (domain problem list : Option (List ℕ)) (job : Job) → replay_job domain problem list ≡ Some job → JobFits job
 replay_fits (Some domain) (Some problem) (Some list) job e = subst JobFits (some_one (jobs.Replay domain problem list) job e) tt
@@ -128,7 +131,7 @@ gen_fits None size seed workers job e = absurd cc
 
 solve_words_fit : (ws : List (List ℕ)) (job : Job) → solve_words ws ≡ Some job → JobFits job
 unfolding solve_words
-solve_words_fit ws job e = solve_fits (value_in solve ws (codes "domain")) (value_in solve ws (codes "problem")) (value_in solve ws (codes "workers")) (value_in solve ws (codes "budget")) (value_in solve ws (codes "prune")) job (free_job (faults_in solve ws) (solve_job (value_in solve ws (codes "domain")) (value_in solve ws (codes "problem")) (value_in solve ws (codes "workers")) (value_in solve ws (codes "budget")) (value_in solve ws (codes "prune"))) job e)
+solve_words_fit ws job e = solve_fits (value_in solve ws (codes "domain")) (value_in solve ws (codes "problem")) (value_in solve ws (codes "workers")) (value_in solve ws (codes "budget")) (value_in solve ws (codes "prune")) (value_in solve ws (codes "keep")) job (free_job (faults_in solve ws) (solve_job (value_in solve ws (codes "domain")) (value_in solve ws (codes "problem")) (value_in solve ws (codes "workers")) (value_in solve ws (codes "budget")) (value_in solve ws (codes "prune")) (value_in solve ws (codes "keep"))) job e)
 
 replay_words_fit : (ws : List (List ℕ)) (job : Job) → replay_words ws ≡ Some job → JobFits job
 unfolding replay_words

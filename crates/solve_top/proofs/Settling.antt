@@ -1,7 +1,9 @@
 -- A search of a model that meets no fault, with a budget that is enough, is settled.
-use Rattle.std.proofs.Common.{◌≡◌, ℕ, ◌≤◌, ◌<◌, ◌⊎◌, inl, inr, List, [], ◌∷◌, Option, Some, None, refl, sym, subst, ◌∙◌, ap, length, arith}
+use Rattle.std.proofs.Common.{◌≡◌, ℕ, ◌+◌, ◌*◌, ◌≤◌, ◌<◌, ◌⊎◌, inl, inr, List, [], ◌∷◌, Option, Some, None, refl, sym, subst, ◌∙◌, ap, length, arith}
 use Rattle.std.specs.Prelude.{IfSome}
 use Rattle.dp_claims.specs.Enough.{IsEnough}
+use Rattle.dp_model.specs.declared.answers.Keep.{Keep}
+use Rattle.dp_model.specs.declared.answers.Keep.TheVariants as keeps
 use Rattle.dp_model.specs.declared.answers.Options.{Options}
 use Rattle.dp_model.specs.declared.answers.Verdict.{Verdict}
 use Rattle.dp_model.specs.declared.answers.Verdict.TheVariants as verdicts
@@ -12,11 +14,12 @@ use Rattle.command_line.specs.declared.jobs.Job.TheVariants as jobs
 use Rattle.dypdl_nodes.specs.Reads.{Refusal}
 use Rattle.model_gen.specs.Texts.{domain_text, problem_text}
 use Rattle.model_gen.specs.declared.kinds.GenKind.{GenKind}
+use Rattle.pass_ledger.proofs.Finite.{finite}
 use Rattle.solve_passes.specs.Records.{Record, Ending, Ended, OutOfMemory, Right, RightEnding, RightVerdict, ending_status}
 use Rattle.solve_passes.specs.Statuses.{code_of}
 use Rattle.solve_passes.specs.declared.status.Status.{Status}
 use Rattle.solve_passes.specs.declared.status.Status.TheVariants as statuses
-use Rattle.solve_top.specs.Answers.{CanEnd, IsSettled, SettlesFiles, SettlesGenerated}
+use Rattle.solve_top.specs.Answers.{CanEnd, IsSettled, IsSmall, SettlesFiles, SettlesGenerated, SettlesSmall}
 use Rattle.solve_top.specs.Files.{IsShort, IsLong, IsText, AreTexts, AtFile, OfTexts}
 use Rattle.solve_top.specs.Jobs.{Asks, gen_options, names_of}
 use Rattle.solve_top.specs.Outcomes.{Outcome, NoMeaning, ReadFault, TooLong, Refused, NoMemory, Solving, Replayed, Shown, NoGenerated, Generated, ComesOf, Printed, outcome_status, no_model_status}
@@ -150,6 +153,24 @@ pub settles_files : (words : List (List ℕ)) (files : List ℕ → Option (List
 settles_files words files before after outcome status comes printed =
     λ domain problem first second options m asks told short told' short' means can.
     printed_code before after outcome status printed (settles_as words files domain problem first second options m asks told short told' short' means can outcome comes)
+
+-- ---- a search of a small model
+
+-- more than enough is enough
+more_enough : (m : Model) (keep : Keep) (few budget : ℕ) → IsEnough m keep few → few ≤ budget → IsEnough m keep budget
+more_enough m keep few budget e le = record { r = e.r; width = e.width; k = e.k; reached = e.reached; widest = e.widest; doubled = e.doubled; within = omega (arith, e.within, le) }
+
+can_end : (m : Model) (options : Options) → IsSmall m options → CanEnd m options
+can_end m options small = record {
+  no_fault = small.no_fault;
+  enough = subst (λ (keep : Keep). IsEnough m keep options.budget) (sym small.keep)
+      (more_enough m keeps.All (length small.states * length small.states * (length small.states + 1)) options.budget (finite m small.states small.are_states small.no_round) small.within);
+}
+
+pub settles_small : (words : List (List ℕ)) (files : List ℕ → Option (List ℕ)) (before after : Option (List ℕ)) (outcome : Outcome) (status : Status) → ComesOf words files outcome → Printed before after outcome status → SettlesSmall words files (code_of status)
+settles_small words files before after outcome status comes printed =
+    λ domain problem first second options m asks told short told' short' means small.
+    settles_files words files before after outcome status comes printed domain problem first second options m asks told short told' short' means (can_end m options small)
 
 -- ---- a search of a generated model
 

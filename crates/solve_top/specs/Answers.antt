@@ -1,12 +1,14 @@
 -- When a search has to end with what is known of all lists, or for want of memory.
-use Rattle.std.specs.Prelude.{◌≡◌, ℕ, ◌⊎◌, Bool, true, List, Option, Some}
-use Rattle.dp_model.specs.declared.answers.Keep.TheVariants as keeps
+use Rattle.std.specs.Prelude.{◌≡◌, ℕ, ◌+◌, ◌*◌, ◌≤◌, ◌⊎◌, Bool, true, List, length, Option, Some}
 use Rattle.dp_claims.specs.Enough.{IsEnough}
 use Rattle.dp_model.specs.declared.answers.FaultKind.{FaultKind}
+use Rattle.dp_model.specs.declared.answers.Keep.TheVariants as keeps
 use Rattle.dp_model.specs.declared.answers.Options.{Options}
 use Rattle.dp_model.specs.declared.answers.Spot.{Spot}
+use Rattle.dp_model.specs.declared.parts.PlainState.{PlainState}
 use Rattle.dp_model.specs.declared.whole.Model.{Model}
 use Rattle.dp_steps.specs.Faults.{Meets}
+use Rattle.pass_ledger.specs.Finite.{AreStates, NoRoundBetters}
 use Rattle.command_line.specs.declared.jobs.Job.TheVariants as jobs
 use Rattle.model_gen.specs.Texts.{domain_text, problem_text}
 use Rattle.model_gen.specs.declared.kinds.GenKind.{GenKind}
@@ -21,7 +23,7 @@ MeetsNone m prune = (steps : List ℕ) (spot : Spot) (kind : FaultKind) → Meet
 -- the model can be searched to the end with these options
 pub record CanEnd (m : Model) (options : Options) : Type 0 where
   pub no_fault : MeetsNone m options.prune
-  pub enough : IsEnough m keeps.Layer options.budget
+  pub enough : IsEnough m options.keep options.budget
 
 -- optimal, infeasible, or want of memory; or a read or a write failed
 abbrev pub IsSettled : ℕ → Type 0
@@ -39,3 +41,19 @@ abbrev pub SettlesGenerated : List (List ℕ) → ℕ → Type 0
 SettlesGenerated words code =
     (kind : GenKind) (size seed workers : ℕ) (m : Model) → Asks words (jobs.Gen kind size seed workers)
     → Means (domain_text kind) (problem_text kind size seed) m → CanEnd m (gen_options workers) → IsSettled code
+
+-- The nodes kept in earlier layers cover too, and the model is small for the budget: each inner state that a path leads to is one
+-- of n, no round betters its cost, and the budget is at least n * n * (n + 1).
+pub record IsSmall (m : Model) (options : Options) : Type 0 where
+  pub no_fault : MeetsNone m options.prune
+  pub keep : options.keep ≡ keeps.All
+  pub states : List PlainState
+  pub are_states : AreStates m states
+  pub no_round : NoRoundBetters m
+  pub within : length states * length states * (length states + 1) ≤ options.budget
+
+-- Where the words ask for a search of such a model, in two files as above, the search is settled.
+abbrev pub SettlesSmall : List (List ℕ) → (List ℕ → Option (List ℕ)) → ℕ → Type 0
+SettlesSmall words files code =
+    (domain problem first second : List ℕ) (options : Options) (m : Model) → Asks words (jobs.Solve domain problem options)
+    → files domain ≡ Some first → IsShort first → files problem ≡ Some second → IsShort second → Means first second m → IsSmall m options → IsSettled code

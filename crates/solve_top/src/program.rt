@@ -12,7 +12,7 @@ ghost use Rattle.solve_passes.specs.Statuses.{code_of};
 ghost use Rattle.solve_passes.specs.declared.status.Status.{Status};
 ghost use Rattle.solve_report.specs.Lines.{file_name as name_of_file};
 ghost use Rattle.solve_report.specs.Puts.{Puts};
-ghost use Rattle.solve_top.specs.Answers.{SettlesFiles, SettlesGenerated};
+ghost use Rattle.solve_top.specs.Answers.{SettlesFiles, SettlesGenerated, SettlesSmall};
 ghost use Rattle.solve_top.specs.Jobs.{JobFits, gen_options};
 ghost use Rattle.solve_top.specs.Outcomes.{Outcome, NoMeaning, ComesOf, Does, Printed, SolvesGenerated, gen_line, ground_line};
 ghost use Rattle.solve_top.specs.Outcomes as outcomes;
@@ -335,6 +335,7 @@ pub fn run<R: Threads + Wait + Sync, F: Shelf, S: Sink, G: Gate>(
     ensures read_fault { result ≡ 4 → Rose (F.faults shelf.old) (F.faults shelf.new) }
     ensures write_fault { result ≡ 5 → Rose (S.faults out.old) (S.faults out.new) }
     ensures settles { SettlesFiles (map string_bytes words.now.items) (F.bytes_under shelf.old) result }
+    ensures settles_small { SettlesSmall (map string_bytes words.now.items) (F.bytes_under shelf.old) result }
     ensures settles_generated { SettlesGenerated (map string_bytes words.now.items) result }
 {
     perform(rt, alloc, words, shelf, out, gate).code()

@@ -1,3 +1,10 @@
+pub mod Ranking
+pub mod Decoding
 pub mod Signing
+pub mod Keying
 pub mod Deciding
+pub mod Stepping
+pub mod Placing
+pub mod Blanking
+pub mod Carrying
 pub mod Owners

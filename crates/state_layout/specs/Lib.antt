@@ -1,6 +1,10 @@
 pub mod Slots
+pub mod Packing
+pub mod Forms
+pub mod Drafts
 pub mod Conditions
 pub mod Signatures
+pub mod Keys
 pub mod Merits
 pub mod Tests
 pub mod Laws

@@ -1,41 +1,53 @@
 //! Whether a state is at least as good as another on each variable. No call takes memory.
 
-ghost use Rattle.std.specs.Prelude.{◌≡◌, length};
-ghost use Rattle.state_layout.specs.Tests.{is_same_value, is_at_most, is_at_least, are_at_least};
+ghost use Rattle.std.specs.Prelude.{◌≡◌, ◌<◌};
+ghost use Rattle.state_layout.specs.Packing.{count_in, value_in, state_in};
+ghost use Rattle.state_layout.specs.Forms.{HoldsSlot, Fits};
+ghost use Rattle.state_layout.specs.Tests.{is_at_most, is_at_least, are_at_least};
 
 use crate::layout::Slot;
-use crate::sames::{are_same_sets, is_same_value};
-use dp_model::{PlainValue, Preference};
+use crate::reading::{are_same_sets, is_set, number_in};
+use crate::sames::is_same_value;
+use dp_model::Preference;
 
-pub(crate) fn are_at_least(slots: &[Slot], xs: &[PlainValue], ys: &[PlainValue]) -> bool
-    requires left { length xs.now ≡ length slots.now }
-    requires right { length ys.now ≡ length slots.now }
-    ensures { result ≡ are_at_least slots.now xs.now ys.now }
+pub(crate) fn are_at_least(slots: &[Slot], a: &[u64], b: &[u64]) -> bool
+    requires left { Fits slots.now a.now }
+    requires right { Fits slots.now b.now }
+    ensures { result ≡ are_at_least slots.now (state_in a.now).values (state_in b.now).values }
 {
-    for place in 0..slots.len() {
-        if !is_at_least(slots[place].preference, &xs[place], &ys[place]) {
+    let count = slots.len();
+    for place in 0..count {
+        if !is_at_least(a, b, count, place, slots[place]) {
             return false;
         }
     }
     true
 }
 
-fn is_at_least(preference: Preference, x: &PlainValue, y: &PlainValue) -> bool
-    ensures { result ≡ is_at_least preference x.now y.now }
+fn is_at_least(a: &[u64], b: &[u64], count: usize, place: usize, slot: Slot) -> bool
+    requires count { (count ≡ count_in a.now) × (count ≡ count_in b.now) }
+    requires few { count < 65536 }
+    requires left { HoldsSlot slot a.now place }
+    requires right { HoldsSlot slot b.now place }
+    ensures { result ≡ is_at_least slot.preference (value_in a.now place) (value_in b.now place) }
 {
-    match preference {
-        Preference::Without => is_same_value(x, y),
-        Preference::Less => is_at_most(x, y),
-        Preference::Greater => is_at_most(y, x),
+    match slot.preference {
+        Preference::Without => is_same_value(a, b, count, place, slot),
+        Preference::Less => is_at_most(a, b, count, place, slot),
+        Preference::Greater => is_at_most(b, a, count, place, slot),
     }
 }
 
-fn is_at_most(x: &PlainValue, y: &PlainValue) -> bool
-    ensures { result ≡ is_at_most x.now y.now }
+fn is_at_most(a: &[u64], b: &[u64], count: usize, place: usize, slot: Slot) -> bool
+    requires count { (count ≡ count_in a.now) × (count ≡ count_in b.now) }
+    requires few { count < 65536 }
+    requires left { HoldsSlot slot a.now place }
+    requires right { HoldsSlot slot b.now place }
+    ensures { result ≡ is_at_most (value_in a.now place) (value_in b.now place) }
 {
-    match (x, y) {
-        (PlainValue::Number(m), PlainValue::Number(n)) => m <= n,
-        (PlainValue::Members(set), PlainValue::Members(other)) => are_same_sets(set, other),
-        _ => false,
+    if is_set(slot.kind) {
+        are_same_sets(a, b, count, place, slot)
+    } else {
+        number_in(a, count, place) <= number_in(b, count, place)
     }
 }

@@ -1,20 +1,28 @@
 //! The layout of a model's states, and the calls that need it.
 
-ghost use Rattle.std.specs.Prelude.{◌≡◌, ◌↔◌, ◌≤◌, IsTrue, IfOk};
+ghost use Rattle.std.specs.Prelude.{◌≡◌, ◌↔◌, ◌+◌, ◌<◌, ◌≤◌, IsTrue, IfOk, length};
 ghost use Rattle.dp_model.specs.declared.whole.Model.{Model as DpModel};
 ghost use Rattle.dp_model.specs.Typing.{type_count};
 ghost use Rattle.dp_claims.specs.Dominance.{Dominates};
-ghost use Rattle.state_layout.specs.Slots.{slot_of};
+ghost use Rattle.state_layout.specs.Slots.{slot_of, sets_among, rank_after};
 ghost use Rattle.state_layout.specs.Signatures.{signature_of, state_words, hash_of, owner_of};
+ghost use Rattle.state_layout.specs.Keys.{key_of};
 ghost use Rattle.state_layout.specs.Merits.{merit_of};
+ghost use Rattle.state_layout.specs.Packing.{state_in, HasFirstRow};
+ghost use Rattle.state_layout.specs.Forms.{Fits};
 ghost use Rattle.state_layout.specs.Tests.{dominates_by};
 ghost use Rattle.state_layout.specs.Conditions.{IsLayoutOf, IsStateOf, IsStateFor, IsPackedOf, IsPackedFor};
 
-use crate::copies::copy_state;
+use crate::blank::blank_of;
 use crate::dominance::are_at_least;
+use crate::draft::Draft;
+use crate::keys::{key_of, whole_key_of};
 use crate::merits::merit_in;
 use crate::packed::Packed;
+use crate::packing::words_for;
+use crate::reading::is_set;
 use crate::sames::are_same;
+use crate::unpacking::state_of;
 use crate::words::{hash_of, whole_hash_of, words_of};
 use dp_base::Seq;
 use dp_model::{Model as DpModel, ObjectType, PlainState, Preference, VarKind, Variable};
@@ -22,18 +30,21 @@ use std::alloc::{AllocError, Global};
 use std::marker::Model;
 
 /// What a state keeps of a variable: its kind, how many members the object type has that the kind names (0 for an integer
-/// variable), and which of its values dominate others.
+/// variable), and which of its values dominate others; then how many variables before it hold sets, and how many of all do.
 #[derive(Clone, Copy, Debug, PartialEq, Eq)]
 pub struct Slot {
     pub kind: VarKind,
     pub count: u32,
     pub preference: Preference,
+    pub rank: u32,
+    pub sets: u32,
 }
 
 /// How the states of a model are packed: a slot for each variable, in order.
 #[derive(Debug, Drop)]
 pub struct Layout {
     slots: Vec<Slot>,
+    blank: Vec<u64>,
 }
 
 impl Model for Layout {
@@ -43,6 +54,10 @@ impl Model for Layout {
     ghost Value = { List Slot };
 
     ghost view = { λ l. l.slots.items };
+
+    ghost use Rattle.state_layout.specs.Forms.{HasRoom};
+
+    ghost invariant = { λ l. HasRoom l.slots.items l.blank.items };
 }
 
 impl Layout {
@@ -50,12 +65,9 @@ impl Layout {
     pub fn of(alloc: Global, model: &DpModel) -> Result<Layout, AllocError>
         ensures { IfOk result (λ layout. IsLayoutOf model.now layout) }
     {
-        let variables = model.variables().list();
-        let mut slots = Vec::with_capacity(alloc, variables.len())?;
-        for variable in variables {
-            slots.push(slot_for(model.objects(), variable))?;
-        }
-        Ok(Layout { slots })
+        let slots = slots_for(alloc, model)?;
+        let blank = blank_of(alloc, &slots)?;
+        Ok(Layout { slots, blank })
     }
 
     /// An equal layout.
@@ -64,6 +76,7 @@ impl Layout {
     {
         Ok(Layout {
             slots: Vec::from_slice(alloc, &self.slots)?,
+            blank: Vec::from_slice(alloc, &self.blank)?,
         })
     }
 
@@ -73,25 +86,32 @@ impl Layout {
         ensures state { IfOk result (λ p. p ≡ s.now) }
         ensures packed { (m : DpModel) → IsStateOf m s.now → IfOk result (λ p. IsPackedOf m p) }
     {
-        Ok(Packed::of(copy_state(alloc, s)?))
+        Ok(Packed::of(words_for(alloc, &self.slots, &self.blank, s)?))
     }
 
-    /// The same of a state that is given up. It takes no memory.
-    pub fn packed(&self, s: PlainState) -> Packed
-        requires { IsStateFor self.now s }
-        ensures state { result ≡ s }
-        ensures packed { (m : DpModel) → IsStateOf m s → IsPackedOf m result }
-    {
-        Packed::of(s)
-    }
-
-    /// The state that was packed, where it is only read. It takes no memory.
-    pub fn plain<'p>(&self, p: &'p Packed) -> &'p PlainState
+    /// A copy of a packed state, in which variables may be set.
+    pub fn draft(&self, alloc: Global, p: &Packed) -> Result<Draft<'_>, AllocError>
         requires { IsPackedFor self.now p.now }
-        ensures state { result.now ≡ p.now }
-        ensures unpacked { (m : DpModel) → IsPackedOf m p.now → IsStateOf m result.now }
+        ensures { IfOk result (λ d. d ≡ record { slots = self.now; state = p.now }) }
     {
-        p.state()
+        Draft::of(alloc, &self.slots, &self.blank, self.words(p))
+    }
+
+    /// The slots of the variables.
+    pub fn slots(&self) -> &[Slot]
+        ensures { result.now ≡ self.now }
+    {
+        &self.slots
+    }
+
+    /// The words of a packed state.
+    pub fn words<'p>(&self, p: &'p Packed) -> &'p [u64]
+        requires { IsPackedFor self.now p.now }
+        ensures state { state_in result.now ≡ p.now }
+        ensures fits { Fits self.now result.now }
+        ensures row { HasFirstRow result.now }
+    {
+        p.words()
     }
 
     /// The state that was packed.
@@ -100,7 +120,7 @@ impl Layout {
         ensures state { IfOk result (λ s. s ≡ p.now) }
         ensures unpacked { (m : DpModel) → IsPackedOf m p.now → IfOk result (λ s. IsStateOf m s) }
     {
-        copy_state(alloc, p.state())
+        state_of(alloc, self.slots(), self.words(p))
     }
 
     /// Whether two packed states are the same state. It takes no memory.
@@ -109,7 +129,7 @@ impl Layout {
         requires right { IsPackedFor self.now b.now }
         ensures { IsTrue result ↔ (a.now ≡ b.now) }
     {
-        are_same(a.state(), b.state())
+        are_same(self.slots(), self.words(a), self.words(b))
     }
 
     /// The words of the values of all variables but the resources, in order of definition: one for an integer variable (in
@@ -119,8 +139,7 @@ impl Layout {
         requires { IsPackedFor self.now p.now }
         ensures { IfOk result (λ words. words ≡ signature_of self.now p.now) }
     {
-        let values = p.state().values().list();
-        Ok(Seq::of(words_of(alloc, &self.slots, values)?))
+        Ok(Seq::of(words_of(alloc, self.slots(), self.words(p))?))
     }
 
     /// FNV-1a of 64 bits over the bytes of a state's signature, each word's low byte first. States of which one dominates the
@@ -129,7 +148,7 @@ impl Layout {
         requires { IsPackedFor self.now p.now }
         ensures { result ≡ hash_of (signature_of self.now p.now) }
     {
-        hash_of(&self.slots, p.state().values().list())
+        hash_of(self.slots(), self.words(p))
     }
 
     /// The same over the words of all values, those of resources too. It takes no memory.
@@ -137,7 +156,23 @@ impl Layout {
         requires { IsPackedFor self.now p.now }
         ensures { result ≡ hash_of (state_words self.now p.now) }
     {
-        whole_hash_of(&self.slots, p.state().values().list())
+        whole_hash_of(self.slots(), self.words(p))
+    }
+
+    /// A key of a state's signature, cheaper than the hash over it. It takes no memory.
+    pub fn signature_key(&self, p: &Packed) -> u64
+        requires { IsPackedFor self.now p.now }
+        ensures { result ≡ key_of (signature_of self.now p.now) }
+    {
+        key_of(self.slots(), self.words(p))
+    }
+
+    /// The same of the words of all values. It takes no memory.
+    pub fn state_key(&self, p: &Packed) -> u64
+        requires { IsPackedFor self.now p.now }
+        ensures { result ≡ key_of (state_words self.now p.now) }
+    {
+        whole_key_of(self.slots(), self.words(p))
     }
 
     /// How good a state is by its first resource: the value of this variable, or -1 less it where less is better; 0 in a
@@ -146,7 +181,7 @@ impl Layout {
         requires { IsPackedFor self.now p.now }
         ensures { result ≡ merit_of self.now p.now }
     {
-        merit_in(&self.slots, p.state().values().list())
+        merit_in(self.slots(), self.words(p))
     }
 
     /// Which of so many shards owns a state: the hash over its signature, modulo their number. It takes no memory.
@@ -166,14 +201,50 @@ impl Layout {
         ensures test { result ≡ dominates_by self.now a.now b.now }
         ensures dominates { (m : DpModel) → IsLayoutOf m self.now → IsTrue result ↔ Dominates m a.now b.now }
     {
-        let theirs = b.state().values().list();
-        are_at_least(&self.slots, a.state().values().list(), theirs)
+        are_at_least(self.slots(), self.words(a), self.words(b))
     }
 }
 
-// what a state keeps of a variable
-fn slot_for(objects: &Seq<ObjectType>, variable: &Variable) -> Slot
-    ensures { result ≡ slot_of objects.now variable.now }
+/// A slot for each variable of a model, in order.
+fn slots_for(alloc: Global, model: &DpModel) -> Result<Vec<Slot>, AllocError>
+    ensures { IfOk result (λ slots. IsLayoutOf model.now slots.items) }
+{
+    let variables = model.variables().list();
+    let sets = sets_among(variables);
+    let mut slots = Vec::with_capacity(alloc, variables.len())?;
+    let mut rank = 0;
+    for variable in variables {
+        let slot = slot_for(model.objects(), sets, rank, variable);
+        rank = rank_after(rank, slot.kind);
+        slots.push(slot)?;
+    }
+    Ok(slots)
+}
+
+/// How many of the variables hold sets.
+fn sets_among(variables: &[Variable]) -> u32
+    requires { length variables.now ≤ 1024 }
+    ensures { result ≡ sets_among variables.now }
+{
+    let mut sets = 0;
+    for variable in variables {
+        sets = rank_after(sets, variable.kind());
+    }
+    sets
+}
+
+/// How many sets come before the next variable.
+fn rank_after(rank: u32, kind: VarKind) -> u32
+    requires { rank < 1024 }
+    ensures value { result ≡ rank_after rank kind }
+    ensures most { result ≤ rank + 1 }
+{
+    if is_set(kind) { rank + 1 } else { rank }
+}
+
+/// The slot of a variable, where so many variables hold sets and so many of these come before it.
+fn slot_for(objects: &Seq<ObjectType>, sets: u32, rank: u32, variable: &Variable) -> Slot
+    ensures { result ≡ slot_of objects.now sets rank variable.now }
 {
     let kind = variable.kind();
     let count = match kind {
@@ -184,6 +255,8 @@ fn slot_for(objects: &Seq<ObjectType>, variable: &Variable) -> Slot
         kind,
         count,
         preference: variable.preference(),
+        rank,
+        sets,
     }
 }
 

@@ -1,16 +1,19 @@
 //! A packed state.
 
 ghost use Rattle.std.specs.Prelude.{◌≡◌, IfOk};
+ghost use Rattle.state_layout.specs.Packing.{state_in, HasFirstRow};
 
-use crate::copies::copy_state;
-use dp_model::PlainState;
+use smallvec::SmallVec;
 use std::alloc::{AllocError, Global};
 use std::marker::Model;
 
-/// A state in packed form, which contracts see as the plain state. Today it keeps the plain state itself.
+/// The words of a state; up to six of them stand in the value itself.
+pub(crate) type Words = SmallVec<u64, 6>;
+
+/// A state in packed form, which contracts see as the plain state.
 #[derive(Debug, Drop)]
 pub struct Packed {
-    state: PlainState,
+    words: Words,
 }
 
 impl Model for Packed {
@@ -18,27 +21,33 @@ impl Model for Packed {
 
     ghost Value = { PlainState };
 
-    ghost view = { λ p. p.state };
+    ghost use Rattle.state_layout.specs.Packing.{state_in, HasFirstRow};
+
+    ghost view = { λ p. state_in p.words.items };
+
+    ghost invariant = { λ p. HasFirstRow p.words.items };
 }
 
 impl Packed {
-    pub(crate) fn of(state: PlainState) -> Packed
-        ensures { result ≡ state }
+    pub(crate) fn of(words: Words) -> Packed
+        requires { HasFirstRow words.items }
+        ensures { result ≡ state_in words.items }
     {
-        Packed { state }
+        Packed { words }
     }
 
-    pub(crate) fn state(&self) -> &PlainState
-        ensures { result.now ≡ self.now }
+    pub(crate) fn words(&self) -> &[u64]
+        ensures state { state_in result.now ≡ self.now }
+        ensures row { HasFirstRow result.now }
     {
-        &self.state
+        self.words.as_slice()
     }
 
     pub(crate) fn copy(&self, alloc: Global) -> Result<Packed, AllocError>
         ensures { IfOk result (λ p. p ≡ self.now) }
     {
         Ok(Packed {
-            state: copy_state(alloc, &self.state)?,
+            words: SmallVec::from_slice(alloc, self.words.as_slice())?,
         })
     }
 }

@@ -1,85 +1,99 @@
 //! The words of a state's values that are not resources, and the hash over them.
 
-ghost use Rattle.std.specs.Prelude.{◌≡◌, ◌++◌, ◌<◌, OnOk, IfOk, length, map, fold};
-ghost use Rattle.std.specs.Int.{to_le_bytes, w64};
-ghost use Rattle.state_layout.specs.Signatures.{with_member, set_word, word_count, set_words, value_words, signature_in, without_preference, hash_byte, hash_onto, hash_of};
+ghost use Rattle.std.specs.Prelude.{◌≡◌, ◌++◌, ◌<◌, true, OnOk, IfOk, map, fold};
+ghost use Rattle.state_layout.specs.Packing.{count_in, value_in, members_in, state_in, is_set};
+ghost use Rattle.state_layout.specs.Forms.{HoldsSlot, Fits};
+ghost use Rattle.state_layout.specs.Signatures.{set_words, value_words, signature_in, without_preference, hash_byte, hash_onto, hash_of};
 ghost use Rattle.dp_model.specs.Typing.{is_without};
 
 use crate::layout::Slot;
-use dp_model::{PlainValue, Preference};
+use crate::reading::{first_word, is_set, word_count, word_in};
+use dp_model::Preference;
 use std::alloc::{AllocError, Global};
-
-const MEMBERS_IN_WORD: u32 = 64;
+use word_hash::hash_word;
 
 // what the hash over no bytes is
 const HASH_START: u64 = 0xcbf2_9ce4_8422_2325;
 
-const HASH_FACTOR: u64 = 0x100_0000_01b3;
-
 /// The words of the values, in order.
-pub(crate) fn words_of(
-    alloc: Global,
-    slots: &[Slot],
-    values: &[PlainValue],
-) -> Result<Vec<u64>, AllocError>
-    requires { length values.now ≡ length slots.now }
-    ensures { IfOk result (λ words. words.items ≡ signature_in slots.now values.now) }
+pub(crate) fn words_of(alloc: Global, slots: &[Slot], words: &[u64]) -> Result<Vec<u64>, AllocError>
+    requires { Fits slots.now words.now }
+    ensures { IfOk result (λ signature. signature.items ≡ signature_in slots.now (state_in words.now).values) }
 {
-    let mut words = Vec::with_capacity(alloc, slots.len())?;
-    for place in 0..slots.len() {
-        push_words(&mut words, slots[place], &values[place])?;
+    let count = slots.len();
+    let mut signature = Vec::with_capacity(alloc, count)?;
+    for place in 0..count {
+        push_words(&mut signature, words, count, place, slots[place])?;
     }
-    Ok(words)
+    Ok(signature)
 }
 
-fn push_words(words: &mut Vec<u64>, slot: Slot, value: &PlainValue) -> Result<(), AllocError>
-    ensures { OnOk result (words.new.items ≡ words.old.items ++ value_words slot value.now) }
+fn push_words(
+    signature: &mut Vec<u64>,
+    words: &[u64],
+    count: usize,
+    place: usize,
+    slot: Slot,
+) -> Result<(), AllocError>
+    requires count { count ≡ count_in words.now }
+    requires few { count < 65536 }
+    requires held { HoldsSlot slot words.now place }
+    ensures { OnOk result (signature.new.items ≡ signature.old.items ++ value_words slot (value_in words.now place)) }
 {
-    match value {
-        PlainValue::Number(n) => {
-            if is_without(slot.preference) {
-                words.push(n.cast_unsigned())?;
-            }
-        }
-        PlainValue::Members(set) => push_set(words, slot.count, set.list())?,
+    if is_set(slot.kind) {
+        push_set(signature, words, count, place, slot)?;
+    } else if is_without(slot.preference) {
+        signature.push(first_word(words, count, place))?;
     }
     Ok(())
 }
 
-fn push_set(words: &mut Vec<u64>, count: u32, set: &[u32]) -> Result<(), AllocError>
-    ensures { OnOk result (words.new.items ≡ words.old.items ++ set_words count set.now) }
+fn push_set(
+    signature: &mut Vec<u64>,
+    words: &[u64],
+    count: usize,
+    place: usize,
+    slot: Slot,
+) -> Result<(), AllocError>
+    requires count { count ≡ count_in words.now }
+    requires few { count < 65536 }
+    requires held { HoldsSlot slot words.now place }
+    requires kind { is_set slot.kind ≡ true }
+    ensures { OnOk result (signature.new.items ≡ signature.old.items ++ set_words slot.count (members_in words.now place)) }
 {
-    for number in 0..word_count(count) {
-        words.push(set_word(set, number))?;
+    for number in 0..word_count(slot.count) {
+        signature.push(word_in(words, count, place, slot, number))?;
     }
     Ok(())
 }
 
 /// The hash over the words of the values, in order.
-pub(crate) fn hash_of(slots: &[Slot], values: &[PlainValue]) -> u64
-    requires { length values.now ≡ length slots.now }
-    ensures { result ≡ hash_of (signature_in slots.now values.now) }
+pub(crate) fn hash_of(slots: &[Slot], words: &[u64]) -> u64
+    requires { Fits slots.now words.now }
+    ensures { result ≡ hash_of (signature_in slots.now (state_in words.now).values) }
 {
+    let count = slots.len();
     let mut hash = HASH_START;
-    for place in 0..slots.len() {
-        hash = hash_value(hash, slots[place], &values[place]);
+    for place in 0..count {
+        hash = hash_value(hash, words, count, place, slots[place]);
     }
     hash
 }
 
 /// The hash over the words of the values, in order, those of resources too.
-pub(crate) fn whole_hash_of(slots: &[Slot], values: &[PlainValue]) -> u64
-    requires { length values.now ≡ length slots.now }
-    ensures { result ≡ hash_of (signature_in (map without_preference slots.now) values.now) }
+pub(crate) fn whole_hash_of(slots: &[Slot], words: &[u64]) -> u64
+    requires { Fits slots.now words.now }
+    ensures { result ≡ hash_of (signature_in (map without_preference slots.now) (state_in words.now).values) }
 {
+    let count = slots.len();
     let mut hash = HASH_START;
-    for place in 0..slots.len() {
-        hash = hash_value(hash, without_preference(slots[place]), &values[place]);
+    for place in 0..count {
+        hash = hash_value(hash, words, count, place, without_preference(slots[place]));
     }
     hash
 }
 
-fn without_preference(slot: Slot) -> Slot
+pub(crate) fn without_preference(slot: Slot) -> Slot
     ensures { result ≡ without_preference slot }
 {
     Slot {
@@ -88,79 +102,36 @@ fn without_preference(slot: Slot) -> Slot
     }
 }
 
-fn hash_value(hash: u64, slot: Slot, value: &PlainValue) -> u64
-    ensures { result ≡ hash_onto hash (value_words slot value.now) }
+fn hash_value(hash: u64, words: &[u64], count: usize, place: usize, slot: Slot) -> u64
+    requires count { count ≡ count_in words.now }
+    requires few { count < 65536 }
+    requires held { HoldsSlot slot words.now place }
+    ensures { result ≡ hash_onto hash (value_words slot (value_in words.now place)) }
 {
-    match value {
-        PlainValue::Number(n) => {
-            if is_without(slot.preference) {
-                hash_word(hash, n.cast_unsigned())
-            } else {
-                hash
-            }
-        }
-        PlainValue::Members(set) => hash_set(hash, slot.count, set.list()),
-    }
-}
-
-#[tactic(auto, using(crate::proofs::Signing::hash_append))]
-fn hash_set(hash: u64, count: u32, set: &[u32]) -> u64
-    ensures { result ≡ hash_onto hash (set_words count set.now) }
-{
-    let mut hashed = hash;
-    for number in 0..word_count(count) {
-        hashed = hash_word(hashed, set_word(set, number));
-    }
-    hashed
-}
-
-#[tactic(auto, using(std::proofs::lemmas::List::Sums::fold_more))]
-fn hash_word(hash: u64, word: u64) -> u64
-    ensures { result ≡ fold hash_byte hash (to_le_bytes w64 word) }
-{
-    let mut hashed = hash;
-    for byte in word.to_le_bytes() {
-        hashed = hash_byte(hashed, byte);
-    }
-    hashed
-}
-
-fn hash_byte(hash: u64, byte: u8) -> u64
-    ensures { result ≡ hash_byte hash byte }
-{
-    (hash ^ byte as u64).wrapping_mul(HASH_FACTOR)
-}
-
-// the word of this number of a set
-#[tactic(auto, using(std::proofs::lemmas::List::Sums::fold_more))]
-fn set_word(set: &[u32], number: u32) -> u64
-    ensures { result ≡ set_word set.now number }
-{
-    let mut word = 0;
-    for member in set {
-        word = with_member(number, word, *member);
-    }
-    word
-}
-
-fn with_member(number: u32, word: u64, member: u32) -> u64
-    ensures { result ≡ with_member number word member }
-{
-    if member / MEMBERS_IN_WORD == number {
-        word | 1 << (member % MEMBERS_IN_WORD)
+    if is_set(slot.kind) {
+        hash_set(hash, words, count, place, slot)
+    } else if is_without(slot.preference) {
+        hash_word(hash, first_word(words, count, place))
     } else {
-        word
+        hash
     }
 }
 
-// how many words a set has over so many members
-fn word_count(count: u32) -> u32
-    ensures { result ≡ word_count count }
+fn hash_set(hash: u64, words: &[u64], count: usize, place: usize, slot: Slot) -> u64
+    requires count { count ≡ count_in words.now }
+    requires few { count < 65536 }
+    requires held { HoldsSlot slot words.now place }
+    requires kind { is_set slot.kind ≡ true }
+    ensures { result ≡ hash_onto hash (set_words slot.count (members_in words.now place)) }
 {
-    count.div_ceil(MEMBERS_IN_WORD)
+    let mut hashed = hash;
+    for number in 0..word_count(slot.count) {
+        hashed = hash_word(hashed, word_in(words, count, place, slot, number));
+    }
+    hashed
 }
 
-fn is_without(preference: Preference) -> bool
+pub(crate) fn is_without(preference: Preference) -> bool
     ensures { result ≡ is_without preference }
 {
     preference == Preference::Without

@@ -76,23 +76,15 @@ impl<'m, L: CostLaw> Expander<'m, L> {
     }
 
     /// The state that was packed.
-    fn plain<'p>(&self, p: &'p Packed) -> &'p PlainState
+    fn plain(&self, alloc: Global, p: &Packed) -> Result<PlainState, AllocError>
         requires { IsPackedOf self.now.model p.now }
-        ensures { result.now ≡ p.now }
+        ensures { IfOk result (λ s. s ≡ p.now) }
     {
-        self.layout.plain(p)
+        self.layout.unpack(alloc, p)
     }
 
     /// A state of the model in packed form.
-    fn packed(&self, s: PlainState) -> Packed
-        requires { IsPackedOf self.now.model s }
-        ensures { result ≡ s }
-    {
-        self.layout.packed(s)
-    }
-
-    /// A copy of a state of the model, in packed form.
-    fn packed_copy(&self, alloc: Global, s: &PlainState) -> Result<Packed, AllocError>
+    fn packed(&self, alloc: Global, s: &PlainState) -> Result<Packed, AllocError>
         requires { IsPackedOf self.now.model s.now }
         ensures { IfOk result (λ p. p ≡ s.now) }
     {
@@ -110,7 +102,7 @@ impl<'m, L: CostLaw> Expander<'m, L> {
             Look::NotAllowed => Ok(Start::NotAllowed),
             Look::Base(base) => Ok(Start::Base(base)),
             Look::Open(floor) => Ok(Start::Open(Node {
-                state: self.packed_copy(alloc, target)?,
+                state: self.packed(alloc, target)?,
                 cost: None,
                 floor,
                 parent: None,
@@ -125,8 +117,8 @@ impl<'m, L: CostLaw> Expander<'m, L> {
         ensures allowed { Evaluates result (allowed_at self.old.model p.now) }
         ensures same { self.new ≡ self.old }
     {
-        let s = self.plain(p);
-        spot_eval::allowed(alloc, self.model, s)
+        let s = self.plain(alloc, p)?;
+        spot_eval::allowed(alloc, self.model, &s)
     }
 
     /// The base cost of a state. `None` where it is not base and no fault is met.
@@ -136,8 +128,8 @@ impl<'m, L: CostLaw> Expander<'m, L> {
         ensures in_range { IfOk result (λ cost. IfSome cost InRange) }
         ensures same { self.new ≡ self.old }
     {
-        let s = self.plain(p);
-        spot_eval::base_cost(alloc, self.model, s)
+        let s = self.plain(alloc, p)?;
+        spot_eval::base_cost(alloc, self.model, &s)
     }
 
     /// Whether a ground transition is considered and enabled in a state: it is enabled, and no forced one that is tested
@@ -147,8 +139,8 @@ impl<'m, L: CostLaw> Expander<'m, L> {
         ensures enabled { Evaluates result (may_step_at self.old.model p.now number) }
         ensures same { self.new ≡ self.old }
     {
-        let s = self.plain(p);
-        spot_eval::may_step(alloc, self.model, s, number, &self.forced)
+        let s = self.plain(alloc, p)?;
+        spot_eval::may_step(alloc, self.model, &s, number, &self.forced)
     }
 
     /// The state that an enabled ground transition leads to. Its effects alone are evaluated.
@@ -162,9 +154,9 @@ impl<'m, L: CostLaw> Expander<'m, L> {
         let Some((transition, args)) = self.model.step(number) else {
             unreachable!()
         };
-        let s = self.plain(p);
-        let next = spot_eval::next_state(alloc, self.model, number, transition, args, s)?;
-        Ok(self.packed(next))
+        let s = self.plain(alloc, p)?;
+        let next = spot_eval::next_state(alloc, self.model, number, transition, args, &s)?;
+        Ok(self.packed(alloc, &next)?)
     }
 
     /// The floor of an inner state with this cost so far. `None` where dual bounds are not used, or the model has none.
@@ -180,8 +172,8 @@ impl<'m, L: CostLaw> Expander<'m, L> {
         ensures wide { IfOk result (λ floor. IfSome floor InWideRange) }
         ensures same { self.new ≡ self.old }
     {
-        let s = self.plain(p);
-        spot_eval::floor::<L>(alloc, self.model, self.prune, s, cost)
+        let s = self.plain(alloc, p)?;
+        spot_eval::floor::<L>(alloc, self.model, self.prune, &s, cost)
     }
 
     /// Fills an empty batch with the successors of a node.
@@ -198,12 +190,12 @@ impl<'m, L: CostLaw> Expander<'m, L> {
         ensures batch { AnswersBy (λ _. batch.new) result (expansion self.now.model (record { prune = self.now.prune; state = node.now.state; cost = node.now.cost; id = id; best = best })) }
         ensures fits { OnOk result (BatchFits self.now.model batch.new) }
     {
-        let s = self.plain(&node.state);
+        let s = self.plain(alloc, &node.state)?;
         let visitor: Visitor<'_, L> = Visitor::of(
             self.model,
             &self.layout,
             self.prune,
-            s,
+            &s,
             node.cost,
             id,
             best,

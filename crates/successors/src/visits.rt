@@ -95,6 +95,7 @@ impl<'a, L: CostLaw> Visitor<'a, L> {
     /// Adds a successor that is open: as a letter, or where it is pruned.
     fn push_node(
         &self,
+        alloc: Global,
         number: u32,
         cost: Option<i64>,
         next: PlainState,
@@ -109,7 +110,7 @@ impl<'a, L: CostLaw> Visitor<'a, L> {
         ensures fits { OnOk result (BatchFits self.now.model batch.new) }
     {
         let node = Node {
-            state: self.layout.packed(next),
+            state: self.layout.pack(alloc, &next)?,
             cost,
             floor,
             parent: Some(self.id),
@@ -150,7 +151,7 @@ impl<'a, L: CostLaw> Visitor<'a, L> {
                     transition: number,
                 })?;
             }
-            Look::Open(floor) => self.push_node(number, cost, next, floor, batch)?,
+            Look::Open(floor) => self.push_node(alloc, number, cost, next, floor, batch)?,
         }
         Ok(())
     }

@@ -1,6 +1,6 @@
 use Rattle.std.proofs.Common.{map, string_bytes, sym, subst}
 use Rattle.solve_top.specs.Answers.{SettlesFiles, SettlesGenerated}
-use Rattle.solve_top.proofs.Settling.{settles_files, settles_generated}
+use Rattle.solve_top.proofs.Settling.{settles_files, settles_small, settles_generated}
 use Rattle.solve_top.proofs.program.run.Goals as goal
 
 pub returns-clause-settles : goal.returns-clause-settles
@@ -9,6 +9,13 @@ returns-clause-settles g c =
     let files = g.F.Shelf.bytes_under c.args.shelf.now in
     let done = c.perform.ensures.printed in
     rw c.code.ensures (settles_files words files (g.S.Sink.taken c.args.out.now) (g.S.Sink.taken c.perform.new.out) done.0 c.perform.result done.1 done.2)
+
+pub returns-clause-settles_small : goal.returns-clause-settles_small
+returns-clause-settles_small g c =
+    let words = map string_bytes c.args.words.now.items in
+    let files = g.F.Shelf.bytes_under c.args.shelf.now in
+    let done = c.perform.ensures.printed in
+    rw c.code.ensures (settles_small words files (g.S.Sink.taken c.args.out.now) (g.S.Sink.taken c.perform.new.out) done.0 c.perform.result done.1 done.2)
 
 pub returns-clause-settles_generated : goal.returns-clause-settles_generated
 returns-clause-settles_generated g c =

@@ -1,6 +1,6 @@
-use Rattle.std.proofs.Common.{◌≡◌, take}
+use Rattle.std.proofs.Common.{◌≡◌, ℕ, ◌<◌}
+use Rattle.state_layout.specs.Packing.{value_in}
 use Rattle.state_layout.proofs.sames.are_same_values.Given as goal
 
--- both lists begin with the same values
 abbrev pub invariant-loop-place : goal.invariant-loop-place
-invariant-loop-place l = take l.place l.xs ≡ take l.place l.ys
+invariant-loop-place l = (j : ℕ) → j < l.place → value_in l.a j ≡ value_in l.b j

@@ -27,13 +27,12 @@ returns g c = λ p suited model prune keep shards share owner inner starts.
             share_is = sym share;
             model = ap (λ (x : Search). x.model) c.in_ok-expander.ensures ∙ sym model;
             prune = ap (λ (x : Search). x.prune) c.in_ok-expander.ensures ∙ (c.prune.ensures ∙ sym prune);
-            keep = keep;
             layout_is = is_layout;
             owner = λ state. ap (λ (k : ℕ). owner_of c.in_ok-layout.layout state k) c.workers-shards.ensures ∙ (ap (λ (l : Layout). owner_of l state c.args.options.now.workers) layout ∙ owner state);
             inner = inner;
           })
-          starts (own_fresh p c.args.shard c.args.start starts) (λ n e. subst (λ (m : Model). IsNodeOf m n) (sym model) (some_good c.args.model.now c.args.start c.requires.node n e))
-          refl c.new-3.ensures.items c.new-4.ensures.items refl (ap (λ (l : Log). l.shard) c.new-2.ensures) (ap (λ (l : Log). l.entries) c.new-2.ensures) refl refl refl refl
+          (c.keep.ensures ∙ sym keep) c.in_ok-past.ensures.layout c.in_ok-past.ensures.nodes starts (own_fresh p c.args.shard c.args.start starts) (λ n e. subst (λ (m : Model). IsNodeOf m n) (sym model) (some_good c.args.model.now c.args.start c.requires.node n e))
+          refl c.new-4.ensures.items c.new-5.ensures.items refl (ap (λ (l : Log). l.shard) c.new-3.ensures) (ap (λ (l : Log). l.entries) c.new-3.ensures) refl refl refl refl
           (equal_long c.in_ok-open_layers.open_layers.items c.workers-shards.result 1 c.in_ok-open_layers.ensures ∙ count)
           (λ j lt. equal_at c.in_ok-open_layers.open_layers.items c.workers-shards.result 1 1 c.in_ok-open_layers.ensures j (subst (λ (k : ℕ). j < k) (sym count) lt))
           count (equal_long c.in_ok-sent.sent.items c.workers-shards.result 0 c.in_ok-sent.ensures ∙ count)

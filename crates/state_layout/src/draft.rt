@@ -1,0 +1,115 @@
+//! A state that is being made.
+
+ghost use Rattle.std.specs.Prelude.{◌≡◌, ℕ, ◌<◌, ◌≤◌, true, false, IfOk, length, slice_index, slice_index_or};
+ghost use Rattle.bit_sets.specs.Sets.{has_bit, members_of};
+ghost use Rattle.dp_model.specs.declared.parts.PlainValue.TheVariants.{Number, Members};
+ghost use Rattle.state_layout.specs.Signatures.{word_count};
+ghost use Rattle.state_layout.specs.Packing.{state_in, is_set};
+ghost use Rattle.state_layout.specs.Forms.{Fits, HasRoom, with_value};
+
+use crate::layout::Slot;
+use crate::packed::{Packed, Words};
+use crate::writing;
+use smallvec::SmallVec;
+use std::alloc::{AllocError, Global};
+use std::marker::Model;
+
+/// A state that is being made: a copy of another, in which variables are set one by one. Contracts see the layout's slots and
+/// the state so far.
+#[derive(Drop)]
+pub struct Draft<'l> {
+    slots: &'l [Slot],
+    words: Words,
+}
+
+impl<'l> Model for Draft<'l> {
+    ghost use Rattle.state_layout.specs.Drafts.{DraftState};
+
+    ghost Value = { DraftState };
+
+    ghost use Rattle.state_layout.specs.Packing.{state_in};
+    ghost use Rattle.state_layout.specs.Forms.{HasRoom};
+
+    ghost view = { λ d. record { slots = d.slots.now; state = state_in d.words.items } };
+
+    ghost invariant = { λ d. HasRoom d.slots.now d.words.items };
+}
+
+impl<'l> Draft<'l> {
+    /// A copy of the state of the words.
+    pub(crate) fn of(
+        alloc: Global,
+        slots: &'l [Slot],
+        blank: &[u64],
+        words: &[u64],
+    ) -> Result<Draft<'l>, AllocError>
+        requires blank { HasRoom slots.now blank.now }
+        requires fits { Fits slots.now words.now }
+        ensures { IfOk result (λ d. d ≡ record { slots = slots.now; state = state_in words.now }) }
+    {
+        Ok(Draft {
+            slots,
+            words: renewed(alloc, slots, blank, words)?,
+        })
+    }
+
+    /// Sets a variable that holds a number.
+    pub fn set_number(&mut self, place: usize, number: i64)
+        requires place { place < length self.old.slots }
+        requires kind { (slot : Slot) → slot ≡ slice_index_or self.old.slots place slot → is_set slot.kind ≡ false }
+        ensures { self.new ≡ record { slots = self.old.slots; state = with_value self.old.state place (Number number) } }
+    {
+        let slots = self.slots;
+        writing::set_number(
+            slots,
+            self.words.as_mut_slice(),
+            place,
+            slots[place],
+            number,
+        );
+    }
+
+    /// Sets a variable that holds a set, to one in words.
+    pub fn set_members(&mut self, place: usize, set: &[u64])
+        requires place { place < length self.old.slots }
+        requires kind { (slot : Slot) → slot ≡ slice_index_or self.old.slots place slot → is_set slot.kind ≡ true }
+        requires len { (slot : Slot) → slot ≡ slice_index_or self.old.slots place slot → length set.now ≡ word_count slot.count }
+        requires below { (slot : Slot) (m : ℕ) → slot ≡ slice_index_or self.old.slots place slot → slot.count ≤ m → has_bit set.now m ≡ false }
+        ensures { self.new ≡ record { slots = self.old.slots; state = with_value self.old.state place (Members (members_of set.now)) } }
+    {
+        let slots = self.slots;
+        writing::set_members(slots, self.words.as_mut_slice(), place, slots[place], set);
+    }
+
+    /// The state that was made.
+    pub fn done(self) -> Packed
+        ensures { result ≡ self.entry.state }
+    {
+        let Draft { slots: _, words } = self;
+        Packed::of(words)
+    }
+}
+
+/// Words of the same state, with a place for each word of each variable.
+fn renewed(alloc: Global, slots: &[Slot], blank: &[u64], words: &[u64]) -> Result<Words, AllocError>
+    requires blank { HasRoom slots.now blank.now }
+    requires fits { Fits slots.now words.now }
+    ensures room { IfOk result (λ new. HasRoom slots.now new.items) }
+    ensures state { IfOk result (λ new. state_in new.items ≡ state_in words.now) }
+{
+    let mut new = SmallVec::from_slice(alloc, blank)?;
+    carry(slots, new.as_mut_slice(), words);
+    Ok(new)
+}
+
+/// Copies the words that there is a place for.
+fn carry(slots: &[Slot], new: &mut [u64], words: &[u64])
+    requires room { HasRoom slots.now new.old }
+    requires fits { Fits slots.now words.now }
+    ensures room { HasRoom slots.now new.new }
+    ensures state { state_in new.new ≡ state_in words.now }
+{
+    for place in 0..new.len() {
+        new[place] = if place < words.len() { words[place] } else { 0 };
+    }
+}
