@@ -163,8 +163,19 @@ def print_growth(program, path):
             print_run(program, name, ["solve", file, path, "--budget", budget, *more])
 
 
+def program_asked():
+    """The program among the words; an end with one line and status 2 where there is none."""
+    if sys.argv[1:2] in (["--help"], ["-h"]):
+        print(__doc__)
+        sys.exit(0)
+    if len(sys.argv) < 2 or not (os.path.isfile(sys.argv[1]) and os.access(sys.argv[1], os.X_OK)):
+        print("speed.py: a program that can be run is wanted as the first word (--help tells more)", file=sys.stderr)
+        sys.exit(2)
+    return os.path.abspath(sys.argv[1])
+
+
 def main():
-    program, picked = os.path.abspath(sys.argv[1]), tuple(sys.argv[2:]) or ("",)
+    program, picked = program_asked(), tuple(sys.argv[2:]) or ("",)
     with tempfile.TemporaryDirectory() as room:
         path = os.path.join(room, "problem.yaml")
         if picked == ("growth",):

@@ -4,6 +4,8 @@
 `printed` gives what `gen` must print, with the best cost by a table from the end; small_runs.py has cases of it."""
 import pathlib
 
+from asked import asked
+
 CASES = [("path", 1, 0), ("path", 2, 0), ("path", 12, 2147483645), ("path", 3, 2147483646), ("path", 3, 18446744073709551615),
          ("pack", 1, 0), ("pack", 3, 0), ("pack", 11, 7), ("tour", 2, 0), ("tour", 3, 0), ("tour", 5, 12345), ("tour", 12, 1)]
 
@@ -146,4 +148,5 @@ def main():
 
 
 if __name__ == "__main__":
+    asked(__doc__, 0, 0)
     main()

@@ -555,7 +555,7 @@ class JobShop(Problem):
         return frozenset(range(9)), frozenset(), 0, 0, 0, 0
 
     def base_cost(self, state):
-        return None if state[0] else 0
+        return None if state[0] or state[1] else 0
 
     def free(self, state):
         left, running, clock, *ends = state

@@ -27,6 +27,7 @@ from glob import glob
 from itertools import permutations, product
 from pathlib import Path
 
+from asked import asked
 from model_problems import OF_THE_GUIDE, PROBLEMS
 from model_search import DEFAULT_BUDGET, Search, replayed
 
@@ -240,4 +241,5 @@ def main(program):
 
 
 if __name__ == "__main__":
-    main(os.path.abspath(sys.argv[1]) if len(sys.argv) > 1 else None)
+    words = asked(__doc__, 0, 1, "program")
+    main(os.path.abspath(words[0]) if words else None)

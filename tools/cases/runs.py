@@ -10,13 +10,13 @@ A case is its title, its texts, its runs (words, output, status), and its runs o
 the lines before it depend on how the workers of a search take turns."""
 
 import json
-import sys
 from collections import Counter
 from pathlib import Path
 
 import guide_runs
 import hostile_runs
 import models_check
+from asked import asked
 from case_lines import block, entry
 from model_problems import PROBLEMS
 from small_runs import ORDERS, RUNS
@@ -122,4 +122,4 @@ def main(folder):
         file.writelines(out)
 
 
-main(sys.argv[1])
+main(asked(__doc__, 1, 1, "folder")[0])

@@ -5,8 +5,8 @@ VECTORS is a folder with yaml_profile.json and expressions.json: lists of texts,
 with its refusal, worked out by programs that share no code with the readers. The lines of files are worked out here."""
 
 import json
-import sys
 
+from asked import asked
 from case_lines import entry, escaped
 
 CRATE = "crates/cases_texts"
@@ -110,4 +110,4 @@ def main(folder):
         file.writelines(out)
 
 
-main(sys.argv[1])
+main(asked(__doc__, 1, 1, "folder")[0])

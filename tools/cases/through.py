@@ -14,6 +14,7 @@ import tempfile
 from pathlib import Path
 
 import made_texts
+from asked import asked
 from case_lines import unescaped_bytes
 
 CRATE = Path("crates/cases_runs")
@@ -122,4 +123,5 @@ def main(program, names):
 
 
 if __name__ == "__main__":
-    main(os.path.abspath(sys.argv[1]), sys.argv[2:])
+    words = asked(__doc__, 1, None, "program")
+    main(os.path.abspath(words[0]), words[1:])

@@ -11,6 +11,7 @@ import os
 import sys
 from collections import deque
 
+from asked import asked
 from model_problems import PROBLEMS
 from model_search import DEFAULT_BUDGET, Search
 from models_check import Differences, files_of, run_program
@@ -130,4 +131,5 @@ def main(program, counts):
 
 
 if __name__ == "__main__":
-    main(os.path.abspath(sys.argv[1]), [int(word) for word in sys.argv[2:]])
+    words = asked(__doc__, 2, None, "program", numbers=True)
+    main(os.path.abspath(words[0]), [int(word) for word in words[1:]])

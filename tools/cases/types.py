@@ -6,6 +6,7 @@ the same scope by code of its own, and shares no code with this one."""
 
 import re
 
+from asked import asked
 from case_lines import escaped, unescaped
 
 CRATE = "crates/cases_types"
@@ -306,4 +307,5 @@ def main():
 
 
 if __name__ == "__main__":
+    asked(__doc__, 0, 0)
     main()

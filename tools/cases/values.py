@@ -6,6 +6,7 @@ with the solver. The expressions stand in values_cases.py."""
 
 import operator
 
+from asked import asked
 from case_lines import entry
 from values_cases import EXPRESSIONS, FOR_ALLS, LEVELS, REFUSED, TOO_DEEP
 from values_model import ARGS, COUNTS, ELEMENTS, GREATEST, INTEGERS, SETS, TABLES, domain_text, problem_text
@@ -241,4 +242,5 @@ def main():
 
 
 if __name__ == "__main__":
+    asked(__doc__, 0, 0)
     main()

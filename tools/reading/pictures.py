@@ -95,6 +95,26 @@ def arrow(a, b, radius, colour, bend):
     return f'<path d="{path}" fill="none" stroke="{colour}" stroke-width="2"/><polygon points="{head}" fill="{colour}"/>'
 
 
+def way_svg(points, title, notes):
+    """A way over a plane, from point to point; y grows downward."""
+    least = [min(p[k] for p in points) for k in (0, 1)]
+    spans = [max(p[k] for p in points) - least[k] for k in (0, 1)]
+    unit = max(4, min(48, 560 / (max(spans) + 1)))
+    at = [(30 + (x - least[0] + 0.5) * unit, 44 + (y - least[1] + 0.5) * unit) for x, y in points]
+    parts = [text(16, 24, title, 'font-weight="bold"')]
+    for i in range(spans[0] + 1):
+        for j in range(spans[1] + 1):
+            parts.append(f'<rect x="{30 + i * unit:.1f}" y="{44 + j * unit:.1f}" width="{unit:.1f}" height="{unit:.1f}" fill="none" stroke="#ddd"/>')
+    line = " ".join(f"{x:.1f},{y:.1f}" for x, y in at)
+    parts.append(f'<polyline points="{line}" fill="none" stroke="{COLOURS[0]}" stroke-width="3" stroke-linejoin="round"/>')
+    parts.append(f'<circle cx="{at[0][0]:.1f}" cy="{at[0][1]:.1f}" r="{unit / 4:.1f}" fill="#ffe9a8" stroke="#333"/>')
+    parts.append(f'<circle cx="{at[-1][0]:.1f}" cy="{at[-1][1]:.1f}" r="{unit / 4:.1f}" fill="{COLOURS[1]}" stroke="#333"/>')
+    bottom = 44 + (spans[1] + 1) * unit
+    for k, note in enumerate(notes):
+        parts.append(text(16, bottom + 24 + 16 * k, note, 'fill="#555"'))
+    return svg(max(60 + (spans[0] + 1) * unit, 420), bottom + 34 + 16 * len(notes), parts)
+
+
 # ---- bars over time
 
 def ticks(end):

@@ -1,11 +1,13 @@
 //! The job that the words ask for.
 
-ghost use Rattle.std.specs.Prelude.{◌≡◌, None, Some, map, option_map, string_bytes, IfOk, IsErrOf};
+ghost use Rattle.std.specs.Prelude.{◌≡◌, None, Some, codes, map, option_map, string_bytes, IfOk, IsErrOf};
+ghost use Rattle.clap.specs.Words.{first_value, found_of};
 ghost use Rattle.command_line.specs.Jobs.{on_or_off, layer_or_all, options_of, solve_words, replay_words, show_words, gen_words, gen_job, by_command, job_of};
 
 use crate::commands::{found, generate, replay, show, solve};
 use crate::jobs::{Job, WordsEnd};
 use crate::numbers::{number_in, number_or};
+use clap::ArgMatches;
 use dp_base::Text;
 use dp_model::{Keep, Options};
 use model_gen::GenKind;
@@ -67,6 +69,16 @@ fn options_of(
     })
 }
 
+/// The options that were found in the words of a search.
+fn found_options(matches: &ArgMatches<'_>) -> Option<Options>
+    ensures { result ≡ options_of (first_value (found_of matches.now) (codes "workers")) (first_value (found_of matches.now) (codes "budget")) (first_value (found_of matches.now) (codes "prune")) (first_value (found_of matches.now) (codes "keep")) }
+{
+    let workers = matches.get_str("workers");
+    let budget = matches.get_str("budget");
+    let prune = matches.get_str("prune");
+    options_of(workers, budget, prune, matches.get_str("keep"))
+}
+
 #[tactic(auto, using(crate::proofs::Faults::faulty, crate::proofs::Faults::free), unfolding(crate::specs::Jobs::solve_words))]
 fn solve_words(alloc: Global, words: &Vec<String>) -> Result<Job, WordsEnd>
     ensures job { IfOk result (λ job. solve_words (map string_bytes words.now.items) ≡ Some job) }
@@ -77,10 +89,7 @@ fn solve_words(alloc: Global, words: &Vec<String>) -> Result<Job, WordsEnd>
     else {
         return Err(WordsEnd::Usage);
     };
-    let workers = matches.get_str("workers");
-    let budget = matches.get_str("budget");
-    let prune = matches.get_str("prune");
-    let Some(options) = options_of(workers, budget, prune, matches.get_str("keep")) else {
+    let Some(options) = found_options(&matches) else {
         return Err(WordsEnd::Usage);
     };
     Ok(Job::Solve {
