@@ -4,7 +4,7 @@
 VECTORS is a folder with the files that TABLES names: lists of models, each with the words of a run and with the output
 and the status that a program which shares no code with the solver worked out. The other runs, with their answers, stand
 in small_runs.py, written by hand; in docs/GUIDE.md, from where guide_runs.py takes them; and models_check.py works out
-those of the models of models/.
+those of the models of models/. Texts and words that mean no good are in hostile_runs.py.
 
 A case is its title, its texts, its runs (words, output, status), and its runs of which the last line is shown alone, since
 the lines before it depend on how the workers of a search take turns."""
@@ -14,6 +14,7 @@ from collections import Counter
 from pathlib import Path
 
 import guide_runs
+import hostile_runs
 import models_check
 from asked import asked
 from case_lines import block, entry
@@ -116,6 +117,7 @@ def main(folder):
     out.append(write("orders", ORDERS))
     out.append(write("models", of_models()))
     out.append(write("guide", guide_runs.cases()))
+    out.append(hostile_runs.write(f"{CRATE}/data/hostile.txt", False))
     with open(f"{CRATE}/stdout", "w", encoding="utf-8") as file:
         file.writelines(out)
 

@@ -4,7 +4,8 @@
     python3 tools/cases/through.py PROGRAM [FILE ..]
 
 from the top of the repository; FILE is a name in data/ without its ending, all of them where none is given. The crate itself
-runs them in memory, in the gate; this needs only a program, and no build. The status is 0 where all agree."""
+runs them in memory, in the gate; this needs only a program, and no build. Texts that are filled when a case runs, cut at each byte
+or given noise are made here too; for noise the program is run thousands of times. The status is 0 where all agree."""
 
 import os
 import subprocess
@@ -12,6 +13,7 @@ import sys
 import tempfile
 from pathlib import Path
 
+import made_texts
 from asked import asked
 from case_lines import unescaped_bytes
 
@@ -37,22 +39,65 @@ def run(program, folder, words):
     return done.stdout.decode("utf-8", "replace"), done.returncode
 
 
+class Runs:
+    """Runs over the texts of a file of cases, in a folder."""
+
+    def __init__(self, program, folder):
+        self.program, self.folder = program, folder
+        self.texts = {key: b"" for key in TEXTS}
+        self.pieces = []
+        for key in TEXTS:
+            self.set(key, b"")
+
+    def set(self, key, text):
+        self.texts[key] = text
+        Path(self.folder, TEXTS[key]).write_bytes(text)
+
+    def tally(self, words, pairs):
+        tally = made_texts.Tally()
+        kept = self.texts["domain"], self.texts["problem"]
+        for pair in [*pairs, kept]:
+            for key, text in zip(("domain", "problem"), pair):
+                if self.texts[key] != text:
+                    self.set(key, text)
+            if pair is not kept:
+                tally.add(*run(self.program, self.folder, words))
+        return tally.text()
+
+    def take(self, key, text):
+        """What an entry prints."""
+        if key in TEXTS:
+            self.set(key, text)
+        elif key == "many":
+            name, count, piece = text.split(b" ", 2)
+            self.set(name.decode(), made_texts.filled(self.texts[name.decode()], int(count), piece))
+        elif key == "piece":
+            self.pieces.append(text)
+        elif key == "cuts":
+            tally = self.tally(text, made_texts.cuts(self.texts["domain"], self.texts["problem"]))
+            return f"-- {text.decode()}, each text cut at each byte\n{tally}"
+        elif key == "noise":
+            count, seed, words = text.split(b" ", 2)
+            pairs = made_texts.noises(self.texts["domain"], self.texts["problem"], self.pieces, int(count), int(seed))
+            return f"-- {words.decode()}, {int(count)} texts with noise, from {int(seed)} on\n{self.tally(words, pairs)}"
+        else:
+            output, status = run(self.program, self.folder, text)
+            if key == "last":
+                output = "..\n" + output.splitlines(True)[-1]
+            return f"-- {text.decode()}\n{output}status {status}\n"
+        return ""
+
+
 def printed(program, path):
     """What the crate prints for a file of cases: a piece for each case."""
     pieces = []
     with tempfile.TemporaryDirectory() as folder:
-        for name in TEXTS.values():
-            Path(folder, name).write_bytes(b"")
+        runs = Runs(program, folder)
         for key, text in entries(path):
             if key == "case":
                 pieces.append(f"== {text.decode()}\n")
-            elif key in TEXTS:
-                Path(folder, TEXTS[key]).write_bytes(text)
             else:
-                output, status = run(program, folder, text)
-                if key == "last":
-                    output = "..\n" + output.splitlines(True)[-1]
-                pieces[-1] += f"-- {text.decode()}\n{output}status {status}\n"
+                pieces[-1] += runs.take(key, text)
     return pieces
 
 

@@ -12,7 +12,7 @@ use std::thread::Threads;
 use std::{fs, io};
 
 /// The files of cases, in the order in which they are run.
-const FILES: [&str; 12] = [
+const FILES: [&str; 13] = [
     "one_variable.txt",
     "first_form.txt",
     "refusals.txt",
@@ -25,6 +25,7 @@ const FILES: [&str; 12] = [
     "orders.txt",
     "models.txt",
     "guide.txt",
+    "hostile.txt",
 ];
 
 /// The texts that the runs read, under the names `d`, `p` and `l`.
