@@ -1,5 +1,5 @@
-//! The plain evaluators: the value of an expression in a state, or the first fault that it meets. They are slow,
-//! and follow the definition of the value line by line.
+//! The plain evaluators: the value of an expression in a state, or the first fault that it meets. They walk the
+//! expression's tree and follow the definition of the value line by line.
 #![tactic(auto)]
 
 mod ends;
