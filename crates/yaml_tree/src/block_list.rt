@@ -11,7 +11,7 @@ use crate::block_below::below;
 use crate::points::{is_clear, is_item, is_marker, skip_blanks};
 use crate::reader::Reader;
 use crate::tree::{Tree, YamlEnd};
-use dp_base::Seq;
+use crate::turns::fitted;
 use std::alloc::Global;
 
 /// What stands behind the `-` of an item: a node in the same line, or one below.
@@ -61,7 +61,7 @@ pub(crate) fn list(alloc: Global, reader: &mut Reader<'_>, levels: u32) -> Resul
         let item = item(alloc, reader, levels, indent)?;
         items.push(item)?;
         if !next_item(reader, indent) {
-            return Ok(Tree::List(at, Seq::of(items)));
+            return Ok(Tree::List(at, fitted(items)));
         }
     }
 }

@@ -13,7 +13,8 @@ use crate::keys::Keys;
 use crate::points::{is_clear, is_marker, skip_blanks};
 use crate::reader::Reader;
 use crate::tree::{Pair, Tree, YamlEnd};
-use dp_base::{Place, Seq};
+use crate::turns::fitted;
+use dp_base::Place;
 use std::alloc::Global;
 
 /// The value behind the `:` of a key: a scalar or flow form in the same line, or a node below.
@@ -101,7 +102,7 @@ pub(crate) fn map(
         entries.push(Pair { key, value })?;
         match next_key(alloc, reader, &mut keys, levels, indent)? {
             Some(next) => key = next,
-            None => return Ok(Tree::Map(at, Seq::of(entries))),
+            None => return Ok(Tree::Map(at, fitted(entries))),
         }
     }
 }

@@ -18,7 +18,7 @@ use crate::points::{begins, flow_point};
 use crate::quoted::quoted;
 use crate::reader::Reader;
 use crate::tree::{Feature, Pair, Tree, YamlEnd};
-use crate::turns::Step;
+use crate::turns::{Step, fitted};
 use dp_base::Seq;
 use std::alloc::Global;
 
@@ -91,10 +91,10 @@ fn items(alloc: Global, reader: &mut Reader<'_>, levels: u32) -> Result<Seq<Tree
     loop {
         match item(alloc, reader, levels)? {
             Step::More(item) => items.push(item)?,
-            Step::Last(None) => return Ok(Seq::of(items)),
+            Step::Last(None) => return Ok(fitted(items)),
             Step::Last(Some(item)) => {
                 items.push(item)?;
-                return Ok(Seq::of(items));
+                return Ok(fitted(items));
             }
         }
     }
@@ -156,10 +156,10 @@ fn entries(alloc: Global, reader: &mut Reader<'_>, levels: u32) -> Result<Seq<Pa
     loop {
         match entry(alloc, reader, levels, &mut keys)? {
             Step::More(entry) => entries.push(entry)?,
-            Step::Last(None) => return Ok(Seq::of(entries)),
+            Step::Last(None) => return Ok(fitted(entries)),
             Step::Last(Some(entry)) => {
                 entries.push(entry)?;
-                return Ok(Seq::of(entries));
+                return Ok(fitted(entries));
             }
         }
     }

@@ -108,7 +108,7 @@ block_list::list-returns-then-not-next_item-clause-read t c =
     list_last N c.args.levels c.args.reader.now c.place-at.result c.saturating_sub-indent.result k.items.items k.reader
     c.place-at.ensures c.saturating_sub-indent.ensures k.invariant c.in_ok-item.item c.item.new.reader item c.if-not-next_item.ensures.0 in
     let here = subst (λ (r : Rest). BlockList N c.args.levels c.args.reader.now (Ok (trees.List c.place-at.result (k.items.items ++ c.in_ok-item.item ∷ []), r))) (sym c.if-not-next_item.ensures.1) read in
-    subst (λ (xs : List Tree). BlockList N c.args.levels c.args.reader.now (Ok (trees.List c.place-at.result xs, c.next_item.new.reader))) (sym (c.of.ensures ∙ pushed)) here
+    subst (λ (xs : List Tree). BlockList N c.args.levels c.args.reader.now (Ok (trees.List c.place-at.result xs, c.next_item.new.reader))) (sym (c.fitted.ensures ∙ pushed)) here
 
 pub block_list::list-loop-items-smaller : goal.block_list::list-loop-items-smaller
 block_list::list-loop-items-smaller t c =
@@ -167,6 +167,6 @@ pub block_map::map-returns-in-None-clause-read : goal.block_map::map-returns-in-
 block_map::map-returns-in-None-clause-read t c =
     let k = c.loop-entries in
     let pushed = chosen _ _ _ _ c.push.ensures.items (ap is_ok c.in_ok-push.was) in
-    subst (λ (xs : List Pair). MapFrom (BlockNode c.args.levels) c.args.levels c.args.at c.args.first c.args.reader.now (Ok (trees.Map c.args.at xs, c.next_key.new.reader))) (sym (c.of.ensures ∙ pushed))
+    subst (λ (xs : List Pair). MapFrom (BlockNode c.args.levels) c.args.levels c.args.at c.args.first c.args.reader.now (Ok (trees.Map c.args.at xs, c.next_key.new.reader))) (sym (c.fitted.ensures ∙ pushed))
     (map_last (BlockNode c.args.levels) c.args.levels c.saturating_sub-indent.result c.args.first c.args.reader.now k.entries.items k.key k.reader k.keys k.invariant
     c.in_ok-value.value c.value.new.reader c.in_ok-value.ensures.read c.args.at c.next_key.new.reader c.saturating_sub-indent.ensures (rw c.in-None.is at c.in_ok-next.ensures.read))

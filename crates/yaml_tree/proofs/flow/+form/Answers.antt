@@ -136,15 +136,15 @@ entries-returns-in_err-entry-clause-refused t c =
 pub entries-returns-in-Last-None-clause-read : goal.entries-returns-in-Last-None-clause-read
 entries-returns-in-Last-None-clause-read t c =
     let read = c.loop-entries.entries.items in
-    ends_empty (MapTurn (Form true true c.args.levels) (Form true false c.args.levels)) c.args.reader.now read c.loop-entries.reader c.entry.new.reader c.of.result c.in_ok-entry.field-0
-    c.loop-entries.invariant.0 (c.in_ok-entry.ensures.read read c.loop-entries.invariant.1) (c.in-Last-None.is ∙ ap steps.Last c.in-Last-None.field-0-is) c.of.ensures
+    ends_empty (MapTurn (Form true true c.args.levels) (Form true false c.args.levels)) c.args.reader.now read c.loop-entries.reader c.entry.new.reader c.fitted.result c.in_ok-entry.field-0
+    c.loop-entries.invariant.0 (c.in_ok-entry.ensures.read read c.loop-entries.invariant.1) (c.in-Last-None.is ∙ ap steps.Last c.in-Last-None.field-0-is) c.fitted.ensures
 
 pub entries-returns-in-Last-Some-clause-read : goal.entries-returns-in-Last-Some-clause-read
 entries-returns-in-Last-Some-clause-read t c =
     let read = c.loop-entries.entries.items in
     let pushed = chosen {X = List Pair} _ _ _ _ c.push-in-Last-Some.ensures.items (ap is_ok c.in_ok-push-in-Last-Some.was) in
-    ends_with (MapTurn (Form true true c.args.levels) (Form true false c.args.levels)) c.args.reader.now read c.loop-entries.reader c.entry.new.reader c.of-in-Last-Some.result c.in_ok-entry.field-0
-    c.loop-entries.invariant.0 (c.in_ok-entry.ensures.read read c.loop-entries.invariant.1) c.in-Last-Some.entry (c.in-Last-Some.is ∙ ap steps.Last c.in-Last-Some.field-0-is) (c.of-in-Last-Some.ensures ∙ pushed ∙ ap (λ (e : Pair). read ++ e ∷ []) c.in-Last-Some.entry-is)
+    ends_with (MapTurn (Form true true c.args.levels) (Form true false c.args.levels)) c.args.reader.now read c.loop-entries.reader c.entry.new.reader c.fitted-in-Last-Some.result c.in_ok-entry.field-0
+    c.loop-entries.invariant.0 (c.in_ok-entry.ensures.read read c.loop-entries.invariant.1) c.in-Last-Some.entry (c.in-Last-Some.is ∙ ap steps.Last c.in-Last-Some.field-0-is) (c.fitted-in-Last-Some.ensures ∙ pushed ∙ ap (λ (e : Pair). read ++ e ∷ []) c.in-Last-Some.entry-is)
 
 pub entry-advance-requires-clause-boundary : goal.entry-advance-requires-clause-boundary
 entry-advance-requires-clause-boundary t c =
