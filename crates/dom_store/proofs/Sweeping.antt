@@ -90,7 +90,7 @@ kept_push layout of_node node kept old new good same is all added n h = by (has_
 
 -- ---- which nodes are covered by a past
 
-some_true : {A : Type 0} (f : A → Bool) (xs : List A) (x : A) → Has xs x → f x ≡ true → list_any f xs ≡ true
+pub some_true : {A : Type 0} (f : A → Bool) (xs : List A) (x : A) → Has xs x → f x ≡ true → list_any f xs ≡ true
 some_true f [] x h t = absurd (has_none x h)
 some_true {A = A} f (y ∷ xs) x h t = by (f y) refl (has_cases y xs x h) (λ r. some_true f xs x r t)
   where

@@ -1,6 +1,7 @@
 -- What a past keeps of nodes, and which nodes it covers.
-use Rattle.std.specs.Prelude.{◌≡◌, Bool, not, List, [], Option, IfSome}
+use Rattle.std.specs.Prelude.{◌≡◌, ℕ, Bool, false, not, List, [], length, slice_get, Option, Some, IfSome}
 use Rattle.std.specs.List.{filter, list_any}
+use Rattle.std.specs.Option.{option_map_or}
 use Rattle.dp_claims.specs.Dominance.{Covers}
 use Rattle.dp_claims.specs.Enough.{Has}
 use Rattle.dp_model.specs.Costs.{InRange}
@@ -9,7 +10,7 @@ use Rattle.dp_model.specs.declared.whole.Model.{Model}
 use Rattle.state_layout.specs.Conditions.{IsPackedFor}
 use Rattle.state_layout.specs.declared.layout.Layout.{Layout}
 use Rattle.state_layout.specs.declared.node.Node.{Node}
-use Rattle.dom_store.specs.Covering.{bare, covers}
+use Rattle.dom_store.specs.Covering.{bare, covers, key_of}
 use Rattle.dom_store.specs.declared.past_node.PastNode.{PastNode}
 
 -- the layout that the nodes are of, and what is kept of them, in order of adding
@@ -33,6 +34,21 @@ covers_past prune minimize operator layout n other = covers prune minimize opera
 -- one of those that are kept covers the node
 abbrev pub is_past : (PastNode → Node → Bool) → List PastNode → Node → Bool
 is_past test past node = list_any (λ n. test n node) past
+
+-- whether what is kept at a place passes the test
+abbrev pub passes_at : (PastNode → Bool) → List PastNode → ℕ → Bool
+passes_at test past p = option_map_or test (slice_get past p) false
+
+-- the key of what is kept of a node, which is the node's
+abbrev pub past_key : (prune : Bool) → Layout → PastNode → ℕ
+past_key prune layout n = key_of prune layout (bare n.state n.cost)
+
+-- What a past keeps: all are of nodes of the layout, and each stands at a place in the row of its key. `count` is how many
+-- places the rows have.
+pub record IsPastKept (prune : Bool) (layout : Layout) (row : ℕ → List ℕ) (count : ℕ) (past : List PastNode) : Type 0 where
+  pub nodes : (n : PastNode) → Has past n → IsPastFor layout n
+  pub rows : (p : ℕ) (n : PastNode) → slice_get past p ≡ Some n → Has (row (past_key prune layout n)) p
+  pub level : count ≡ length past
 
 -- the nodes that are not covered so, in their order
 abbrev pub not_past : (PastNode → Node → Bool) → List PastNode → List Node → List Node
