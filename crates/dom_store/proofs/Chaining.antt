@@ -1,10 +1,9 @@
 -- Chains of places: how many are read is no matter, and what a new place leaves as it was.
-use Rattle.std.proofs.Common.{◌≡◌, ℕ, zero, suc, ◌<◌, ◌+◌, Bool, true, false, List, [], ◌∷◌, ◌++◌, length, if◌then◌else◌, Option, Some, None, refl, sym, ap, ◌∙◌, arith}
+use Rattle.std.proofs.Common.{◌≡◌, ℕ, zero, suc, ◌<◌, ◌+◌, Bool, true, false, ◌||◌, List, [], ◌∷◌, ◌++◌, length, if◌then◌else◌, Option, Some, None, refl, sym, ap, ◌∙◌, arith}
 use Rattle.std.specs.Prelude.{nat_eq, nat_lt}
-use Rattle.std.specs.List.{slice_get}
-use Rattle.std.specs.Option.{option_map_or, unwrap_or}
-use Rattle.indexmap.specs.IndexMap.{IndexMap, get}
-use Rattle.dom_store.specs.Chains.{below, older_at, chain, chain_from, row_in}
+use Rattle.std.specs.List.{slice_get, list_any}
+use Rattle.std.specs.Option.{option_map_or, unwrap_or, IfSome}
+use Rattle.dom_store.specs.Chains.{below, older_at, chain, chain_from, places_left}
 
 below_less : (p : ℕ) (o : Option ℕ) (q : ℕ) → below p o ≡ Some q → q < p
 below_less p None q h = absurd (cc)
@@ -82,3 +81,16 @@ other_key key k h = by (nat_eq key k) refl
     by : (b : Bool) → nat_eq key k ≡ b → b ≡ false
     by true e = absurd (h (grind arith))
     by false e = refl
+
+-- ---- a walk along a chain
+
+pub left_less : (o next : Option ℕ) (p : ℕ) → next ≡ Some p → IfSome o (λ q. q < p) → places_left o < places_left next
+left_less None next p e h = rw e (omega arith)
+left_less (Some q) next p e h = rw e (omega (arith, h))
+
+-- one of the places from this one on passes: this one, or one of those from the next older one on
+pub any_here : (f : ℕ → Bool) (older : List ℕ) (o : Option ℕ) (p : ℕ) → o ≡ Some p → f p ≡ true → list_any f (chain_from older o) ≡ true
+any_here f older o p e t = ap (λ (n : Option ℕ). list_any f (chain_from older n)) e ∙ ap (list_any f) (chain_next older p) ∙ ap (λ b. b || list_any f (chain_from older (older_at older p))) t
+
+pub any_next : (f : ℕ → Bool) (older : List ℕ) (o next : Option ℕ) (p : ℕ) → o ≡ Some p → chain_from older (Some p) ≡ p ∷ chain_from older next → f p ≡ false → list_any f (chain_from older o) ≡ list_any f (chain_from older next)
+any_next f older o next p e is t = ap (λ (n : Option ℕ). list_any f (chain_from older n)) e ∙ ap (list_any f) is ∙ ap (λ b. b || list_any f (chain_from older next)) t

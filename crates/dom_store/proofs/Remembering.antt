@@ -1,8 +1,9 @@
 -- What a past keeps, by places in rows, and that those of a node's key tell whether one covers it.
-use Rattle.std.proofs.Common.{◌≡◌, ℕ, zero, suc, ◌+◌, ◌⊎◌, inl, inr, Bool, true, false, ◌||◌, List, [], ◌∷◌, ◌++◌, length, Option, Some, None, refl, sym, ap, ◌∙◌, subst, arith, length-append}
+use Rattle.std.proofs.Common.{◌≡◌, ℕ, zero, suc, ◌+◌, ◌<◌, ◌≤◌, ◌⊎◌, inl, inr, Bool, true, false, List, [], ◌∷◌, ◌++◌, length, get_or, Option, Some, None, refl, sym, ap, ◌∙◌, subst, arith, length-append}
 use Rattle.std.specs.Prelude.{nat_eq}
 use Rattle.std.specs.List.{slice_get, list_any}
 use Rattle.std.specs.Option.{option_map_or}
+use Rattle.std.proofs.lemmas.Option.{slice_get-get_or}
 use Rattle.dp_claims.specs.Enough.{Has}
 use Rattle.dp_model.specs.declared.parts.JoinOp.{JoinOp}
 use Rattle.state_layout.specs.Conditions.{IsNodeFor}
@@ -65,13 +66,13 @@ past_pushed prune layout row row' count count' past new n node key h fits is key
         subst (λ k. Has (row' k) p) (sym key_n ∙ ap (past_key prune layout) e.1) first
     by p m (inr there) = row_keeps row row' count key at others (past_key prune layout m) p (h.rows p m there)
 
-pub past_same : (prune : Bool) (layout : Layout) (row row' : ℕ → List ℕ) (count count' : ℕ) (past : List PastNode) → IsPastKept prune layout row count past
-    → ((k : ℕ) → row' k ≡ row k) → count' ≡ count → IsPastKept prune layout row' count' past
-past_same prune layout row row' count count' past h same counted = record {
+pub past_same : (prune : Bool) (layout : Layout) (row row' : ℕ → List ℕ) (count count' : ℕ) (past new : List PastNode) → IsPastKept prune layout row count past
+    → ((k : ℕ) → row' k ≡ row k) → count' ≡ count → new ≡ past → IsPastKept prune layout row' count' new
+past_same prune layout row row' count count' past new h same counted is = subst (λ (ns : List PastNode). IsPastKept prune layout row' count' ns) (sym is) (record {
   nodes = h.nodes;
   rows = λ p n there. subst (λ (ps : List ℕ). Has ps p) (sym (same (past_key prune layout n))) (h.rows p n there);
   level = counted ∙ h.level;
-}
+})
 
 pub no_past : (prune : Bool) (layout : Layout) (row : ℕ → List ℕ) (count : ℕ) (past : List PastNode) → past ≡ [] → count ≡ 0 → IsPastKept prune layout row count past
 no_past prune layout row count past is counted = subst (λ (ns : List PastNode). IsPastKept prune layout row count ns) (sym is) (record {
@@ -83,13 +84,21 @@ no_past prune layout row count past is counted = subst (λ (ns : List PastNode).
     none : (n : PastNode) (k : ℕ) → slice_get [] k ≡ Some n → ⊥
     none n k e = absurd (cc)
 
--- ---- a walk along a chain
+-- ---- a place is read
 
-pub any_here : (f : ℕ → Bool) (places rest : List ℕ) (p : ℕ) → places ≡ p ∷ rest → f p ≡ true → list_any f places ≡ true
-any_here f places rest p is t = ap (list_any f) is ∙ ap (λ b. b || list_any f rest) t
+pub there_at : (past : List PastNode) (p : ℕ) (n : PastNode) → p < length past → n ≡ get_or past p n → slice_get past p ≡ Some n
+there_at past p n h e = slice_get-get_or past p n h ∙ ap Some (sym e)
 
-pub any_next : (f : ℕ → Bool) (places rest : List ℕ) (p : ℕ) → places ≡ p ∷ rest → f p ≡ false → list_any f places ≡ list_any f rest
-any_next f places rest p is t = ap (list_any f) is ∙ ap (λ b. b || list_any f rest) t
+missing_at : (past : List PastNode) (p : ℕ) → length past ≤ p → slice_get past p ≡ None
+missing_at [] p h = refl
+missing_at (n ∷ past) zero h = absurd (omega arith)
+missing_at (n ∷ past) (suc p) h = missing_at past p (omega arith)
+
+pub passes_there : (test : PastNode → Bool) (past : List PastNode) (p : ℕ) (n : PastNode) (answer : Bool) → slice_get past p ≡ Some n → answer ≡ test n → answer ≡ passes_at test past p
+passes_there test past p n answer there told = told ∙ sym (ap (λ (o : Option PastNode). option_map_or test o false) there)
+
+pub passes_none : (test : PastNode → Bool) (past : List PastNode) (p : ℕ) → length past ≤ p → false ≡ passes_at test past p
+passes_none test past p h = sym (ap (λ (o : Option PastNode). option_map_or test o false) (missing_at past p h))
 
 -- ---- the places of a row tell whether one passes, where all that pass stand there
 

@@ -25,3 +25,8 @@ chain_from older (Some p) = chain older (suc p) p
 -- the places of a key
 abbrev pub row_in : {S : Type 0} → IndexMap ℕ ℕ S → List ℕ → ℕ → List ℕ
 row_in newest older key = chain_from older (get nat_eq newest key)
+
+-- a number above that of each place of a chain that is left
+abbrev pub places_left : Option ℕ → ℕ
+places_left None = 0
+places_left (Some p) = suc p
