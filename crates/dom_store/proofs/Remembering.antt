@@ -9,8 +9,8 @@ use Rattle.dp_model.specs.declared.parts.JoinOp.{JoinOp}
 use Rattle.state_layout.specs.Conditions.{IsNodeFor}
 use Rattle.state_layout.specs.declared.layout.Layout.{Layout}
 use Rattle.state_layout.specs.declared.node.Node.{Node}
-use Rattle.dom_store.specs.Covering.{bare, covers, key_of, KeepsKey}
-use Rattle.dom_store.specs.Past.{past_node, covers_past, is_past, passes_at, past_key, IsPastFor, IsPastKept}
+use Rattle.dom_store.specs.Covering.{bare, key_of, KeepsKey}
+use Rattle.dom_store.specs.Past.{past_node, covers_past, is_past, passes_at, past_key, IsPastKept}
 use Rattle.dom_store.specs.declared.past_node.PastNode.{PastNode}
 use Rattle.dom_store.proofs.Members.{has_more}
 use Rattle.dom_store.proofs.Promises.{some_passes}

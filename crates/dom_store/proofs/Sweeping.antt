@@ -1,8 +1,8 @@
 -- The nodes that a past covers are taken out of the places of a store.
 use Rattle.std.proofs.Common.{◌≡◌, ℕ, zero, suc, ◌+◌, ◌-◌, ◌⊎◌, inl, inr, Bool, true, false, not, ◌||◌, ◌↔◌, List, [], ◌∷◌, ◌++◌, length, map, take, drop, Option, Some, None, refl, sym, ap, ◌∙◌, subst, arith}
 use Rattle.std.specs.Bool.{IsTrue}
-use Rattle.std.specs.List.{slice_get, list_any, filter}
-use Rattle.std.proofs.lemmas.List.{length-map, take_all, append-nil, drop_all}
+use Rattle.std.specs.List.{list_any}
+use Rattle.std.proofs.lemmas.List.{length-map}
 use Rattle.dp_claims.specs.Enough.{Has}
 use Rattle.dp_model.specs.declared.parts.JoinOp.{JoinOp}
 use Rattle.dp_model.specs.declared.whole.Model.{Model}
@@ -10,10 +10,10 @@ use Rattle.cost_laws.specs.Orders.{IsLawOf}
 use Rattle.state_layout.specs.Conditions.{IsLayoutOf, IsNodeFor}
 use Rattle.state_layout.specs.declared.layout.Layout.{Layout}
 use Rattle.state_layout.specs.declared.node.Node.{Node}
-use Rattle.dom_store.specs.Covering.{bare, covers, key_of}
+use Rattle.dom_store.specs.Covering.{bare, covers}
 use Rattle.dom_store.specs.Contents.{AreApart}
 use Rattle.dom_store.specs.Past.{past_node, covers_past, is_past, not_past, IsPast, IsPastFor}
-use Rattle.dom_store.specs.Places.{nodes_of, without, cleared, StandsAt, AreFiled, AreGlanced, IsKept}
+use Rattle.dom_store.specs.Places.{nodes_of, without, cleared, StandsAt, IsKept}
 use Rattle.dom_store.specs.declared.glance.Glance.{Glance}
 use Rattle.dom_store.specs.declared.past_node.PastNode.{PastNode}
 use Rattle.dom_store.proofs.Members.{filter_has, has_filtered, has_cases, has_either, has_none, not_true, not_false, apart_filter}

@@ -1,6 +1,6 @@
 use Rattle.std.proofs.Common.{ℕ, List, ◌∷◌, Option, ap, sym, ◌∙◌}
 use Rattle.dom_store.specs.Chains.{older_at, chain_from}
-use Rattle.dom_store.proofs.Chaining.{chain_next, older_less}
+use Rattle.dom_store.proofs.Chaining.{chain_next}
 use Rattle.dom_store.proofs.chains.Chains.older.Goals as goal
 
 pub returns-clause-chain : goal.returns-clause-chain

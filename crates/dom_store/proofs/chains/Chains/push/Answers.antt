@@ -1,6 +1,6 @@
 use Rattle.std.specs.Prelude.{nat_eq}
 use Rattle.indexmap.specs.IndexMap.{get}
-use Rattle.std.proofs.Common.{sym, ◌∙◌, ap, ◌∷◌, ◌++◌, [], List, ℕ, arith}
+use Rattle.std.proofs.Common.{◌∙◌, ap, ◌∷◌, ◌++◌, [], List, ℕ, arith}
 use Rattle.std.specs.Option.{unwrap_or}
 use Rattle.dom_store.proofs.Chaining.{pushed_row, other_row, other_key}
 use Rattle.dom_store.proofs.chains.Chains.push.Goals as goal
