@@ -1,3 +1,4 @@
+pub mod Chaining
 pub mod Rows
 pub mod Members
 pub mod Filing
@@ -8,3 +9,4 @@ pub mod Ranks
 pub mod Sorting
 pub mod Sharing
 pub mod Sweeping
+pub mod Remembering

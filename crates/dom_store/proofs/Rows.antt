@@ -125,7 +125,7 @@ node_there [] p n h = absurd (cc)
 node_there (x ∷ xs) zero n h = cc
 node_there (x ∷ xs) (suc p) n h = node_there xs p n h
 
-in_row : (f : ℕ → Bool) (row : List ℕ) (p k : ℕ) → slice_get row k ≡ Some p → f p ≡ true → list_any f row ≡ true
+pub in_row : (f : ℕ → Bool) (row : List ℕ) (p k : ℕ) → slice_get row k ≡ Some p → f p ≡ true → list_any f row ≡ true
 in_row f [] p k h t = absurd (cc)
 in_row f (q ∷ row) p zero h t = let e : q ≡ p = cc in rw e (rw t refl)
 in_row f (q ∷ row) p (suc k) h t = or_true (f q) (list_any f row) (in_row f row p k h t)
@@ -134,7 +134,7 @@ in_row f (q ∷ row) p (suc k) h t = or_true (f q) (list_any f row) (in_row f ro
     or_true true b e = refl
     or_true false b e = e
 
-out_of_row : (f : ℕ → Bool) (row : List ℕ) (P : Type 0) → ((p : ℕ) → f p ≡ true → P) → list_any f row ≡ true → P
+pub out_of_row : (f : ℕ → Bool) (row : List ℕ) (P : Type 0) → ((p : ℕ) → f p ≡ true → P) → list_any f row ≡ true → P
 out_of_row f [] P h t = absurd (cc)
 out_of_row f (q ∷ row) P h t = by (f q) refl t (λ g. out_of_row f row P h g)
   where
@@ -142,7 +142,7 @@ out_of_row f (q ∷ row) P h t = by (f q) refl t (λ g. out_of_row f row P h g)
     by true e g rest = h q e
     by false e g rest = rest g
 
-same_answer : (a b : Bool) → (a ≡ true → b ≡ true) → (b ≡ true → a ≡ true) → a ≡ b
+pub same_answer : (a b : Bool) → (a ≡ true → b ≡ true) → (b ≡ true → a ≡ true) → a ≡ b
 same_answer true b f g = sym (f refl)
 same_answer false true f g = g refl
 same_answer false false f g = refl

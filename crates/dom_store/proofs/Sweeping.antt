@@ -1,8 +1,8 @@
 -- The nodes that a past covers are taken out of the places of a store.
 use Rattle.std.proofs.Common.{◌≡◌, ℕ, zero, suc, ◌+◌, ◌-◌, ◌⊎◌, inl, inr, Bool, true, false, not, ◌||◌, ◌↔◌, List, [], ◌∷◌, ◌++◌, length, map, take, drop, Option, Some, None, refl, sym, ap, ◌∙◌, subst, arith}
 use Rattle.std.specs.Bool.{IsTrue}
-use Rattle.std.specs.List.{slice_get, list_any, filter}
-use Rattle.std.proofs.lemmas.List.{length-map, take_all, append-nil, drop_all}
+use Rattle.std.specs.List.{list_any}
+use Rattle.std.proofs.lemmas.List.{length-map}
 use Rattle.dp_claims.specs.Enough.{Has}
 use Rattle.dp_model.specs.declared.parts.JoinOp.{JoinOp}
 use Rattle.dp_model.specs.declared.whole.Model.{Model}
@@ -10,10 +10,10 @@ use Rattle.cost_laws.specs.Orders.{IsLawOf}
 use Rattle.state_layout.specs.Conditions.{IsLayoutOf, IsNodeFor}
 use Rattle.state_layout.specs.declared.layout.Layout.{Layout}
 use Rattle.state_layout.specs.declared.node.Node.{Node}
-use Rattle.dom_store.specs.Covering.{bare, covers, key_of}
+use Rattle.dom_store.specs.Covering.{bare, covers}
 use Rattle.dom_store.specs.Contents.{AreApart}
 use Rattle.dom_store.specs.Past.{past_node, covers_past, is_past, not_past, IsPast, IsPastFor}
-use Rattle.dom_store.specs.Places.{nodes_of, without, cleared, StandsAt, AreFiled, AreGlanced, IsKept}
+use Rattle.dom_store.specs.Places.{nodes_of, without, cleared, StandsAt, IsKept}
 use Rattle.dom_store.specs.declared.glance.Glance.{Glance}
 use Rattle.dom_store.specs.declared.past_node.PastNode.{PastNode}
 use Rattle.dom_store.proofs.Members.{filter_has, has_filtered, has_cases, has_either, has_none, not_true, not_false, apart_filter}
@@ -90,7 +90,7 @@ kept_push layout of_node node kept old new good same is all added n h = by (has_
 
 -- ---- which nodes are covered by a past
 
-some_true : {A : Type 0} (f : A → Bool) (xs : List A) (x : A) → Has xs x → f x ≡ true → list_any f xs ≡ true
+pub some_true : {A : Type 0} (f : A → Bool) (xs : List A) (x : A) → Has xs x → f x ≡ true → list_any f xs ≡ true
 some_true f [] x h t = absurd (has_none x h)
 some_true {A = A} f (y ∷ xs) x h t = by (f y) refl (has_cases y xs x h) (λ r. some_true f xs x r t)
   where

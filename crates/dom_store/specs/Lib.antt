@@ -1,4 +1,5 @@
 pub mod Covering
+pub mod Chains
 pub mod Glances
 pub mod Laws
 pub mod Contents

@@ -1,23 +1,12 @@
-use Rattle.std.proofs.Common.{◌≡◌, List, Some, arith, sym, ap, ◌∙◌}
-use Rattle.std.specs.List.{slice_get, list_any}
-use Rattle.std.proofs.lemmas.List.{take_all}
-use Rattle.std.proofs.lemmas.Option.{slice_get-get_or}
-use Rattle.dom_store.specs.Past.{covers_past}
-use Rattle.dom_store.specs.declared.past_node.PastNode.{PastNode}
+use Rattle.std.proofs.Common.{length}
+use Rattle.dom_store.specs.Chains.{chain_from, row_in}
+use Rattle.dom_store.proofs.Remembering.{past_answers}
 use Rattle.dom_store.proofs.past.is_covered_by.Goals as goal
 
-pub covers_from-requires-clause-state : goal.covers_from-requires-clause-state
-covers_from-requires-clause-state g c =
-    let at : slice_get c.args.kept.now c.loop-past.past-index ≡ Some c.past-item.result = slice_get-get_or c.args.kept.now c.loop-past.past-index c.past-item.result c.loop-past-test.true ∙ ap Some (sym c.past-item.is) in
-    (c.requires.kept c.past-item.result (c.loop-past.past-index, at)).state
-
-pub covers_from-requires-clause-cost : goal.covers_from-requires-clause-cost
-covers_from-requires-clause-cost g c =
-    let at : slice_get c.args.kept.now c.loop-past.past-index ≡ Some c.past-item.result = slice_get-get_or c.args.kept.now c.loop-past.past-index c.past-item.result c.loop-past-test.true ∙ ap Some (sym c.past-item.is) in
-    (c.requires.kept c.past-item.result (c.loop-past.past-index, at)).cost
+pub is_covered_from-requires-clause-kept : goal.is_covered_from-requires-clause-kept
+is_covered_from-requires-clause-kept g c = c.requires.kept.nodes
 
 pub returns : goal.returns
 returns g c =
-    sym (c.loop-past.invariant)
-    ∙ ap (λ (past : List PastNode). list_any (λ (n : PastNode). covers_past g.K.Covers.prune g.K.Covers.minimize g.K.Covers.operator c.args.layout.now n c.args.node.now) past)
-    (take_all c.loop-past.past-index c.args.kept.now (omega arith))
+    past_answers g.K.Covers.prune g.K.Covers.minimize g.K.Covers.operator g.met.K.Covers.one_key c.args.layout.now (row_in c.args.chains.now.newest c.args.chains.now.older.items) (length c.args.chains.now.older.items) c.args.kept.now c.requires.kept
+    c.args.node.now c.key.result (chain_from c.args.chains.now.older.items c.newest-newest.result) c.is_covered_from.result c.key.ensures c.newest-newest.ensures c.is_covered_from.ensures

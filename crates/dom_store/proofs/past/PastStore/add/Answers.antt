@@ -1,13 +1,15 @@
-use Rattle.std.proofs.Common.{List, sym, ap, ◌∙◌, subst}
-use Rattle.dp_claims.specs.Enough.{Has}
-use Rattle.dom_store.specs.Past.{Past}
-use Rattle.dom_store.specs.declared.past_node.PastNode.{PastNode}
-use Rattle.dom_store.proofs.Sweeping.{kept_push}
+use Rattle.std.proofs.Common.{length, sym, ap, ◌∙◌, subst}
+use Rattle.state_layout.specs.declared.layout.Layout.{Layout}
+use Rattle.dom_store.specs.Chains.{row_in}
+use Rattle.dom_store.specs.Past.{Past, IsPastKept}
 use Rattle.dom_store.proofs.past.PastStore.add.Goals as goal
 
-pub invariant_of-self : goal.invariant_of-self
-invariant_of-self g c = λ n h. c.self.invariant n (subst (λ (ns : List PastNode). Has ns n) c.in_err-push.ensures.items h)
+pub keep-requires-clause-kept : goal.keep-requires-clause-kept
+keep-requires-clause-kept g c =
+    subst (λ (l : Layout). IsPastKept g.K.Covers.prune l (row_in c.self.inside.chains.newest c.self.inside.chains.older.items) (length c.self.inside.chains.older.items) c.self.inside.kept.items)
+    (ap (λ (p : Past). p.layout) c.self.view_is ∙ sym c.requires.layout) c.self.invariant
 
-pub invariant_of-self-2 : goal.invariant_of-self-2
-invariant_of-self-2 g c =
-    kept_push c.self.inside.layout c.args.layout.now c.args.node.now c.in_ok-kept.kept c.self.inside.kept.items c.push.new.self.items c.requires.node (c.requires.layout ∙ sym (ap (λ (p : Past). p.layout) c.self.view_is)) c.in_ok-kept.ensures c.self.invariant c.in_ok-push.ensures.items
+pub invariant_of-self : goal.invariant_of-self
+invariant_of-self g c =
+    subst (λ (l : Layout). IsPastKept g.K.Covers.prune l (row_in c.keep.new.chains.newest c.keep.new.chains.older.items) (length c.keep.new.chains.older.items) c.keep.new.kept.items)
+    (c.requires.layout ∙ sym (ap (λ (p : Past). p.layout) c.self.view_is)) c.keep.ensures.kept

@@ -1,10 +1,10 @@
-use Rattle.std.proofs.Common.{◌≡◌, Bool, List, not, sym, ap, ◌∙◌, subst}
+use Rattle.std.proofs.Common.{Bool, not, sym, ap, ◌∙◌, subst}
 use Rattle.std.specs.List.{filter}
 use Rattle.state_layout.specs.Conditions.{IsNodeFor}
 use Rattle.state_layout.specs.declared.layout.Layout.{Layout}
 use Rattle.state_layout.specs.declared.node.Node.{Node}
 use Rattle.dom_store.specs.Contents.{Contents}
-use Rattle.dom_store.specs.Past.{covers_past, is_past, not_past}
+use Rattle.dom_store.specs.Past.{covers_past, is_past}
 use Rattle.dom_store.specs.Places.{nodes_of}
 use Rattle.dom_store.proofs.Rows.{nodes_without}
 use Rattle.dom_store.proofs.Sweeping.{kept_without, left_or_past, left_is_new}
