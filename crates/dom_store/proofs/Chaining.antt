@@ -111,6 +111,21 @@ any_here f older o p e t = ap (λ (n : Option ℕ). list_any f (chain_from older
 pub any_next : (f : ℕ → Bool) (older : List ℕ) (o next : Option ℕ) (p : ℕ) → o ≡ Some p → chain_from older (Some p) ≡ p ∷ chain_from older next → f p ≡ false → list_any f (chain_from older o) ≡ list_any f (chain_from older next)
 any_next f older o next p e is t = ap (λ (n : Option ℕ). list_any f (chain_from older n)) e ∙ ap (list_any f) is ∙ ap (λ b. b || list_any f (chain_from older next)) t
 
+or_assoc : (a b c : Bool) → (a || (b || c)) ≡ ((a || b) || c)
+or_assoc true b c = refl
+or_assoc false b c = refl
+
+pub or_false : (a : Bool) → (a || false) ≡ a
+or_false true = refl
+or_false false = refl
+
+-- one that passed before counts too
+pub any_more : (f : ℕ → Bool) (older : List ℕ) (o next : Option ℕ) (p : ℕ) (found here now : Bool) → o ≡ Some p → chain_from older (Some p) ≡ p ∷ chain_from older next → here ≡ f p → now ≡ (found || here)
+    → (found || list_any f (chain_from older o)) ≡ (now || list_any f (chain_from older next))
+any_more f older o next p found here now e is told or =
+    ap (λ (n : Option ℕ). found || list_any f (chain_from older n)) e ∙ ap (λ (ps : List ℕ). found || list_any f ps) is ∙ or_assoc found (f p) (list_any f (chain_from older next))
+    ∙ ap (λ b. b || list_any f (chain_from older next)) (ap (λ b. found || b) (sym told) ∙ sym or)
+
 -- ---- a place is taken out of its chain
 
 -- where more places may be read, none is missed

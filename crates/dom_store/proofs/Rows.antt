@@ -6,7 +6,7 @@ use Rattle.std.proofs.lemmas.Option.{slice_get-get_or, slice_get_within}
 use Rattle.state_layout.specs.declared.node.Node.{Node}
 use Rattle.dp_claims.specs.Enough.{Has}
 use Rattle.dom_store.specs.Chains.{chain_from}
-use Rattle.dom_store.specs.Places.{nodes_of, passes, node_at, without, cleared}
+use Rattle.dom_store.specs.Places.{nodes_of, passes, node_at, without, cleared, StandsAt}
 
 -- a place that was read has its node
 pub read_there : (places : List (Option Node)) (p : ℕ) (x : Option Node) (n : Node) → p < length places → x ≡ get_or places p x → x ≡ Some n → slice_get places p ≡ Some (Some n)
@@ -126,7 +126,7 @@ some_place test (Some n ∷ places) h = by (test n) refl h (λ f. some_place tes
     by true e f rest = (0, n, refl, e)
     by false e f rest = let r = rest f in (suc r.0, r.1, r.2, r.3)
 
-node_there : (places : List (Option Node)) (p : ℕ) (n : Node) → slice_get places p ≡ Some (Some n) → node_at places p ≡ Some n
+pub node_there : (places : List (Option Node)) (p : ℕ) (n : Node) → slice_get places p ≡ Some (Some n) → node_at places p ≡ Some n
 node_there [] p n h = absurd (cc)
 node_there (x ∷ xs) zero n h = cc
 node_there (x ∷ xs) (suc p) n h = node_there xs p n h
@@ -197,3 +197,15 @@ pub cleared_next : (test : Node → Bool) (older : List ℕ) (places new : List 
     → fold (cleared test) places (chain_from older o) ≡ fold (cleared test) new (chain_from older next)
 cleared_next test older places new o next p e is put =
     ap (λ (n : Option ℕ). fold (cleared test) places (chain_from older n)) e ∙ ap (fold (cleared test) places) is ∙ ap (λ (ps : List (Option Node)). fold (cleared test) ps (chain_from older next)) (sym put)
+
+-- ---- no node passes
+
+cleared_none : (test : Node → Bool) (places : List (Option Node)) (q : ℕ) → ((p : ℕ) (n : Node) → StandsAt places p n → test n ≡ false) → cleared test places q ≡ places
+cleared_none test [] q fails = refl
+cleared_none test (None ∷ places) zero fails = refl
+cleared_none test (Some n ∷ places) zero fails = rw (fails 0 n refl) refl
+cleared_none test (x ∷ places) (suc q) fails = ap (λ (ps : List (Option Node)). x ∷ ps) (cleared_none test places q (λ p n stands. fails (suc p) n stands))
+
+pub none_cleared : (test : Node → Bool) (places : List (Option Node)) (row : List ℕ) → ((p : ℕ) (n : Node) → StandsAt places p n → test n ≡ false) → fold (cleared test) places row ≡ places
+none_cleared test places [] fails = refl
+none_cleared test places (q ∷ row) fails = ap (λ (ps : List (Option Node)). fold (cleared test) ps row) (cleared_none test places q fails) ∙ none_cleared test places row fails

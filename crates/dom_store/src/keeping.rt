@@ -1,17 +1,18 @@
 //! A node is added to the places of a store.
 
-ghost use Rattle.std.specs.Prelude.{◌≡◌, ℕ, ◌<◌, ◌+◌, ◌++◌, ◌∷◌, [], length, vec_len, vec_capacity, if◌then◌else◌, None, IfOk, OnOk, IfErr, OnErr};
+ghost use Rattle.std.specs.Prelude.{◌≡◌, ℕ, ◌<◌, ◌+◌, ◌++◌, ◌∷◌, [], true, false, length, vec_len, vec_capacity, if◌then◌else◌, None, IfNone, IfSome, IfOk, OnOk, IfErr, OnErr};
 ghost use Rattle.state_layout.specs.Conditions.{IsNodeFor};
+ghost use Rattle.state_layout.specs.declared.node.Node.{Node};
 ghost use Rattle.dom_store.specs.Chains.{older_at, chain_from, row_in};
 ghost use Rattle.dom_store.specs.Covering.{covers, key_of};
 ghost use Rattle.dom_store.specs.Glances.{IsGlanceOf};
 ghost use Rattle.dom_store.specs.Contents.{is_covered, with_node};
-ghost use Rattle.dom_store.specs.Places.{nodes_of, AreFiled, AreGlanced, IsKept};
+ghost use Rattle.dom_store.specs.Places.{nodes_of, StandsAt, AreFiled, AreGlanced, IsKept};
 
 use crate::chains::Chains;
 use crate::covers::Covers;
 use crate::glance::Glance;
-use crate::places::{has_covering, put_node};
+use crate::places::{covers_in_chain, put_node};
 use state_layout::{Layout, Node};
 use std::alloc::AllocError;
 
@@ -41,16 +42,17 @@ pub(crate) fn add_node<K: Covers>(
 {
     let key = K::key(layout, &node);
     let glance = K::glance(layout, &node);
-    if is_held_covering::<K>(layout, chains, places, glances, &node, key, glance) {
+    let Some(covering) = covers_held::<K>(layout, chains, places, glances, &node, key, glance)
+    else {
         return Ok(Added::Covered);
-    }
-    let gone = keep_node::<K>(layout, chains, places, glances, node, key, glance)?;
+    };
+    let gone = keep_node::<K>(layout, chains, places, glances, covering, node, key, glance)?;
     *count = *count + 1 - gone;
     Ok(Added::Kept)
 }
 
-// whether a held node covers the node with this key and this glance: none but one of its key can
-fn is_held_covering<K: Covers>(
+// whether the node with this key and this glance covers a held one, none but one of its key; `None` where a held node covers it
+fn covers_held<K: Covers>(
     layout: &Layout,
     chains: &Chains,
     places: &[Option<Node>],
@@ -58,31 +60,27 @@ fn is_held_covering<K: Covers>(
     node: &Node,
     key: u64,
     glance: Glance,
-) -> bool
+) -> Option<bool>
     requires node { IsNodeFor layout.now node.now }
     requires filed { AreFiled (key_of K.prune layout.now) layout.now (row_in chains.now.newest chains.now.older.items) places.now }
     requires glanced { AreGlanced K.minimize K.operator layout.now places.now glances.now }
     requires key { key ≡ key_of K.prune layout.now node.now }
     requires glance { IsGlanceOf K.minimize K.operator layout.now node.now glance }
-    ensures { result ≡ is_covered (covers K.prune K.minimize K.operator layout.now) (nodes_of places.now) node.now }
+    ensures none { IfNone result (is_covered (covers K.prune K.minimize K.operator layout.now) (nodes_of places.now) node.now ≡ true) }
+    ensures free { IfSome result (λ covering. is_covered (covers K.prune K.minimize K.operator layout.now) (nodes_of places.now) node.now ≡ false) }
+    ensures covering { IfSome result (λ covering. covering ≡ false → (p : ℕ) (n : Node) → StandsAt places.now p n → covers K.prune K.minimize K.operator layout.now node.now n ≡ false) }
 {
-    has_covering::<K>(
-        layout,
-        chains,
-        places,
-        glances,
-        chains.newest(key),
-        node,
-        glance,
-    )
+    let newest = chains.newest(key);
+    covers_in_chain::<K>(layout, chains, places, glances, newest, node, glance)
 }
 
-// puts the node at a new place, where those that it covers are gone, and tells how many these were
+// puts the node at a new place, where those that it covers are gone, none where `covering` is false, and tells how many these were
 fn keep_node<K: Covers>(
     layout: &Layout,
     chains: &mut Chains,
     places: &mut Vec<Option<Node>>,
     glances: &mut Vec<Glance>,
+    covering: bool,
     node: Node,
     key: u64,
     glance: Glance,
@@ -94,6 +92,7 @@ fn keep_node<K: Covers>(
     requires glanced { AreGlanced K.minimize K.operator layout.now places.old.items glances.old.items }
     requires level { length glances.old.items ≡ length places.old.items }
     requires linked { length chains.old.older.items ≡ length places.old.items }
+    requires covering { covering ≡ false → (p : ℕ) (n : Node) → StandsAt places.old.items p n → covers K.prune K.minimize K.operator layout.now node n ≡ false }
     ensures nodes { OnOk result (nodes_of places.new.items ≡ with_node (covers K.prune K.minimize K.operator layout.now) (nodes_of places.old.items) node) }
     ensures counted { IfOk result (λ gone. length (nodes_of places.new.items) + gone ≡ length (nodes_of places.old.items) + 1) }
     ensures err { IfErr result (λ back. (back ≡ node) × (places.new.items ≡ places.old.items)) }
@@ -106,7 +105,9 @@ fn keep_node<K: Covers>(
     let Ok(()) = open_place(chains, places, glances, key, glance) else {
         return Err(node);
     };
-    Ok(put_node::<K>(layout, chains, places, glances, place, node, glance))
+    Ok(put_node::<K>(
+        layout, chains, places, glances, covering, place, node, glance,
+    ))
 }
 
 // a new place without a node, with this glance, which stands first in the chain of the key

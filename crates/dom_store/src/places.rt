@@ -1,6 +1,6 @@
 //! The places of a store's nodes, in order of adding. No call takes memory.
 
-ghost use Rattle.std.specs.Prelude.{◌≡◌, ℕ, ◌<◌, ◌+◌, true, length, slice_get, slice_set, if◌then◌else◌, Option, Some, None, fold};
+ghost use Rattle.std.specs.Prelude.{◌≡◌, ℕ, ◌<◌, ◌+◌, ◌||◌, true, false, length, IfNone, IfSome, slice_get, slice_set, if◌then◌else◌, Option, Some, None, fold};
 ghost use Rattle.std.specs.List.{list_any};
 ghost use Rattle.state_layout.specs.Conditions.{IsNodeFor};
 ghost use Rattle.state_layout.specs.declared.node.Node.{Node};
@@ -14,8 +14,9 @@ use crate::covers::Covers;
 use crate::glance::{Glance, may_be_covered_at, may_cover_at};
 use state_layout::{Layout, Node};
 
-/// Whether a node at one of the places of a chain, from this one on, covers the node with this glance.
-pub(crate) fn has_covering<K: Covers>(
+/// Whether the node with this glance covers one at the places of a chain, from this one on; `None` where one of these covers it.
+/// It goes along the chain once.
+pub(crate) fn covers_in_chain<K: Covers>(
     layout: &Layout,
     chains: &Chains,
     places: &[Option<Node>],
@@ -23,21 +24,32 @@ pub(crate) fn has_covering<K: Covers>(
     newest: Option<usize>,
     node: &Node,
     glance: Glance,
-) -> bool
+) -> Option<bool>
     requires node { IsNodeFor layout.now node.now }
     requires nodes { (p : ℕ) (n : Node) → StandsAt places.now p n → IsNodeFor layout.now n }
     requires glanced { AreGlanced K.minimize K.operator layout.now places.now glances.now }
     requires glance { IsGlanceOf K.minimize K.operator layout.now node.now glance }
-    ensures { result ≡ list_any (λ p. passes (λ (held : Node). covers K.prune K.minimize K.operator layout.now held node.now) (node_at places.now p)) (chain_from chains.now.older.items newest) }
+    ensures none { IfNone result (list_any (λ p. passes (λ (held : Node). covers K.prune K.minimize K.operator layout.now held node.now) (node_at places.now p)) (chain_from chains.now.older.items newest) ≡ true) }
+    ensures free { IfSome result (λ found. list_any (λ p. passes (λ (held : Node). covers K.prune K.minimize K.operator layout.now held node.now) (node_at places.now p)) (chain_from chains.now.older.items newest) ≡ false) }
+    ensures covers { IfSome result (λ found. found ≡ list_any (λ p. passes (λ (held : Node). covers K.prune K.minimize K.operator layout.now node.now held) (node_at places.now p)) (chain_from chains.now.older.items newest)) }
 {
+    let mut found = false;
     let mut next = newest;
     while let Some(place) = next {
         if covers_at::<K>(layout, places, glances, place, node, glance) {
-            return true;
+            return None;
         }
+        let is_covered = is_covered_at::<K>(layout, places, glances, place, node, glance);
+        found = either(found, is_covered);
         next = chains.older(place);
     }
-    false
+    Some(found)
+}
+
+fn either(a: bool, b: bool) -> bool
+    ensures { result ≡ (a || b) }
+{
+    a || b
 }
 
 // whether the node at a place covers the node with this glance
@@ -67,9 +79,9 @@ fn covers_at<K: Covers>(
     }
 }
 
-/// Takes out the nodes that the node with this glance covers at the places behind a place of a chain, and these places of the
-/// chain. It tells how many they were.
-pub(crate) fn clear_covered<K: Covers>(
+// takes out the nodes that the node with this glance covers at the places behind a place of a chain, and these places of the
+// chain; it tells how many they were
+fn clear_covered<K: Covers>(
     layout: &Layout,
     chains: &mut Chains,
     places: &mut Vec<Option<Node>>,
@@ -99,6 +111,34 @@ pub(crate) fn clear_covered<K: Covers>(
         }
     }
     gone
+}
+
+// takes them out where the node covers any
+fn clear_if<K: Covers>(
+    layout: &Layout,
+    chains: &mut Chains,
+    places: &mut Vec<Option<Node>>,
+    glances: &[Glance],
+    covering: bool,
+    place: usize,
+    node: &Node,
+    glance: Glance,
+) -> usize
+    requires within { place < length chains.old.older.items }
+    requires node { IsNodeFor layout.now node.now }
+    requires nodes { (p : ℕ) (n : Node) → StandsAt places.old.items p n → IsNodeFor layout.now n }
+    requires glanced { AreGlanced K.minimize K.operator layout.now places.old.items glances.now }
+    requires glance { IsGlanceOf K.minimize K.operator layout.now node.now glance }
+    requires covering { covering ≡ false → (p : ℕ) (n : Node) → StandsAt places.old.items p n → covers K.prune K.minimize K.operator layout.now node.now n ≡ false }
+    ensures places { places.new.items ≡ fold (cleared (λ (held : Node). covers K.prune K.minimize K.operator layout.now node.now held)) places.old.items (chain_from chains.old.older.items (older_at chains.old.older.items place)) }
+    ensures counted { length (nodes_of places.new.items) + result ≡ length (nodes_of places.old.items) }
+    ensures rows { KeepsRows (row_in chains.old.newest chains.old.older.items) (row_in chains.new.newest chains.new.older.items) place places.new.items }
+    ensures links { length chains.new.older.items ≡ length chains.old.older.items }
+{
+    if !covering {
+        return 0;
+    }
+    clear_covered::<K>(layout, chains, places, glances, place, node, glance)
 }
 
 // whether a node was there that the node covers; it is gone then
@@ -155,12 +195,13 @@ fn is_covered_at<K: Covers>(
 }
 
 /// Puts the node at a place that has none, where those that it covers at the places behind this one are gone, with their
-/// places. It tells how many were gone.
+/// places. It tells how many were gone. Where `covering` is false it covers none.
 pub(crate) fn put_node<K: Covers>(
     layout: &Layout,
     chains: &mut Chains,
     places: &mut Vec<Option<Node>>,
     glances: &[Glance],
+    covering: bool,
     place: usize,
     node: Node,
     glance: Glance,
@@ -171,12 +212,15 @@ pub(crate) fn put_node<K: Covers>(
     requires nodes { (p : ℕ) (n : Node) → StandsAt places.old.items p n → IsNodeFor layout.now n }
     requires glanced { AreGlanced K.minimize K.operator layout.now places.old.items glances.now }
     requires glance { IsGlanceOf K.minimize K.operator layout.now node glance }
+    requires covering { covering ≡ false → (p : ℕ) (n : Node) → StandsAt places.old.items p n → covers K.prune K.minimize K.operator layout.now node n ≡ false }
     ensures places { places.new.items ≡ slice_set (fold (cleared (λ (held : Node). covers K.prune K.minimize K.operator layout.now node held)) places.old.items (chain_from chains.old.older.items (older_at chains.old.older.items place))) place (Some node) }
     ensures counted { length (nodes_of places.new.items) + result ≡ length (nodes_of places.old.items) + 1 }
     ensures rows { KeepsRows (row_in chains.old.newest chains.old.older.items) (row_in chains.new.newest chains.new.older.items) place places.new.items }
     ensures links { length chains.new.older.items ≡ length chains.old.older.items }
 {
-    let gone = clear_covered::<K>(layout, chains, places, glances, place, &node, glance);
+    let gone = clear_if::<K>(
+        layout, chains, places, glances, covering, place, &node, glance,
+    );
     places[place] = Some(node);
     gone
 }

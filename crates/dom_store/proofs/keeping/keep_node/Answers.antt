@@ -20,6 +20,9 @@ put_node-requires-clause-place g c =
 pub put_node-requires-clause-nodes : goal.put_node-requires-clause-nodes
 put_node-requires-clause-nodes g c = λ p n stands. c.requires.filed.nodes p n (none_stands c.args.places.now.items p n (rw c.in-Ok.ensures.places at stands))
 
+pub put_node-requires-clause-covering : goal.put_node-requires-clause-covering
+put_node-requires-clause-covering g c = λ none p n stands. c.requires.covering none p n (none_stands c.args.places.now.items p n (rw c.in-Ok.ensures.places at stands))
+
 pub put_node-requires-clause-glanced : goal.put_node-requires-clause-glanced
 put_node-requires-clause-glanced g c = rw c.deref.ensures.value (opened_glanced g.K.Covers.minimize g.K.Covers.operator c.args.layout.now c.args.places.now.items c.open_place.new.places.items c.args.glances.now.items c.open_place.new.glances.items c.args.glance c.requires.glanced c.in-Ok.ensures.places c.in-Ok.ensures.glances)
 
