@@ -1,12 +1,12 @@
 -- The glances of places: what they show of a node, and how they stay those of the nodes that stand there.
-use Rattle.std.proofs.Common.{◌≡◌, ℕ, zero, suc, ◌⊎◌, inl, inr, Bool, true, false, List, [], ◌∷◌, ◌++◌, length, Option, Some, None, refl, sym, ap, ◌∙◌, subst, arith, length-append}
+use Rattle.std.proofs.Common.{◌≡◌, ℕ, zero, suc, ◌+◌, ◌⊎◌, inl, inr, Bool, true, false, List, [], ◌∷◌, ◌++◌, length, Option, Some, None, refl, sym, ap, ◌∙◌, subst, arith, length-append}
 use Rattle.std.specs.List.{slice_get}
 use Rattle.dp_model.specs.declared.parts.JoinOp.{JoinOp}
 use Rattle.state_layout.specs.declared.layout.Layout.{Layout}
 use Rattle.state_layout.specs.declared.node.Node.{Node}
 use Rattle.dom_store.specs.Covering.{covers}
 use Rattle.dom_store.specs.Glances.{IsGlanceOf, may_cover, may_cover_at, may_be_covered_at, passes_glance, ShowsAtGlance}
-use Rattle.dom_store.specs.Places.{passes, node_at, StandsAt, IsSpare, IsGlancedAt, AreGlanced}
+use Rattle.dom_store.specs.Places.{passes, node_at, StandsAt, IsGlancedAt, AreGlanced}
 use Rattle.dom_store.specs.declared.glance.Glance.{Glance}
 use Rattle.dom_store.proofs.Filing.{none_stands}
 
@@ -62,17 +62,11 @@ opened_glanced minimize operator layout places new glances new_glances g h is ar
     let at = h p n (none_stands places p n (rw is at stands)) in
     (at.0, ap (λ (gs : List Glance). slice_get gs p) are ∙ get_front glances (g ∷ []) p at.0 at.1, at.2)
 
-pub spare_glanced : (minimize : Bool) (operator : JoinOp) (layout : Layout) (places new : List (Option Node)) (glances new_glances : List Glance) (g : Glance) → AreGlanced minimize operator layout places glances
-    → IsSpare places new glances new_glances g → AreGlanced minimize operator layout new new_glances
-spare_glanced minimize operator layout places new glances new_glances g h (inl e) = rw (e.0, e.1) h
-spare_glanced minimize operator layout places new glances new_glances g h (inr e) = opened_glanced minimize operator layout places new glances new_glances g h e.0 e.1
-
 pub pushed_level : (places new : List (Option Node)) (glances new_glances : List Glance) (g : Glance) → length glances ≡ length places → length new ≡ length (places ++ None ∷ []) → new_glances ≡ glances ++ g ∷ [] → length new_glances ≡ length new
 pushed_level places new glances new_glances g h is are = omega (arith, h, is, ap length are, length-append glances (g ∷ []), length-append places (None ∷ []))
 
-pub spare_level : (places new : List (Option Node)) (glances new_glances : List Glance) (g : Glance) → length glances ≡ length places → IsSpare places new glances new_glances g → length new_glances ≡ length new
-spare_level places new glances new_glances g h (inl e) = ap length e.1 ∙ h ∙ ap length (sym e.0)
-spare_level places new glances new_glances g h (inr e) = pushed_level places new glances new_glances g h (ap length e.0) e.1
+pub pushed_links : (places new : List (Option Node)) (links links' : ℕ) → links ≡ length places → length new ≡ length (places ++ None ∷ []) → links' ≡ links + 1 → links' ≡ length new
+pushed_links places new links links' h is more = omega (arith, h, is, more, length-append places (None ∷ []))
 
 -- ---- a node is put at the last place
 

@@ -1,6 +1,5 @@
 -- What a past keeps, by places in rows, and that those of a node's key tell whether one covers it.
 use Rattle.std.proofs.Common.{◌≡◌, ℕ, zero, suc, ◌+◌, ◌<◌, ◌≤◌, ◌⊎◌, inl, inr, Bool, true, false, List, [], ◌∷◌, ◌++◌, length, get_or, Option, Some, None, refl, sym, ap, ◌∙◌, subst, arith, length-append}
-use Rattle.std.specs.Prelude.{nat_eq}
 use Rattle.std.specs.List.{slice_get, list_any}
 use Rattle.std.specs.Option.{option_map_or}
 use Rattle.std.proofs.lemmas.Option.{slice_get-get_or}
@@ -12,7 +11,7 @@ use Rattle.state_layout.specs.declared.node.Node.{Node}
 use Rattle.dom_store.specs.Covering.{bare, key_of, KeepsKey}
 use Rattle.dom_store.specs.Past.{past_node, covers_past, is_past, passes_at, past_key, IsPastKept}
 use Rattle.dom_store.specs.declared.past_node.PastNode.{PastNode}
-use Rattle.dom_store.proofs.Members.{has_more}
+use Rattle.dom_store.proofs.Filing.{row_keeps}
 use Rattle.dom_store.proofs.Promises.{some_passes}
 use Rattle.dom_store.proofs.Rows.{in_row, out_of_row, same_answer}
 use Rattle.dom_store.proofs.Sweeping.{kept_push, some_true}
@@ -33,19 +32,6 @@ get_pushed (z ∷ xs) x (suc p) y h = by (get_pushed xs x p y h)
 key_same : (prune : Bool) (layout : Layout) (node : Node) → past_key prune layout (past_node node) ≡ key_of prune layout node
 key_same false layout node = refl
 key_same true layout node = refl
-
--- a row that gets a place has those that it had
-row_keeps : (row new : ℕ → List ℕ) (count key : ℕ) → new key ≡ count ∷ row key → ((k : ℕ) → (key ≡ k → ⊥) → new k ≡ row k) → (k p : ℕ) → Has (row k) p → Has (new k) p
-row_keeps row new count key at others k p h = by (nat_eq key k) refl
-  where
-    by : (b : Bool) → nat_eq key k ≡ b → Has (new k) p
-    by true e =
-        let same : key ≡ k = grind arith in
-        let is : new k ≡ count ∷ row k = subst (λ n. new n ≡ count ∷ row n) same at in
-        subst (λ (ps : List ℕ). Has ps p) (sym is) (has_more count (row k) p h)
-    by false e =
-        let apart : key ≡ k → ⊥ = λ same. grind arith in
-        subst (λ (ps : List ℕ). Has ps p) (sym (others k apart)) h
 
 pub past_pushed : (prune : Bool) (layout : Layout) (row row' : ℕ → List ℕ) (count count' : ℕ) (past new : List PastNode) (n : PastNode) (node : Node) (key : ℕ) → IsPastKept prune layout row count past
     → IsNodeFor layout node → n ≡ past_node node → key ≡ key_of prune layout node → new ≡ past ++ n ∷ []

@@ -5,7 +5,8 @@ use Rattle.std.specs.Option.{option_map}
 use Rattle.std.proofs.lemmas.Option.{slice_get-get_or, slice_get_within}
 use Rattle.state_layout.specs.declared.node.Node.{Node}
 use Rattle.dp_claims.specs.Enough.{Has}
-use Rattle.dom_store.specs.Places.{nodes_of, passes, is_there, node_at, without, cleared, StandsAt}
+use Rattle.dom_store.specs.Chains.{chain_from}
+use Rattle.dom_store.specs.Places.{nodes_of, passes, node_at, without, cleared, StandsAt}
 
 -- a place that was read has its node
 pub read_there : (places : List (Option Node)) (p : ℕ) (x : Option Node) (n : Node) → p < length places → x ≡ get_or places p x → x ≡ Some n → slice_get places p ≡ Some (Some n)
@@ -17,6 +18,11 @@ emptied_loses (x ∷ xs) zero zero n h = absurd (cc)
 emptied_loses (x ∷ xs) zero (suc p) n h = h
 emptied_loses (x ∷ xs) (suc i) zero n h = h
 emptied_loses (x ∷ xs) (suc i) (suc p) n h = emptied_loses xs i p n h
+
+pub emptied_gone : (places : List (Option Node)) (i : ℕ) (n : Node) → slice_get (set places i None) i ≡ Some (Some n) → ⊥
+emptied_gone [] i n h = absurd (cc)
+emptied_gone (x ∷ xs) zero n h = absurd (cc)
+emptied_gone (x ∷ xs) (suc i) n h = emptied_gone xs i n h
 
 -- ---- clearing the places of a row clears every node that passes, where these are in the row
 
@@ -120,7 +126,7 @@ some_place test (Some n ∷ places) h = by (test n) refl h (λ f. some_place tes
     by true e f rest = (0, n, refl, e)
     by false e f rest = let r = rest f in (suc r.0, r.1, r.2, r.3)
 
-node_there : (places : List (Option Node)) (p : ℕ) (n : Node) → slice_get places p ≡ Some (Some n) → node_at places p ≡ Some n
+pub node_there : (places : List (Option Node)) (p : ℕ) (n : Node) → slice_get places p ≡ Some (Some n) → node_at places p ≡ Some n
 node_there [] p n h = absurd (cc)
 node_there (x ∷ xs) zero n h = cc
 node_there (x ∷ xs) (suc p) n h = node_there xs p n h
@@ -185,20 +191,21 @@ filled_count (Some m ∷ places) (suc p) n h = omega (arith, filled_count places
 pub put_count : (test : Node → Bool) (places new : List (Option Node)) (row : List ℕ) (p gone : ℕ) (n : Node) → slice_get places p ≡ Some None → new ≡ fold (cleared test) places row → length (nodes_of new) + gone ≡ length (nodes_of places) → length (nodes_of (set new p (Some n))) + gone ≡ length (nodes_of places) + 1
 put_count test places new row p gone n h is counted = omega (arith, filled_count new p n (ap (λ (ps : List (Option Node)). slice_get ps p) is ∙ still_none test places row p h))
 
--- ---- the places of a row at which there is a node
+-- ---- a walk along a chain
 
-has_filtered : (f : ℕ → Bool) (row : List ℕ) (p k : ℕ) → slice_get row k ≡ Some p → f p ≡ true → Has (filter f row) p
-has_filtered f [] p k h t = absurd (cc)
-has_filtered f (q ∷ row) p zero h t = let e : q ≡ p = cc in rw e (rw t (0, refl))
-has_filtered f (q ∷ row) p (suc k) h t = by (f q) refl (has_filtered f row p k h t)
-  where
-    by : (b : Bool) → f q ≡ b → Has (filter f row) p → Has (filter f (q ∷ row)) p
-    by true e r = rw e (suc r.0, r.1)
-    by false e r = rw e r
+pub cleared_next : (test : Node → Bool) (older : List ℕ) (places new : List (Option Node)) (o next : Option ℕ) (p : ℕ) → o ≡ Some p → chain_from older (Some p) ≡ p ∷ chain_from older next → new ≡ cleared test places p
+    → fold (cleared test) places (chain_from older o) ≡ fold (cleared test) new (chain_from older next)
+cleared_next test older places new o next p e is put =
+    ap (λ (n : Option ℕ). fold (cleared test) places (chain_from older n)) e ∙ ap (fold (cleared test) places) is ∙ ap (λ (ps : List (Option Node)). fold (cleared test) ps (chain_from older next)) (sym put)
 
-pub there_filtered : (places : List (Option Node)) (row : List ℕ) (p : ℕ) (n : Node) → Has row p → StandsAt places p n → Has (filter (λ q. is_there (node_at places q)) row) p
-there_filtered places row p n has there = has_filtered (λ q. is_there (node_at places q)) row p has.0 has.1 (ap is_there (node_there places p n there))
+-- ---- no node passes
 
--- the row that was read is the one that is meant
-pub cleared_by : (test : Node → Bool) (places new : List (Option Node)) (row row' : List ℕ) → new ≡ fold (cleared test) places row' → row' ≡ row → new ≡ fold (cleared test) places row
-cleared_by test places new row row' is same = is ∙ ap (λ (r : List ℕ). fold (cleared test) places r) same
+cleared_none : (test : Node → Bool) (places : List (Option Node)) (q : ℕ) → ((p : ℕ) (n : Node) → StandsAt places p n → test n ≡ false) → cleared test places q ≡ places
+cleared_none test [] q fails = refl
+cleared_none test (None ∷ places) zero fails = refl
+cleared_none test (Some n ∷ places) zero fails = rw (fails 0 n refl) refl
+cleared_none test (x ∷ places) (suc q) fails = ap (λ (ps : List (Option Node)). x ∷ ps) (cleared_none test places q (λ p n stands. fails (suc p) n stands))
+
+pub none_cleared : (test : Node → Bool) (places : List (Option Node)) (row : List ℕ) → ((p : ℕ) (n : Node) → StandsAt places p n → test n ≡ false) → fold (cleared test) places row ≡ places
+none_cleared test places [] fails = refl
+none_cleared test places (q ∷ row) fails = ap (λ (ps : List (Option Node)). fold (cleared test) ps row) (cleared_none test places q fails) ∙ none_cleared test places row fails

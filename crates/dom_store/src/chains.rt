@@ -1,6 +1,7 @@
 //! Places by key: each key has a chain, from its newest place to ever older ones.
 
 ghost use Rattle.std.specs.Prelude.{◌≡◌, ℕ, ◌<◌, ◌+◌, ◌++◌, ◌∷◌, [], nat_eq, length, vec_len, vec_capacity, Some, IfSome, OnOk, OnErr};
+ghost use Rattle.dp_claims.specs.Enough.{Has};
 ghost use Rattle.indexmap.specs.IndexMap.{get};
 ghost use Rattle.dom_store.specs.Chains.{older_at, chain_from, row_in};
 
@@ -37,6 +38,7 @@ impl Chains {
 
     /// The next older place of the same key.
     pub(crate) fn older(&self, place: usize) -> Option<usize>
+        ensures value { result ≡ older_at self.now.older.items place }
         ensures below { IfSome result (λ older. older < place) }
         ensures chain { chain_from self.now.older.items (Some place) ≡ place ∷ chain_from self.now.older.items result }
     {
@@ -46,6 +48,7 @@ impl Chains {
     /// Puts a new place, the number of those that there are, before the others of its key. On `Err` memory ran out, and nothing
     /// changes.
     pub(crate) fn push(&mut self, key: u64) -> Result<(), AllocError>
+        ensures left { OnOk result (chain_from self.new.older.items (older_at self.new.older.items (length self.old.older.items)) ≡ row_in self.old.newest self.old.older.items key) }
         ensures row { OnOk result (row_in self.new.newest self.new.older.items key ≡ length self.old.older.items ∷ row_in self.old.newest self.old.older.items key) }
         ensures others { OnOk result ((k : ℕ) → (key ≡ k → ⊥) → row_in self.new.newest self.new.older.items k ≡ row_in self.old.newest self.old.older.items k) }
         ensures len { OnOk result (length self.new.older.items ≡ length self.old.older.items + 1) }
@@ -57,6 +60,19 @@ impl Chains {
         let newest = self.newest.insert(key, place)?;
         push_within(&mut self.older, newest.unwrap_or(place));
         Ok(())
+    }
+
+    /// Takes the next older place of a place out of their chain.
+    pub(crate) fn drop_older(&mut self, place: usize, older: usize)
+        requires within { place < length self.old.older.items }
+        requires older { older_at self.old.older.items place ≡ Some older }
+        ensures rows { (key : ℕ) (p : ℕ) → Has (row_in self.old.newest self.old.older.items key) p → (p ≡ older → ⊥) → Has (row_in self.new.newest self.new.older.items key) p }
+        ensures next { older_at self.new.older.items place ≡ older_at self.old.older.items older }
+        ensures left { chain_from self.new.older.items (older_at self.new.older.items place) ≡ chain_from self.old.older.items (older_at self.old.older.items older) }
+        ensures len { length self.new.older.items ≡ length self.old.older.items }
+    {
+        let next = self.older(older);
+        self.older[place] = next.unwrap_or(place);
     }
 
     /// Takes all places out. The memory stays for others.

@@ -11,6 +11,7 @@ ghost use Rattle.dom_store.specs.Contents.{is_covered, with_node, IsCovered, Apa
 ghost use Rattle.dom_store.specs.Order.{IsOrdering, IsLeastFloor};
 ghost use Rattle.dom_store.specs.Past.{covers_past, not_past, IsPast};
 
+use crate::chains::Chains;
 use crate::covers::Covers;
 use crate::glance::Glance;
 use crate::keeping::{Added, add_node};
@@ -18,8 +19,6 @@ use crate::past::PastStore;
 use crate::sweep::clear_past;
 use crate::taking::{Taken, take_nodes};
 use cost_laws::CostLaw;
-use dp_base::Seq;
-use indexmap::IndexSet;
 use state_layout::{Layout, Node};
 use std::alloc::{AllocError, Global};
 use std::marker::{Model, PhantomData};
@@ -28,8 +27,7 @@ use std::marker::{Model, PhantomData};
 #[derive(Drop)]
 pub struct DomStore<K: Covers> {
     layout: Layout,
-    keys: IndexSet<u64>,
-    rows: Vec<Seq<usize>>,
+    chains: Chains,
     places: Vec<Option<Node>>,
     glances: Vec<Glance>,
     count: usize,
@@ -37,6 +35,8 @@ pub struct DomStore<K: Covers> {
 }
 
 impl<K: Covers> Model for DomStore<K> {
+    ghost use Rattle.std.specs.Prelude.{length};
+    ghost use Rattle.dom_store.specs.Chains.{row_in};
     ghost use Rattle.dom_store.specs.Contents.{Contents};
     ghost use Rattle.dom_store.specs.Places.{nodes_of, IsKept};
 
@@ -44,7 +44,7 @@ impl<K: Covers> Model for DomStore<K> {
 
     ghost view = { λ s. record { layout = s.layout; nodes = nodes_of s.places.items } };
 
-    ghost invariant = { λ s. IsKept K.prune K.minimize K.operator s.layout s.keys.keys s.rows.items s.places.items s.glances.items s.count };
+    ghost invariant = { λ s. IsKept K.prune K.minimize K.operator s.layout (row_in s.chains.newest s.chains.older.items) (length s.chains.older.items) s.places.items s.glances.items s.count };
 }
 
 impl<K: Covers> DomStore<K> {
@@ -55,8 +55,7 @@ impl<K: Covers> DomStore<K> {
     {
         Ok(DomStore {
             layout: layout.copy(alloc)?,
-            keys: IndexSet::new(alloc),
-            rows: Vec::new(alloc),
+            chains: Chains::new(alloc),
             places: Vec::new(alloc),
             glances: Vec::new(alloc),
             count: 0,
@@ -79,8 +78,7 @@ impl<K: Covers> DomStore<K> {
     {
         add_node::<K>(
             layout,
-            &mut self.keys,
-            &mut self.rows,
+            &mut self.chains,
             &mut self.places,
             &mut self.glances,
             &mut self.count,
@@ -117,8 +115,7 @@ impl<K: Covers> DomStore<K> {
         ensures apart { (m : DpModel) → IsLayoutOf m self.old.layout → IsLawOf m K.minimize K.operator → IfOk result (λ taken. Apart m K.prune (taken.kept ++ taken.dropped)) }
     {
         let taken = take_nodes::<L>(alloc, &mut self.places, self.count, share)?;
-        self.keys.clear();
-        self.rows.clear();
+        self.chains.clear();
         self.glances.clear();
         self.count = 0;
         Ok(taken)

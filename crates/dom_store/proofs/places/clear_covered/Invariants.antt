@@ -1,16 +1,25 @@
-use Rattle.std.proofs.Common.{◌≡◌, ℕ, ◌+◌, ◌≤◌, length, take, fold}
+use Rattle.std.proofs.Common.{◌≡◌, ℕ, ◌+◌, ◌≤◌, length, fold}
 use Rattle.state_layout.specs.Conditions.{IsNodeFor}
 use Rattle.state_layout.specs.declared.node.Node.{Node}
+use Rattle.dom_store.specs.Chains.{older_at, chain_from, row_in, places_left}
 use Rattle.dom_store.specs.Covering.{covers}
-use Rattle.dom_store.specs.Places.{nodes_of, cleared, StandsAt, AreGlanced}
+use Rattle.dom_store.specs.Places.{nodes_of, cleared, StandsAt, KeepsRows, AreGlanced}
 use Rattle.dom_store.proofs.places.clear_covered.Given as goal
 
--- the places so far are cleared, what is left are nodes of the layout, and those that are gone are counted
-abbrev pub invariant-loop-place : goal.invariant-loop-place
-invariant-loop-place g l = record {
-  cleared : l.places.items ≡ fold (cleared (λ (held : Node). covers g.K.Covers.prune g.K.Covers.minimize g.K.Covers.operator l.layout l.node held)) l.initial.places.items (take l.place-index l.row);
+-- the places that are left are cleared yet; what is left are nodes of the layout, whose rows have their places, and those that are
+-- gone are counted
+abbrev pub invariant-loop-next : goal.invariant-loop-next
+invariant-loop-next g l = record {
+  cleared :
+      fold (cleared (λ (held : Node). covers g.K.Covers.prune g.K.Covers.minimize g.K.Covers.operator l.layout l.node held)) l.initial.places.items (chain_from l.initial.chains.older.items (older_at l.initial.chains.older.items l.place))
+      ≡ fold (cleared (λ (held : Node). covers g.K.Covers.prune g.K.Covers.minimize g.K.Covers.operator l.layout l.node held)) l.places.items (chain_from l.chains.older.items (older_at l.chains.older.items l.last));
+  rows : KeepsRows (row_in l.initial.chains.newest l.initial.chains.older.items) (row_in l.chains.newest l.chains.older.items) l.place l.places.items;
+  links : length l.chains.older.items ≡ length l.initial.chains.older.items;
+  low : l.last ≤ l.place;
   nodes : (p : ℕ) (n : Node) → StandsAt l.places.items p n → IsNodeFor l.layout n;
   glanced : AreGlanced g.K.Covers.minimize g.K.Covers.operator l.layout l.places.items l.glances;
-  few : l.gone ≤ l.place-index;
   counted : length (nodes_of l.places.items) + l.gone ≡ length (nodes_of l.initial.places.items);
 }
+
+abbrev pub decreases-loop-next : goal.decreases-loop-next
+decreases-loop-next g l = places_left (older_at l.chains.older.items l.last)

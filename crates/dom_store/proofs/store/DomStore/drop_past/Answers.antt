@@ -1,8 +1,9 @@
-use Rattle.std.proofs.Common.{Bool, not, sym, ap, ◌∙◌, subst}
+use Rattle.std.proofs.Common.{Bool, length, not, sym, ap, ◌∙◌, subst}
 use Rattle.std.specs.List.{filter}
 use Rattle.state_layout.specs.Conditions.{IsNodeFor}
 use Rattle.state_layout.specs.declared.layout.Layout.{Layout}
 use Rattle.state_layout.specs.declared.node.Node.{Node}
+use Rattle.dom_store.specs.Chains.{row_in}
 use Rattle.dom_store.specs.Contents.{Contents}
 use Rattle.dom_store.specs.Past.{covers_past, is_past}
 use Rattle.dom_store.specs.Places.{nodes_of}
@@ -17,7 +18,7 @@ clear_past-gone-requires-clause-nodes g c = λ p n there.
 pub invariant_of-self : goal.invariant_of-self
 invariant_of-self g c =
     let test : Node → Bool = is_past (covers_past g.K.Covers.prune g.K.Covers.minimize g.K.Covers.operator c.args.layout.now) c.args.past.now.nodes in
-    kept_without g.K.Covers.prune g.K.Covers.minimize g.K.Covers.operator c.self.inside.layout test c.self.inside.keys.keys c.self.inside.rows.items c.self.inside.places.items c.clear_past-gone.new.places.items c.self.inside.glances.items c.self.inside.count c.clear_past-gone.result c.self.invariant c.clear_past-gone.ensures.places c.clear_past-gone.ensures.counted
+    kept_without g.K.Covers.prune g.K.Covers.minimize g.K.Covers.operator c.self.inside.layout test (row_in c.self.inside.chains.newest c.self.inside.chains.older.items) (length c.self.inside.chains.older.items) c.self.inside.places.items c.clear_past-gone.new.places.items c.self.inside.glances.items c.self.inside.count c.clear_past-gone.result c.self.invariant c.clear_past-gone.ensures.places c.clear_past-gone.ensures.counted
 
 pub returns-clause-nodes : goal.returns-clause-nodes
 returns-clause-nodes g c =
