@@ -1,0 +1,7 @@
+//! Laws of content: what a text says is what its model has, and what an expression reads there. A planner may rely on them
+//! without a look at how a text is read or a model searched.
+#![tactic(auto)]
+
+mod choices;
+
+pub use choices::{forall_is_each, parameter_is_member};
