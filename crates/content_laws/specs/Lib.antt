@@ -1,1 +1,6 @@
 pub mod Choices
+pub mod Entries
+pub mod Targets
+pub mod Files
+pub mod Reduce
+pub mod Lists

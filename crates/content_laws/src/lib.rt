@@ -3,5 +3,7 @@
 #![tactic(auto)]
 
 mod choices;
+mod values;
 
 pub use choices::{forall_is_each, parameter_is_member};
+pub use values::{both_files_count, reduce_decides, target_is_given};
