@@ -6,3 +6,4 @@ pub mod Choosing
 pub mod Reducing
 pub mod Joining
 pub mod Targeting
+pub mod Placing

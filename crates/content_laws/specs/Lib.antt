@@ -4,3 +4,4 @@ pub mod Targets
 pub mod Files
 pub mod Reduce
 pub mod Lists
+pub mod Places

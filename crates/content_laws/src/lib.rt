@@ -3,7 +3,9 @@
 #![tactic(auto)]
 
 mod choices;
+mod tables;
 mod values;
 
 pub use choices::{forall_is_each, parameter_is_member};
+pub use tables::places_agree;
 pub use values::{both_files_count, reduce_decides, target_is_given};

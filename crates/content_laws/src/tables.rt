@@ -1,0 +1,8 @@
+//! Cells of tables: what a text gives there is what an expression reads there.
+
+ghost use Rattle.content_laws.specs.Places.{LawPlace};
+
+/// The place that a text's key gets in its table is the place that an expression reads with the members that the key names.
+pub fn places_agree()
+    ensures { LawPlace }
+{}
