@@ -7,3 +7,6 @@ pub mod Reducing
 pub mod Joining
 pub mod Targeting
 pub mod Placing
+pub mod Filling
+pub mod Tabling
+pub mod Celling

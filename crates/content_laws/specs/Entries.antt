@@ -9,3 +9,10 @@ pub record IsUnder (entries : List Pair) (name : List ℕ) (pair : Pair) : Type 
   pub there : slice_get entries at ≡ Some pair
   pub named : scalar_text pair.key ≡ Some name
   pub last : (i : ℕ) (other : Pair) → at < i → slice_get entries i ≡ Some other → scalar_text other.key ≡ Some name → ⊥
+
+-- the only one of these entries whose key is a scalar with this text
+pub record IsOnly (entries : List Pair) (name : List ℕ) (pair : Pair) : Type 0 where
+  pub at : ℕ
+  pub there : slice_get entries at ≡ Some pair
+  pub named : scalar_text pair.key ≡ Some name
+  pub only : (i : ℕ) (other : Pair) → slice_get entries i ≡ Some other → scalar_text other.key ≡ Some name → i ≡ at

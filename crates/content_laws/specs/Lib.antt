@@ -5,3 +5,4 @@ pub mod Files
 pub mod Reduce
 pub mod Lists
 pub mod Places
+pub mod CellTexts

@@ -7,5 +7,5 @@ mod tables;
 mod values;
 
 pub use choices::{forall_is_each, parameter_is_member};
-pub use tables::places_agree;
+pub use tables::{cells_are_read, places_agree};
 pub use values::{both_files_count, reduce_decides, target_is_given};
