@@ -1,0 +1,12 @@
+pub mod Forms
+pub mod Members
+pub mod Outcomes
+pub mod Meanings
+pub mod Choosing
+pub mod Reducing
+pub mod Joining
+pub mod Targeting
+pub mod Placing
+pub mod Filling
+pub mod Tabling
+pub mod Celling

@@ -1,0 +1,11 @@
+//! Laws of content: what a text says is what its model has, and what an expression reads there. A planner may rely on them
+//! without a look at how a text is read or a model searched.
+#![tactic(auto)]
+
+mod choices;
+mod tables;
+mod values;
+
+pub use choices::{forall_is_each, parameter_is_member};
+pub use tables::{cells_are_read, places_agree};
+pub use values::{both_files_count, reduce_decides, target_is_given};
