@@ -1,0 +1,4 @@
+pub mod Marks
+pub mod OneWord
+pub mod Shown
+pub mod Nexts
