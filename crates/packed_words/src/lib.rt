@@ -7,6 +7,7 @@ mod ranges;
 mod scene;
 mod sets;
 mod steps;
+mod tables;
 mod word;
 
 pub use numbers::{compares, member_of, operate, ranged};
@@ -14,4 +15,5 @@ pub use ranges::Range;
 pub use scene::{copy_set, has_in, next_in, number_in, parameter, set_slot, word_of, Scene};
 pub use sets::{has_member, is_empty, is_same, is_subset, operate_into, others, size, with, without, words_for};
 pub use steps::{count_of, first_bit, next_of, range_of, start_more, write_more};
+pub use tables::{Shape, Tables};
 pub use word::{is_empty_word, is_same_word, is_within_word, operate_words, other_word, word_has, word_size, word_with, word_without};
