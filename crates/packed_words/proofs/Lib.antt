@@ -2,3 +2,5 @@ pub mod Marks
 pub mod OneWord
 pub mod Shown
 pub mod Nexts
+pub mod Packs
+pub mod OnePass

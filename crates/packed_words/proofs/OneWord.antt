@@ -1,5 +1,5 @@
 -- What an operation on two words means for sets in one word each.
-use Rattle.std.proofs.Common.{◌≡◌, ℕ, zero, suc, ◌+◌, ◌/◌, ◌%◌, ◌*◌, ◌^◌, ◌<◌, ◌≤◌, Bool, true, false, not, ◌&&◌, ◌||◌, eqb, List, [], ◌∷◌, length, get_or, set, refl, sym, ap, ◌∙◌, inl, inr, arith}
+use Rattle.std.proofs.Common.{◌≡◌, ℕ, zero, suc, ◌+◌, ◌/◌, ◌%◌, ◌*◌, ◌^◌, ◌<◌, ◌≤◌, Bool, true, false, not, ◌&&◌, ◌||◌, eqb, List, length, get_or, set, refl, sym, ap, ◌∙◌, inl, inr, arith}
 use Rattle.std.specs.Prelude.{bit_and, bit_or, count_ones}
 use Rattle.std.specs.Int.{bit_at, bit_not, w64}
 use Rattle.std.specs.List.{list_all}
@@ -9,7 +9,6 @@ use Rattle.std.proofs.lemmas.Slice.Eq.{bytes_eq-Decides}
 use Rattle.std.proofs.lemmas.Nat.Bits.{shr_and_one}
 use Rattle.bit_sets.specs.Sets.{bound_of, has, has_bit, mask_of, members_of, members_where}
 use Rattle.bit_sets.proofs.Meanings.{has_is_bit, union_members, meet_members, minus_members, complement_members, insert_members, remove_members, size_more, all_within, not_within, words_same}
-use Rattle.packed_words.proofs.Marks.{decided}
 use Rattle.packed_words.specs.Sets.{one_word}
 
 first : (P : ℕ → Type 0) → P 0 → (k : ℕ) → k < 1 → P k

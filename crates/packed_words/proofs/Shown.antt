@@ -1,15 +1,13 @@
 -- What the words of a scene have for a variable, by the model's kind of it.
-use Rattle.std.proofs.Common.{◌≡◌, ℕ, zero, suc, ◌+◌, ◌*◌, ◌/◌, ◌%◌, ◌<◌, ◌≤◌, Bool, true, false, not, List, [], ◌∷◌, length, get_or, map, eqb, refl, sym, ap, subst, ◌∙◌, inl, inr, arith, rules}
-use Rattle.std.specs.Prelude.{Option, Some, None, option_and_then, slice_get, unwrap_or, nat_le, IsTrue}
+use Rattle.std.proofs.Common.{◌≡◌, ℕ, zero, suc, ◌*◌, ◌/◌, ◌%◌, ◌<◌, ◌≤◌, true, false, List, [], ◌∷◌, length, get_or, map, eqb, refl, sym, ap, ◌∙◌, inl, inr, arith, rules}
+use Rattle.std.specs.Prelude.{Option, Some, None, option_and_then, slice_get, unwrap_or, IsTrue}
 use Rattle.std.specs.Int.{bit_at}
 use Rattle.std.specs.List.{list_all, range_with_len}
 use Rattle.std.proofs.lemmas.Bool.{and_parts, leb-true, cases_lt}
-use Rattle.std.proofs.lemmas.List.{get_or_past}
 use Rattle.std.proofs.lemmas.List.FromFn.{get_or-map-range_with_len, length-map-range_with_len}
 use Rattle.std.proofs.lemmas.Option.{slice_get_within, slice_get-get_or}
-use Rattle.std.proofs.lemmas.Nat.Bits.{bit_at-zero}
-use Rattle.bit_sets.specs.Sets.{bound_of, has, has_bit, members_of, members_where}
-use Rattle.bit_sets.proofs.Meanings.{has_is_bit, no_bit}
+use Rattle.bit_sets.specs.Sets.{bound_of, has_bit, members_of}
+use Rattle.bit_sets.proofs.Meanings.{no_bit}
 use Rattle.dp_model.specs.Typing.{is_number_kind, is_set_kind, kind_at, type_count}
 use Rattle.dp_model.specs.Evaluation.{count_of, kind_of, object_of_kind, set_in}
 use Rattle.dp_model.specs.Limits.{is_small_object, is_name}
@@ -20,11 +18,11 @@ use Rattle.dp_model.specs.declared.parts.VarKind.TheVariants as kinds
 use Rattle.dp_model.specs.declared.parts.Preference.TheVariants.{Without}
 use Rattle.dp_model.specs.declared.whole.Model.{Model}
 use Rattle.state_layout.specs.declared.layout.Slot.{Slot}
-use Rattle.state_layout.specs.Slots.{slots_of, slots_from, kind_count, sets_among, rank_after}
+use Rattle.state_layout.specs.Slots.{slots_from, kind_count, sets_among, rank_after}
 use Rattle.state_layout.specs.Signatures.{word_count}
-use Rattle.state_layout.specs.Packing.{count_in, holds_set, word_in, has_member, members_in, state_in, is_set}
-use Rattle.state_layout.specs.Forms.{Fits, HoldsSlot, no_slot}
-use Rattle.state_layout.proofs.Decoding.{where_same, no_member, member_is_bit, set_there}
+use Rattle.state_layout.specs.Packing.{holds_set, word_in, has_member, state_in, is_set}
+use Rattle.state_layout.specs.Forms.{HoldsSlot, no_slot}
+use Rattle.state_layout.proofs.Decoding.{where_same, no_member, set_there}
 use Rattle.state_layout.proofs.Ranking.{slots_length}
 use Rattle.state_layout.proofs.Stepping.{get_or_default}
 use Rattle.packed_words.specs.Scenes.{Shows}

@@ -1,5 +1,5 @@
 -- What a `forall` ranges over.
-use Rattle.std.specs.Prelude.{◌≡◌, ℕ, ◌+◌, ◌≤◌, Bool, true, IsTrue, List, nat_le}
+use Rattle.std.specs.Prelude.{ℕ, ◌≤◌, Bool, true, IsTrue, List}
 use Rattle.std.specs.List.{range_with_len}
 use Rattle.bit_sets.specs.Sets.{members_of}
 use Rattle.dp_model.specs.Typing.{is_set_kind, kind_at}

@@ -9,19 +9,23 @@ ghost use Rattle.state_layout.specs.Signatures.{word_count};
 ghost use Rattle.state_layout.specs.Packing.{is_set, state_in};
 ghost use Rattle.state_layout.specs.Forms.{HoldsSlot};
 ghost use Rattle.packed_words.specs.Scenes.{Shows, AreSmall};
+ghost use Rattle.packed_words.specs.Tables.{AreTablesOf};
 ghost use Rattle.packed_words.specs.Sets.{IsClean, one_word, members_from};
 
 use crate::sets::words_for;
+use crate::tables::Tables;
 use dp_model::Model;
-use state_layout::{first_word, word_in, Slot};
+use state_layout::{Slot, first_word, word_in};
 
 /// A state of a model in words, and the values of the parameters in force.
 #[derive(Clone, Copy)]
 pub struct Scene<'a> {
     pub model: &'a Model,
+    pub tables: &'a Tables,
     pub slots: &'a [Slot],
     pub words: &'a [u64],
     pub args: &'a [u64],
+    pub ghost flat: { AreTablesOf model.now tables.now },
     pub ghost shown: { Shows model.now slots.now words.now },
     pub ghost small: { AreSmall args.now },
 }
@@ -73,13 +77,7 @@ pub fn copy_set(at: &Scene<'_>, v: u32, out: &mut [u64])
 {
     let slot = set_slot(at, v);
     for number in 0..out.len() {
-        out[number] = word_in(
-            at.words,
-            at.slots.len(),
-            v as usize,
-            slot,
-            number as u32,
-        );
+        out[number] = word_in(at.words, at.slots.len(), v as usize, slot, number as u32);
     }
 }
 
@@ -89,13 +87,7 @@ pub fn has_in(at: &Scene<'_>, v: u32, member: u32) -> bool
     ensures { result ≡ has (set_in (state_in at.now.words.now) v) member }
 {
     let slot = set_slot(at, v);
-    let word = word_in(
-        at.words,
-        at.slots.len(),
-        v as usize,
-        slot,
-        member / 64,
-    );
+    let word = word_in(at.words, at.slots.len(), v as usize, slot, member / 64);
     word >> (member % 64) & 1 == 1
 }
 

@@ -9,7 +9,7 @@ ghost use Rattle.packed_words.specs.Ranges.{over_fits, range_members, IsRange};
 ghost use Rattle.packed_words.specs.Sets.{one_word, members_from, IsNext};
 
 use crate::ranges::Range;
-use crate::scene::{next_in, set_slot, word_of, Scene};
+use crate::scene::{Scene, next_in, set_slot, word_of};
 use dp_model::{Model, Over};
 
 /// How many members an object type has.

@@ -1,4 +1,4 @@
-use Rattle.std.proofs.Common.{rules, ◌≡◌, ℕ, ◌<◌, ◌∙◌, subst, get_or, arith, length}
+use Rattle.std.proofs.Common.{ℕ, subst, arith}
 use Rattle.packed_words.specs.Sets.{IsClean}
 use Rattle.packed_words.proofs.Shown.{set_copied, clean_copied}
 use Rattle.packed_words.proofs.scene.copy_set.Goals as goal

@@ -1,4 +1,4 @@
-use Rattle.std.proofs.Common.{rules, arith}
+use Rattle.std.proofs.Common.{arith}
 use Rattle.packed_words.proofs.Nexts.{first_found, first_nowhere}
 use Rattle.packed_words.proofs.scene.first_after.Goals as goal
 

@@ -1,4 +1,4 @@
-use Rattle.std.proofs.Common.{rules, ◌≡◌, ℕ, ◌<◌, ◌∙◌, subst, get_or, arith}
+use Rattle.std.proofs.Common.{ℕ, subst, get_or, arith}
 use Rattle.state_layout.specs.Packing.{word_in}
 use Rattle.packed_words.specs.Sets.{IsClean, one_word}
 use Rattle.packed_words.proofs.OneWord.{one_length, only_word}

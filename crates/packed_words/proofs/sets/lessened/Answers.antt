@@ -1,4 +1,3 @@
-use Rattle.std.proofs.Common.{sym, ◌∙◌}
 use Rattle.packed_words.proofs.Marks.{lessened_members, clean_of}
 use Rattle.packed_words.proofs.sets.lessened.Goals as goal
 

@@ -1,4 +1,3 @@
-use Rattle.std.proofs.Common.{sym, ◌∙◌}
 use Rattle.packed_words.proofs.Marks.{shared_members, clean_of}
 use Rattle.packed_words.proofs.sets.shared.Goals as goal
 

@@ -1,4 +1,3 @@
-use Rattle.state_layout.specs.declared.layout.Slot.{Slot}
 use Rattle.std.proofs.Common.{get_or}
 use Rattle.packed_words.proofs.Shown.{set_held, set_kind, set_few, past_slots}
 use Rattle.packed_words.proofs.Nexts.{next_in_set, within_set}
