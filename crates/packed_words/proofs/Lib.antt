@@ -1,0 +1,6 @@
+pub mod Marks
+pub mod OneWord
+pub mod Shown
+pub mod Nexts
+pub mod Packs
+pub mod OnePass
