@@ -13,12 +13,11 @@ use crate::crew::{Crew, make_crew};
 use crate::ending::{gather, tell, visits_so_far};
 use crate::rounds::turn_all;
 use crate::seats::split_seats;
-
 use board_words::{Board, BoardSeat};
 use cost_laws::CostLaw;
 use dom_store::{Covers, Dominating, Exact};
-use dp_model::{Model as DpModel, Options};
 use dp_base::Seq;
+use dp_model::{Model as DpModel, Options};
 use dp_outside::Gate;
 use pass_ends::{PassEnd, out_of_memory};
 use std::alloc::Global;
@@ -140,8 +139,6 @@ pub fn run_pass_in_order<R: Wait, G: Gate>(
 {
     by_law!(
         model,
-        run_by_in_order::<R, G>(
-            rt, alloc, model, options, share, board, seat, gate, order
-        )
+        run_by_in_order::<R, G>(rt, alloc, model, options, share, board, seat, gate, order)
     )
 }
