@@ -1,8 +1,8 @@
-//! Runs over devices that fail, and files that are too long. They share one shelf and one sink, since the checker takes the
-//! whole solver anew for each pair of them.
+//! Runs over devices that fail. They share one shelf and one sink, since the checker takes the whole solver anew for each pair of them.
 
 ghost use Rattle.std.specs.Prelude.{None};
 
+use crate::texts::{TOUR, TOUR_FOUND, TOUR_OF_FOUR, TOUR_SHOWN, TOUR_STEPS};
 use dp_outside::{Failed, MemShelf, OpenGate, Sink};
 use solve_top::run;
 use std::alloc::{AllocError, Global};
@@ -11,40 +11,63 @@ use std::test::Fail;
 use std::thread::Threads;
 use tests_parts::texts::{FROM_ZERO, TWO_WAYS};
 
-/// What a run over two ways prints: 123 bytes in 9 lines.
-const PRINTED: &str = concat!(
-    "solution 11 2\np\ne\npass 1 share 1 visited 2 dropped 1\n",
-    "solution 3 2\nq\nd\npass 2 share 2 visited 3 dropped 0\nverdict optimal 3\n",
-);
-
-static WORDS: [&str; 5] = ["solve", "a", "a1", "--prune", "off"];
-
-/// The words of a run over `a` and `a1`.
-fn words_of(alloc: Global) -> Result<Vec<String>, AllocError> {
-    let mut given = Vec::new(alloc);
-    for word in WORDS.iter() {
-        given.push(String::from_str(alloc, *word)?)?;
-    }
-    Ok(given)
+/// A run over texts under `d`, `p` and `l`: its words, what it prints where no device fails, and how many reads it makes.
+struct Row {
+    words: &'static str,
+    texts: [&'static str; 3],
+    printed: &'static str,
+    reads: usize,
 }
 
-fn shelf_of(alloc: Global, domain: &[u8], problem: &[u8]) -> Result<MemShelf, AllocError> {
-    let mut shelf = MemShelf::new(alloc);
-    shelf.put("a", domain)?;
-    shelf.put("a1", problem)?;
-    Ok(shelf)
-}
+/// What is printed where a read fails, for each read: each text is read as one piece and its end.
+static UNREAD: [&str; 6] = [
+    "read fault domain\n",
+    "read fault domain\n",
+    "read fault problem\n",
+    "read fault problem\n",
+    "read fault list\n",
+    "read fault list\n",
+];
 
-/// Runs over two ways into this sink.
-fn run_into<R: Threads + Wait + Sync>(
-    rt: &R,
-    alloc: Global,
-    sink: &mut SlowSink,
-) -> Result<u8, AllocError> {
-    let words = words_of(alloc)?;
-    let mut shelf = shelf_of(alloc, TWO_WAYS.as_bytes(), FROM_ZERO.as_bytes())?;
-    Ok(run(rt, alloc, &words, &mut shelf, sink, &OpenGate::new()))
-}
+/// Each of them ends with status 0.
+static ROWS: [Row; 5] = [
+    Row {
+        words: "solve d p --prune off",
+        texts: [TWO_WAYS, FROM_ZERO, ""],
+        printed: concat!(
+            "solution 11 2\np\ne\npass 1 share 1 visited 2 dropped 1\n",
+            "solution 3 2\nq\nd\npass 2 share 2 visited 3 dropped 0\nverdict optimal 3\n",
+        ),
+        reads: 4,
+    },
+    Row {
+        words: "solve d p",
+        texts: [TOUR, TOUR_OF_FOUR, ""],
+        printed: TOUR_FOUND,
+        reads: 4,
+    },
+    Row {
+        words: "replay d p l",
+        texts: [TOUR, TOUR_OF_FOUR, TOUR_STEPS],
+        printed: "verdict legal 14\n",
+        reads: 6,
+    },
+    Row {
+        words: "show d p",
+        texts: [TOUR, TOUR_OF_FOUR, ""],
+        printed: TOUR_SHOWN,
+        reads: 4,
+    },
+    Row {
+        words: "gen path 2 0",
+        texts: ["", "", ""],
+        printed: "gen path 2 0\nground 2\nverdict optimal 95\n",
+        reads: 0,
+    },
+];
+
+/// How many bytes a sink takes a write, at most: one, a part of a piece, or the whole piece.
+static MOSTS: [usize; 3] = [1, 3, usize::MAX];
 
 /// A sink that takes at most `most` bytes a write, and whose write number `fails_at` fails.
 #[derive(Drop)]
@@ -80,88 +103,116 @@ fn sink_of(alloc: Global, most: usize, fails_at: u64) -> SlowSink {
     }
 }
 
+fn words_of(alloc: Global, row: &Row) -> Result<Vec<String>, AllocError> {
+    let mut given = Vec::new(alloc);
+    for word in row.words.split(' ') {
+        given.push(String::from_str(alloc, word)?)?;
+    }
+    Ok(given)
+}
+
+fn shelf_of(alloc: Global, row: &Row) -> Result<MemShelf, AllocError> {
+    let [domain, problem, list] = row.texts;
+    let mut shelf = MemShelf::new(alloc);
+    shelf.put("d", domain.as_bytes())?;
+    shelf.put("p", problem.as_bytes())?;
+    shelf.put("l", list.as_bytes())?;
+    Ok(shelf)
+}
+
+/// Runs a row over a shelf whose read of that number fails, into this sink.
+fn run_into<R: Threads + Wait + Sync>(
+    rt: &R,
+    alloc: Global,
+    row: &Row,
+    fails_at: u64,
+    sink: &mut SlowSink,
+) -> Result<u8, AllocError> {
+    let words = words_of(alloc, row)?;
+    let mut shelf = shelf_of(alloc, row)?;
+    shelf.fail_at(fails_at)?;
+    Ok(run(rt, alloc, &words, &mut shelf, sink, &OpenGate::new()))
+}
+
+/// Whether a run into a sink ended as it has to: whole, where the sink did not fail, and else with status 5, no further write, and a
+/// front of what is printed of at least so many bytes.
+fn ends_so(row: &Row, sink: &SlowSink, status: u8, least: usize) -> bool {
+    let printed = row.printed.as_bytes();
+    let taken = sink.bytes.as_slice();
+    if sink.writes < sink.fails_at {
+        return status == 0 && taken == printed;
+    }
+    status == 5
+        && sink.writes == sink.fails_at
+        && least <= taken.len()
+        && taken.len() < printed.len()
+        && printed.starts_with(taken)
+}
+
 #[test]
-fn each_failed_byte_ends_the_run(rt: HostRuntime) -> Result<(), Fail> {
-    for call in 1..125u64 {
-        let mut sink = sink_of(rt.alloc(), 1, call);
-        let status = run_into(&rt, rt.alloc(), &mut sink)?;
-        let want = if call < 124 { 5 } else { 0 };
-        assert_eq!(rt; status, want, "{call}");
-        assert_eq!(rt; sink.bytes.len() as u64, call - 1, "{call}");
-        assert!(rt; PRINTED.as_bytes().starts_with(&sink.bytes), "{call}");
+fn each_failed_write_ends_the_run(rt: HostRuntime) -> Result<(), Fail> {
+    for row in ROWS.iter() {
+        for most in MOSTS.iter() {
+            let mut least = 0;
+            for call in 1..1000u64 {
+                let mut sink = sink_of(rt.alloc(), *most, call);
+                let status = run_into(&rt, rt.alloc(), row, 0, &mut sink)?;
+                assert!(rt;
+                    ends_so(row, &sink, status, least),
+                    "{} {most} {call}",
+                    row.words
+                );
+                if sink.writes < call {
+                    break;
+                }
+                least = sink.bytes.len().saturating_add(1);
+            }
+        }
     }
     Ok(())
 }
 
-/// The number of the write that fails, and how many bytes were taken at the end of the run. Each line is one write.
-static LINES: [(u64, usize, u8); 10] = [
-    (1, 0, 5),
-    (2, 14, 5),
-    (3, 16, 5),
-    (4, 18, 5),
-    (5, 53, 5),
-    (6, 66, 5),
-    (7, 68, 5),
-    (8, 70, 5),
-    (9, 105, 5),
-    (10, 123, 0),
-];
-
 #[test]
-fn each_failed_line_ends_the_run(rt: HostRuntime) -> Result<(), Fail> {
-    for (call, length, want) in LINES.iter() {
-        let mut sink = sink_of(rt.alloc(), usize::MAX, *call);
-        let status = run_into(&rt, rt.alloc(), &mut sink)?;
-        assert_eq!(rt; status, *want, "{call}");
-        assert_eq!(rt; sink.bytes.len(), *length, "{call}");
-        assert!(rt; PRINTED.as_bytes().starts_with(&sink.bytes), "{call}");
+fn each_failed_read_names_its_file(rt: HostRuntime) -> Result<(), Fail> {
+    for row in ROWS.iter() {
+        for (place, line) in UNREAD.iter().take(row.reads).enumerate() {
+            let mut sink = sink_of(rt.alloc(), usize::MAX, 0);
+            let status = run_into(
+                &rt,
+                rt.alloc(),
+                row,
+                (place as u64).saturating_add(1),
+                &mut sink,
+            )?;
+            let taken = sink.bytes.as_slice();
+            assert!(rt;
+                status == 4 && taken == line.as_bytes(),
+                "{} {place}",
+                row.words
+            );
+        }
     }
     Ok(())
 }
 
-/// The number of the read that fails, and what is printed.
-static READS: [(u64, &str, u8); 5] = [
-    (1, "read fault domain\n", 4),
-    (2, "read fault domain\n", 4),
-    (3, "read fault problem\n", 4),
-    (4, "read fault problem\n", 4),
-    (5, PRINTED, 0),
-];
-
+/// The read behind the last one is never made.
 #[test]
-fn a_failed_read_names_its_file(rt: HostRuntime) -> Result<(), Fail> {
-    let words = words_of(rt.alloc())?;
-    for (call, text, want) in READS.iter() {
-        let mut shelf = shelf_of(rt.alloc(), TWO_WAYS.as_bytes(), FROM_ZERO.as_bytes())?;
-        shelf.fail_at(*call)?;
+fn no_read_is_made_in_vain(rt: HostRuntime) -> Result<(), Fail> {
+    for row in ROWS.iter() {
         let mut sink = sink_of(rt.alloc(), usize::MAX, 0);
-        let gate = OpenGate::new();
-        let status = run(&rt, rt.alloc(), &words, &mut shelf, &mut sink, &gate);
-        assert!(rt; sink.bytes.as_slice() == text.as_bytes(), "{call}");
-        assert_eq!(rt; status, *want, "{call}");
-    }
-    Ok(())
-}
-
-/// Whether the domain or the problem is too long, and what is printed.
-static LONG: [(bool, &str); 2] = [(true, "too long domain\n"), (false, "too long problem\n")];
-
-#[test]
-fn a_file_past_the_limit_is_too_long(rt: HostRuntime) -> Result<(), Fail> {
-    let words = words_of(rt.alloc())?;
-    let long = vec![in rt.alloc(); b'a'; 16_777_217]?;
-    for (is_domain, text) in LONG.iter() {
-        let (domain, problem) = if *is_domain {
-            (long.as_slice(), b"".as_slice())
-        } else {
-            (b"".as_slice(), long.as_slice())
-        };
-        let mut shelf = shelf_of(rt.alloc(), domain, problem)?;
-        let mut sink = sink_of(rt.alloc(), usize::MAX, 0);
-        let gate = OpenGate::new();
-        let status = run(&rt, rt.alloc(), &words, &mut shelf, &mut sink, &gate);
-        assert!(rt; sink.bytes.as_slice() == text.as_bytes(), "{text}");
-        assert_eq!(rt; status, 7, "{text}");
+        let status = run_into(
+            &rt,
+            rt.alloc(),
+            row,
+            (row.reads as u64).saturating_add(1),
+            &mut sink,
+        )?;
+        let taken = sink.bytes.as_slice();
+        assert!(rt;
+            status == 0 && taken == row.printed.as_bytes(),
+            "{}",
+            row.words
+        );
     }
     Ok(())
 }
