@@ -265,6 +265,18 @@ def depths():
                 yield case.last(SOLVE, BEST, 0)
 
 
+def levels():
+    """An operator over so many operands, in an expression of one level more, is a tree of at most 1,200 levels: deeper ones want memory."""
+    forms = [("(= 1199 (+@))", " 1", 1199), ("(and@)", " true", 1200), ("(is_subset (union@) s)", " s", 1199)]
+    for text, piece, most in forms:
+        for count in (most, most + 1):
+            domain = up(("type: integer }, ]", "type: integer }, { name: s, type: set, object: o } ]"))
+            domain += f"objects: [ o ]\nconstraints: [ '{text}' ]\n"
+            case = Case(f"levels of a tree: {count:,} times{piece}").text("domain", domain).many("domain", count, piece)
+            case.text("problem", up(("x: 0 }", "x: 0, s: [ 0 ] }"), of=UP_FROM_0) + "object_numbers: { o: 1 }\n")
+            yield case.last(SOLVE, BEST, 0) if count == most else case.run(SOLVE, "memory\n", 6)
+
+
 def names():
     """Names of 1, 200 and 201 bytes, and of none."""
     two = UP + "objects: [ o ]\n"
@@ -375,19 +387,31 @@ def words():
 
 def cut():
     """A tour's two files, each cut at each of its bytes."""
-    yield Case("a tour cut at each byte").text("domain", TOUR).text("problem", TOUR_OF_FOUR).cuts("solve d p").cuts("show d p")
+    case = Case("a tour cut at each byte").text("domain", TOUR).text("problem", TOUR_OF_FOUR).text("list", "")
+    yield case.cuts("solve d p").cuts("show d p")
 
 
-def cases(made):
-    """The cases whose texts are made when they run, or the others."""
-    parts = [climbs(), (case for limit in limits() for case in limit.cases()), both_files(), numbers(), depths(), names(), sizes(), words()]
-    for part in [*parts, cut()] if made else parts:
-        yield from (case for case in part if case.is_made() == made)
+def plain():
+    """The cases whose texts stand in a file as they are."""
+    parts = [climbs(), (case for limit in limits() for case in limit.cases()), both_files(), numbers(), names(), sizes(), words()]
+    return (case for part in parts for case in part if not case.is_made())
 
 
-def write(path, made):
+def made():
+    """The cases whose texts are made when they run, without the deep ones."""
+    parts = [climbs(), (case for limit in limits() for case in limit.cases()), both_files(), numbers(), names(), sizes(), cut()]
+    return (case for part in parts for case in part if case.is_made())
+
+
+def deep():
+    """The deepest trees and expressions."""
+    yield from depths()
+    yield from levels()
+
+
+def write(path, cases):
     """Writes a file of cases, and returns what they must print."""
-    found = list(cases(made))
+    found = list(cases)
     with open(path, "w", encoding="ascii") as file:
         for case in found:
             file.writelines([*case.written(), "\n"])

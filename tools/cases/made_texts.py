@@ -1,4 +1,4 @@
-"""Texts that cases make when they run, as crates/cases_runs makes them: pieces in many copies, cuts, noise; and what is told of many
+"""Texts that cases make when they run, as crates/case_making makes them: pieces in many copies, cuts, noise; and what is told of many
 runs together."""
 
 BITS = (0x80, 0x40, 0x20, 0x02)

@@ -117,7 +117,7 @@ def main(folder):
     out.append(write("orders", ORDERS))
     out.append(write("models", of_models()))
     out.append(write("guide", guide_runs.cases()))
-    out.append(hostile_runs.write(f"{CRATE}/data/hostile.txt", False))
+    out.append(hostile_runs.write(f"{CRATE}/data/hostile.txt", hostile_runs.plain()))
     with open(f"{CRATE}/stdout", "w", encoding="utf-8") as file:
         file.writelines(out)
 
