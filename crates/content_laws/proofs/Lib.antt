@@ -10,3 +10,4 @@ pub mod Placing
 pub mod Filling
 pub mod Tabling
 pub mod Celling
+pub mod Working

@@ -6,3 +6,4 @@ pub mod Reduce
 pub mod Lists
 pub mod Places
 pub mod CellTexts
+pub mod Worked

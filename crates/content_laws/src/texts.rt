@@ -1,0 +1,9 @@
+//! Texts written out, and the models that they mean.
+
+ghost use Rattle.content_laws.specs.Worked.{LawQuarry};
+
+/// Two small texts, as trees, mean a model that is written out: with an object type, a variable, a table of which one cell is
+/// given, a base case without conditions, `reduce: max` and a target.
+pub fn texts_mean_a_model()
+    ensures { LawQuarry }
+{}
