@@ -7,11 +7,7 @@ use std::alloc::{AllocError, Global};
 const DRAWN: u32 = 64;
 
 /// 64 shards drawn by a linear congruential generator with this seed, and then all shards by their numbers.
-pub(crate) fn drawn_order(
-    alloc: Global,
-    workers: u32,
-    seed: u32,
-) -> Result<Seq<u32>, AllocError> {
+pub(crate) fn drawn_order(alloc: Global, workers: u32, seed: u32) -> Result<Seq<u32>, AllocError> {
     let mut order = Vec::new(alloc);
     let mut x = u64::from(seed) + 1;
     for _ in 0..DRAWN {

@@ -97,7 +97,12 @@ fn make_passes<R: Wait>(
     let mut share = 1;
     while share < GREATEST_SHARE {
         let end = make_pass(rt, alloc, model, options, share, best, order)?;
-        let PassEnd::Closed { dropped, best: found, .. } = end else {
+        let PassEnd::Closed {
+            dropped,
+            best: found,
+            ..
+        } = end
+        else {
             return None;
         };
         if let Some(found) = found {
@@ -113,13 +118,7 @@ fn make_passes<R: Wait>(
 }
 
 /// In how many of the drawn orders the passes end with this cost.
-fn count_orders<R: Wait>(
-    rt: &R,
-    alloc: Global,
-    model: &Model,
-    options: &Options,
-    cost: i64,
-) -> u32
+fn count_orders<R: Wait>(rt: &R, alloc: Global, model: &Model, options: &Options, cost: i64) -> u32
     requires inner { Inner model.now model.now.target }
     requires options { AreOptions options.now }
 {
@@ -163,7 +162,15 @@ pub(crate) fn halt_in_order<R: Wait>(
     let Ok(Start::Open(_)) = start_at(alloc, model, true) else {
         return "no open target";
     };
-    match make_pass(rt, alloc, model, options, GREATEST_SHARE, NO_INCUMBENT, order) {
+    match make_pass(
+        rt,
+        alloc,
+        model,
+        options,
+        GREATEST_SHARE,
+        NO_INCUMBENT,
+        order,
+    ) {
         Some(PassEnd::Closed { .. }) => "closed",
         Some(PassEnd::Halted { cause, .. }) => match cause {
             Cause::Budget => "budget",
