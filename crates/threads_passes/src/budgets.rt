@@ -30,15 +30,10 @@ fn ends<R: Threads + Wait + Sync>(
     let words = format!(in alloc; "solve d p --workers {workers} --budget {budget}")?;
     let optimal = format!(in alloc; "verdict optimal {cost}")?;
     let stopped = format!(in alloc; "verdict stopped {budget}")?;
-    let last = search(
-        rt,
-        alloc,
-        texts,
-        words.as_str(),
-        &WaitingGate::new(Waiting::Nobody),
-    )?;
-    let is_stopped = budget < wanted.enough && last.as_str() == stopped.as_str();
-    Ok(is_stopped || last.as_str() == optimal.as_str())
+    let gate = WaitingGate::new(Waiting::Nobody);
+    let verdict = search(rt, alloc, texts, words.as_str(), &gate)?;
+    let is_stopped = budget < wanted.enough && verdict.as_str() == stopped.as_str();
+    Ok(is_stopped || verdict.as_str() == optimal.as_str())
 }
 
 /// How many of the budgets 1 to 30 end a search as it has to end.

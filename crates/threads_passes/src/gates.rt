@@ -18,13 +18,14 @@ pub enum Waiting {
     First(u64),
 }
 
-/// A gate at which shards wait. It counts how often what was waited for came.
+/// A gate at which shards wait. It counts how often what was waited for came, and how often it did not.
 #[derive(Drop)]
 pub struct WaitingGate {
     waiting: Waiting,
     begun: AtomicU64,
     turns: AtomicU64,
     seen: AtomicU64,
+    missed: AtomicU64,
 }
 
 impl WaitingGate {
@@ -34,12 +35,18 @@ impl WaitingGate {
             begun: AtomicU64::new(0),
             turns: AtomicU64::new(0),
             seen: AtomicU64::new(0),
+            missed: AtomicU64::new(0),
         }
     }
 
-    /// How often what a shard waited for came.
-    pub(crate) fn seen(&self) -> u64 {
-        self.seen.load(Ordering::SeqCst)
+    /// Whether what was waited for came each time, and as many shards waited as have to.
+    pub(crate) fn came(&self) -> bool {
+        let least = match self.waiting {
+            Waiting::Nobody => 0,
+            Waiting::Each(shards) => shards,
+            Waiting::First(_) => 1,
+        };
+        self.missed.load(Ordering::SeqCst) == 0 && self.seen.load(Ordering::SeqCst) >= least
     }
 
     // looks for a number that is at least this great
@@ -51,6 +58,7 @@ impl WaitingGate {
             }
             thread::yield_now();
         }
+        self.missed.fetch_add(1, Ordering::SeqCst);
     }
 }
 

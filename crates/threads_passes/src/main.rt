@@ -13,6 +13,7 @@ use gates::{Waiting, WaitingGate};
 use orders::named_order;
 use passes::{halt_in_order, model_of, options_of, orders_that_end};
 use searches::{Texts, search};
+use std::alloc::Global;
 use std::sync::Wait;
 use std::thread::Threads;
 use std::{fs, io};
@@ -25,7 +26,7 @@ fn number_in(text: &str) -> (u32, &str) {
     }
 }
 
-/// Runs the solver behind a gate, and prints its last line and how often what was waited for came.
+/// Runs the solver behind a gate, and prints whether what was waited for came, and the verdict.
 fn print_search<R: Threads + Wait + Sync + Print + Alloc<A = Global>>(
     rt: &R,
     texts: &Texts,
@@ -33,9 +34,12 @@ fn print_search<R: Threads + Wait + Sync + Print + Alloc<A = Global>>(
     waiting: Waiting,
 ) -> io::Result<()> {
     let gate = WaitingGate::new(waiting);
-    let last = search(rt, rt.alloc(), texts, words, &gate)?;
-    let seen = gate.seen();
-    println!(rt; "-- {words}\nseen {seen}\n{last}")
+    let verdict = search(rt, rt.alloc(), texts, words, &gate)?;
+    if waiting == Waiting::Nobody {
+        return println!(rt; "-- {words}\n{verdict}");
+    }
+    let came = if gate.came() { "came" } else { "did not come" };
+    println!(rt; "-- {words}\n{came}\n{verdict}")
 }
 
 /// Prints how many of 200 orders end with a cost.

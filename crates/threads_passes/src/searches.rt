@@ -32,12 +32,17 @@ fn shelf_of(alloc: Global, texts: &Texts) -> Result<MemShelf, AllocError> {
     Ok(shelf)
 }
 
-/// The last line of a text, without its end.
-fn last_line(text: &str) -> &str {
+/// The line of a text that tells a verdict, without its end; else the last line.
+fn verdict_in(text: &str) -> &str {
+    for line in text.lines() {
+        if line.starts_with("verdict ") {
+            return line;
+        }
+    }
     text.lines().last().unwrap_or("")
 }
 
-/// Runs the solver on these words, behind a gate. Answers the last line that it prints.
+/// Runs the solver on these words, behind a gate. Answers the line that tells its verdict.
 pub(crate) fn search<R: Threads + Wait + Sync>(
     rt: &R,
     alloc: Global,
@@ -50,7 +55,7 @@ pub(crate) fn search<R: Threads + Wait + Sync>(
     let mut sink = MemSink::new(alloc);
     run(rt, alloc, &words, &mut shelf, &mut sink, gate);
     match str::from_utf8(sink.bytes().unwrap_or(b"nothing told\n")) {
-        Ok(text) => String::from_str(alloc, last_line(text)),
+        Ok(text) => String::from_str(alloc, verdict_in(text)),
         Err(_) => String::from_str(alloc, "no text"),
     }
 }
