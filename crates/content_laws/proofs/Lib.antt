@@ -11,3 +11,4 @@ pub mod Filling
 pub mod Tabling
 pub mod Celling
 pub mod Working
+pub mod Wording

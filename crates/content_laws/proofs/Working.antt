@@ -54,7 +54,7 @@ module _ (at : Place) (s : Settings) where
   abbrev on_objects : List ObjectType → Reads Declared
   on_objects objects = variables_of objects s.domain.needed >>= on_variables objects
 
-  declared_made : (d : Declared) → objects_of at (in_domain s (codes "objects")) (in_problem s (codes "object_numbers")) ≡ Ok d.objects → variables_of d.objects s.domain.needed ≡ Ok d.variables
+  pub declared_made : (d : Declared) → objects_of at (in_domain s (codes "objects")) (in_problem s (codes "object_numbers")) ≡ Ok d.objects → variables_of d.objects s.domain.needed ≡ Ok d.variables
       → tables_of d.objects d.variables (in_domain s (codes "tables")) (in_problem s (codes "table_values")) ≡ Ok d.tables → declared_of at s ≡ Ok d
   unfolding declared_of
   declared_made d objects variables tables =
@@ -80,7 +80,7 @@ module _ (read : Reading) (at : Place) (s : Settings) (d : Declared) where
   abbrev on_moves : List Move → Reads Rules
   on_moves moves = join_of moves >>= on_join moves
 
-  rules_made : (r : Rules) (b : BaseCase) (bs : List BaseCase) → moves_of read d (in_domain s (codes "transitions")) (in_problem s (codes "transitions")) ≡ Ok r.moves → join_of r.moves ≡ Ok r.join
+  pub rules_made : (r : Rules) (b : BaseCase) (bs : List BaseCase) → moves_of read d (in_domain s (codes "transitions")) (in_problem s (codes "transitions")) ≡ Ok r.moves → join_of r.moves ≡ Ok r.join
       → constraints_of read d (in_domain s (codes "constraints")) (in_problem s (codes "constraints")) ≡ Ok r.constraints
       → base_cases_of read d (in_domain s (codes "base_cases")) (in_problem s (codes "base_cases")) ≡ Ok (b ∷ bs)
       → bounds_of read d (in_domain s (codes "dual_bounds")) (in_problem s (codes "dual_bounds")) ≡ Ok r.bounds
@@ -99,13 +99,13 @@ ascii (b ∷ bytes) e =
     let parts = and_parts (nat_lt b 128) (list_all (λ b. nat_lt b 128) bytes) e in
     IsAscii-cons b bytes ((Decides-ltb b 128).0 parts.0) (ascii bytes parts.1)
 
-ascii_text : (bytes : List ℕ) → list_all (λ b. nat_lt b 128) bytes ≡ true → chars bytes ≡ bytes
+pub ascii_text : (bytes : List ℕ) → list_all (λ b. nat_lt b 128) bytes ≡ true → chars bytes ≡ bytes
 ascii_text bytes e = chars-IsAscii bytes (ascii bytes e)
 
 stone : chars (codes "stone") ≡ codes "stone"
 stone = ascii_text (codes "stone") refl
 
-x : chars (codes "x") ≡ codes "x"
+pub x : chars (codes "x") ≡ codes "x"
 x = ascii_text (codes "x") refl
 
 weight : chars (codes "weight") ≡ codes "weight"
@@ -141,7 +141,7 @@ module _ (at : Place) where
   unfolding begins_number operator_named is_cost is_left_out
   variables = simp (trees.outs-Scalar, trees.outs-List, trees.outs-Map, x) refl
 
-  target : target_of quarry.objects quarry.variables (quarry_target at) ≡ Ok quarry.target
+  pub target : target_of quarry.objects quarry.variables (quarry_target at) ≡ Ok quarry.target
   target = simp (trees.outs-Scalar, trees.outs-Map) refl
 
   heads : heads_of quarry.objects quarry.variables (Some (quarry_tables at)) ≡ Ok (quarry_head ∷ [])

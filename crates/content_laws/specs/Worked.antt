@@ -1,16 +1,18 @@
 -- Texts written out, as trees, and the models that they mean.
-use Rattle.std.specs.Prelude.{◌≡◌, ℕ, false, List, [], ◌∷◌, codes, Ok, pos}
+use Rattle.std.specs.Prelude.{◌≡◌, ℕ, true, false, List, [], ◌∷◌, codes, Ok, pos}
 use Rattle.dp_base.specs.declared.place.Place.{Place}
 use Rattle.dp_model.specs.declared.parts.JoinOp.TheVariants.{Plus}
 use Rattle.dp_model.specs.declared.parts.VarKind.TheVariants as kinds
 use Rattle.dp_model.specs.declared.parts.Preference.TheVariants.{Without}
 use Rattle.dp_model.specs.declared.parts.PlainValue.TheVariants as values
 use Rattle.dp_model.specs.declared.parts.Cells.TheVariants as cells
+use Rattle.dp_model.specs.declared.trees.Compare.TheVariants.{Same}
 use Rattle.dp_model.specs.declared.trees.Num.TheVariants as nums
+use Rattle.dp_model.specs.declared.trees.Cond.TheVariants as conds
 use Rattle.yaml_tree.specs.declared.tree.Tree.{Tree}
 use Rattle.yaml_tree.specs.declared.tree.Tree.TheVariants as trees
 use Rattle.yaml_tree.specs.declared.tree.Pair.{Pair}
-use Rattle.dypdl_rules.specs.Expressions.{Reading}
+use Rattle.dypdl_rules.specs.Expressions.{Reading, IsReading}
 use Rattle.dypdl_load.specs.Meaning.{Parts, meaning}
 
 -- nodes that stand anywhere
@@ -101,3 +103,49 @@ quarry = record {
 -- These two texts mean this model. There is no premise, so no meaning that refuses every text stands.
 abbrev pub LawQuarry : Type 0
 LawQuarry = (read : Reading) (at : Place) → meaning read (quarry_domain at) (quarry_problem at) ≡ Ok quarry
+
+-- ---- a condition
+
+-- state_variables:
+--   - {name: x, type: integer}
+-- base_cases:
+--   - [(= x 3)]
+abbrev pub ladder_condition : List ℕ
+ladder_condition = codes "(= x 3)"
+
+abbrev pub ladder_base_cases : Place → Tree
+ladder_base_cases at = trees.List at (trees.List at (word at ladder_condition ∷ []) ∷ [])
+
+abbrev pub ladder_domain_entries : Place → List Pair
+ladder_domain_entries at = entry at (codes "state_variables") (quarry_variables at) ∷ entry at (codes "base_cases") (ladder_base_cases at) ∷ []
+
+abbrev pub ladder_domain : Place → Tree
+ladder_domain at = trees.Map at (ladder_domain_entries at)
+
+-- target: {x: 4}
+abbrev pub ladder_problem_entries : Place → List Pair
+ladder_problem_entries at = entry at (codes "target") (quarry_target at) ∷ []
+
+abbrev pub ladder_problem : Place → Tree
+ladder_problem at = trees.Map at (ladder_problem_entries at)
+
+abbrev pub ladder : Parts
+ladder = record {
+  domain = codes "-";
+  problem = codes "-";
+  minimize = true;
+  join = Plus;
+  objects = [];
+  variables = record { name = codes "x"; kind = kinds.Integer; preference = Without } ∷ [];
+  tables = [];
+  transitions = [];
+  grounds = [];
+  constraints = [];
+  base_cases = record { conditions = conds.Numbers Same (nums.Var 0) (nums.Fixed (pos 3)) ∷ []; cost = nums.Fixed (pos 0) } ∷ [];
+  bounds = [];
+  target = record { values = values.Number (pos 4) ∷ [] };
+}
+
+-- These two texts mean this model, by each reading of expressions, of which there is exactly one.
+abbrev pub LawLadder : Type 0
+LawLadder = (read : Reading) (at : Place) → IsReading read → meaning read (ladder_domain at) (ladder_problem at) ≡ Ok ladder
