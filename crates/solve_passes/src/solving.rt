@@ -21,6 +21,7 @@ use pass_ends::PassEnd;
 use pass_run::{run_pass, start_at};
 use std::alloc::Global;
 use std::sync::Wait;
+use std::thread::Threads;
 use successors::{ExpandEnd, Start};
 use width_loop::{PassSummary, Schedule, Turn};
 
@@ -132,7 +133,7 @@ fn after_pass<S: Sink>(
 }
 
 /// Makes a pass. Answers the status if the run is over.
-fn make_pass<R: Wait, S: Sink, G: Gate>(
+fn make_pass<R: Threads + Wait + Sync, S: Sink, G: Gate>(
     rt: &R,
     alloc: Global,
     out: &mut S,
@@ -160,7 +161,7 @@ fn make_pass<R: Wait, S: Sink, G: Gate>(
 }
 
 /// Makes passes until one of them ends the run. Answers the status.
-fn make_passes<R: Wait, S: Sink, G: Gate>(
+fn make_passes<R: Threads + Wait + Sync, S: Sink, G: Gate>(
     rt: &R,
     alloc: Global,
     out: &mut S,
@@ -203,7 +204,7 @@ fn make_passes<R: Wait, S: Sink, G: Gate>(
 }
 
 /// Searches a model whose target is an inner state. Answers the status.
-fn search<R: Wait, S: Sink, G: Gate>(
+fn search<R: Threads + Wait + Sync, S: Sink, G: Gate>(
     rt: &R,
     alloc: Global,
     out: &mut S,
@@ -262,7 +263,7 @@ fn fault_at_target(alloc: Global, spot: Spot, kind: FaultKind) -> Verdict
 }
 
 /// Solves a model: prints the record of the run, or of it the verdict alone, and answers the status.
-pub fn solve<R: Wait, S: Sink, G: Gate>(
+pub fn solve<R: Threads + Wait + Sync, S: Sink, G: Gate>(
     rt: &R,
     alloc: Global,
     out: &mut S,

@@ -82,7 +82,7 @@ fn put_usage<S: Sink>(out: &mut S) -> Status
 }
 
 /// Solves the model in two files.
-fn solve_files<R: Wait, F: Shelf, S: Sink, G: Gate>(
+fn solve_files<R: Threads + Wait + Sync, F: Shelf, S: Sink, G: Gate>(
     rt: &R,
     alloc: Global,
     shelf: &mut F,
@@ -190,7 +190,7 @@ fn put_ground<S: Sink>(out: &mut S, model: &Model) -> Result<(), Failed>
 }
 
 /// Searches a generated model, and prints its number of ground transitions and the verdict.
-fn solve_generated<R: Wait, S: Sink, G: Gate>(
+fn solve_generated<R: Threads + Wait + Sync, S: Sink, G: Gate>(
     rt: &R,
     alloc: Global,
     out: &mut S,
@@ -224,7 +224,7 @@ fn solve_generated<R: Wait, S: Sink, G: Gate>(
 }
 
 /// Generates a model and searches it.
-fn generate_and_solve<R: Wait, S: Sink, G: Gate>(
+fn generate_and_solve<R: Threads + Wait + Sync, S: Sink, G: Gate>(
     rt: &R,
     alloc: Global,
     out: &mut S,
@@ -251,7 +251,7 @@ fn generate_and_solve<R: Wait, S: Sink, G: Gate>(
 }
 
 /// Does a job.
-fn perform_job<R: Wait, F: Shelf, S: Sink, G: Gate>(
+fn perform_job<R: Threads + Wait + Sync, F: Shelf, S: Sink, G: Gate>(
     rt: &R,
     alloc: Global,
     shelf: &mut F,
@@ -299,7 +299,7 @@ fn put_no_job<S: Sink>(out: &mut S, end: WordsEnd) -> Status
 }
 
 /// Does what the words ask for.
-fn perform<R: Wait, F: Shelf, S: Sink, G: Gate>(
+fn perform<R: Threads + Wait + Sync, F: Shelf, S: Sink, G: Gate>(
     rt: &R,
     alloc: Global,
     words: &Vec<String>,
