@@ -13,6 +13,7 @@ use crate::crew::{Crew, make_crew};
 use crate::ending::{gather, tell, visits_so_far};
 use crate::rounds::turn_all;
 use crate::seats::split_seats;
+use crate::signals::Signals;
 use board_words::{Board, BoardSeat};
 use cost_laws::CostLaw;
 use dom_store::{Covers, Dominating, Exact};
@@ -67,6 +68,7 @@ fn run_shards_in_order<L: CostLaw, K: Covers, R: Wait, G: Gate>(
         board,
         &boxes,
         gate,
+        &Signals::new(),
         &mut turners,
         &mut seats,
         order.list().as_slice(),

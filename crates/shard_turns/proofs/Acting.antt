@@ -312,7 +312,7 @@ module _ {A B : Type 0} where
             (kept_mail p t.posters.items to q at t.taker.taken a.shard_record x a.mail within is.rest q' same) seat seat' causes.Memory end h seat.view refl
             (sat_memory p t.shard.me t.budget seat.view r (subst (λ (i : ℕ). Own p i r) same_number is.stands.ends.1.own) (sits_same p t.budget seat.view a.shard_record r refl refl refl a.sits))
 
-  -- ---- the count of turns, and why it has ended, change nothing of the rest
+  -- ---- the counts of turns and of letters, and why it has ended, change nothing of the rest
 
   pub turned : (p : Pass) (board : BoardFacts) (boxes : List MailboxFacts) (t : Turner A B) (seat : SeatFacts) → Acts p board boxes t seat → (turns : ℕ) → Acts p board boxes (record t { turns = turns }) seat
   turned p board boxes t seat a turns =
@@ -320,4 +320,12 @@ module _ {A B : Type 0} where
 
   pub left_turned : (p : Pass) (board : BoardFacts) (boxes : List MailboxFacts) (t : Turner A B) (seat : SeatFacts) (end : Ended) → Leaves p board boxes end t seat → (ended : Option Ended) → Leaves p board boxes end (record t { ended = ended }) seat
   left_turned p board boxes t seat end left ended =
+      record { shard_record = left.shard_record; below = left.below; ends = left.ends; on_board = left.on_board; sat = left.sat; taker = left.taker; posters = left.posters; mail = left.mail }
+
+  pub counted : (p : Pass) (board : BoardFacts) (boxes : List MailboxFacts) (t : Turner A B) (seat : SeatFacts) → Acts p board boxes t seat → (letters : ℕ) → Acts p board boxes (record t { letters = letters }) seat
+  counted p board boxes t seat a letters =
+      record { shard_record = a.shard_record; shared = a.shared; stands = a.stands; on_board = a.on_board; sits = a.sits; taker = a.taker; posters = a.posters; mail = a.mail }
+
+  pub left_counted : (p : Pass) (board : BoardFacts) (boxes : List MailboxFacts) (t : Turner A B) (seat : SeatFacts) (end : Ended) → Leaves p board boxes end t seat → (letters : ℕ) → Leaves p board boxes end (record t { letters = letters }) seat
+  left_counted p board boxes t seat end left letters =
       record { shard_record = left.shard_record; below = left.below; ends = left.ends; on_board = left.on_board; sat = left.sat; taker = left.taker; posters = left.posters; mail = left.mail }

@@ -38,6 +38,8 @@ pub struct Turner<'m, L: CostLaw, K: Covers> {
     pub budget: u64,
     /// How many turns it took. The count stands still at its greatest number.
     pub turns: u64,
+    /// How many letters it took. The count stands still at its greatest number.
+    pub letters: u64,
     pub ended: Option<Ended>,
 }
 
@@ -129,6 +131,7 @@ impl<'m, L: CostLaw, K: Covers> Turner<'m, L, K> {
         let Some(envelope) = boxes[self.shard.me as usize].take(rt, &mut self.taker) else {
             return Ok(());
         };
+        self.letters = self.letters.saturating_add(1);
         match self.shard.accept(envelope.letter) {
             Ok(()) => Ok(()),
             Err(_) => Err(halt(board, seat, HaltCause::Memory)),

@@ -1,4 +1,4 @@
-use Rattle.shard_turns.proofs.Acting.{on_acts, on_none, on_leaves, on_goes, own_box, may_take, takes, takes_in_vain}
+use Rattle.shard_turns.proofs.Acting.{on_acts, on_none, on_leaves, on_goes, own_box, may_take, takes, takes_in_vain, counted, left_counted}
 use Rattle.shard_turns.specs.declared.turner.Turner.{Turner}
 use Rattle.shard_turns.proofs.turner.Turner.take.Goals as goal
 use Rattle.shard_turns.proofs.turner.Turner.take.Goals.{in-Ok, in-Err}
@@ -13,25 +13,29 @@ accept-requires g c =
 pub returns-clause-acts : goal.returns-clause-acts
 returns-clause-acts g c = λ p suited a.
     let s = c.args.self.now in
-    let t : Turner g.row.L.Denot g.row.K.Denot = record s { shard = c.accept.new.self; taker = c.take.new.taker } in
+    let n = c.saturating_add-self.result in
+    let u : Turner g.row.L.Denot g.row.K.Denot = record s { shard = c.accept.new.self; taker = c.take.new.taker } in
+    let t : Turner g.row.L.Denot g.row.K.Denot = record u { letters = n } in
     elim c.match-accept.branch [
       | in-Ok w ↦ on_acts p c.args.board.now c.args.boxes.now.items t c.match-accept.seat c.args.seat.now w.seat-is c.match-accept.result tt w.result-is
           (let me = c.accept.ensures.me in
           let at = own_box p c.args.board.now c.args.boxes.now.items s c.args.seat.now a c.index.result.now c.index.ensures in
           let can = may_take p c.args.board.now c.args.boxes.now.items s c.args.seat.now a c.index.result.now at c.in-Some.envelope c.in-Some.ensures.next in
-          takes p c.args.board.now c.args.boxes.now.items s c.args.seat.now a c.index.result.now at c.in-Some.envelope c.in-Some.ensures.next c.take.new.taker c.in-Some.ensures.some c.accept.new.self me (w.in-Ok.ensures.taken p a.shard_record suited a.stands can))
+          counted p c.args.board.now c.args.boxes.now.items u c.args.seat.now (takes p c.args.board.now c.args.boxes.now.items s c.args.seat.now a c.index.result.now at c.in-Some.envelope c.in-Some.ensures.next c.take.new.taker c.in-Some.ensures.some c.accept.new.self me (w.in-Ok.ensures.taken p a.shard_record suited a.stands can)) n)
       | in-Err w ↦ on_none p c.args.board.now c.args.boxes.now.items t c.match-accept.seat w.halt.new.seat w.seat-is c.match-accept.result w.halt.result w.result-is
     ]
 
 pub returns-clause-ends : goal.returns-clause-ends
 returns-clause-ends g c = λ p _ a.
     let s = c.args.self.now in
-    let t : Turner g.row.L.Denot g.row.K.Denot = record s { shard = c.accept.new.self; taker = c.take.new.taker } in
+    let n = c.saturating_add-self.result in
+    let u : Turner g.row.L.Denot g.row.K.Denot = record s { shard = c.accept.new.self; taker = c.take.new.taker } in
+    let t : Turner g.row.L.Denot g.row.K.Denot = record u { letters = n } in
     elim c.match-accept.branch [
       | in-Ok w ↦ on_goes p c.args.board.now c.args.boxes.now.items t c.match-accept.seat c.args.seat.now w.seat-is c.match-accept.result tt w.result-is
       | in-Err w ↦ on_leaves p c.args.board.now c.args.boxes.now.items t c.match-accept.seat w.halt.new.seat w.seat-is c.match-accept.result w.halt.result w.result-is
           (let me = c.accept.ensures.me in
           let at = own_box p c.args.board.now c.args.boxes.now.items s c.args.seat.now a c.index.result.now c.index.ensures in
-          takes_in_vain p c.args.board.now c.args.boxes.now.items s c.args.seat.now a c.index.result.now at c.in-Some.envelope c.in-Some.ensures.next c.take.new.taker c.in-Some.ensures.some c.accept.new.self me (w.in-Err.ensures.same p a.shard_record a.stands).ends
-          w.halt.new.seat w.halt.result (record { ended = w.halt.ensures.ended; on_board = w.halt.ensures.seat; view = w.halt.ensures.view }))
+          left_counted p c.args.board.now c.args.boxes.now.items u w.halt.new.seat w.halt.result (takes_in_vain p c.args.board.now c.args.boxes.now.items s c.args.seat.now a c.index.result.now at c.in-Some.envelope c.in-Some.ensures.next c.take.new.taker c.in-Some.ensures.some c.accept.new.self me (w.in-Err.ensures.same p a.shard_record a.stands).ends
+          w.halt.new.seat w.halt.result (record { ended = w.halt.ensures.ended; on_board = w.halt.ensures.seat; view = w.halt.ensures.view })) n)
     ]
