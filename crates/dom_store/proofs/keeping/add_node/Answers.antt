@@ -7,11 +7,11 @@ use Rattle.dom_store.specs.Places.{nodes_of, StandsAt}
 use Rattle.dom_store.proofs.Adding.{kept_same, kept_with, nodes_few}
 use Rattle.dom_store.proofs.keeping.add_node.Goals as goal
 
-pub covers_held-requires-clause-filed : goal.covers_held-requires-clause-filed
-covers_held-requires-clause-filed g c = rw c.deref.ensures.value c.requires.kept.filed
+pub covers_by_steps-requires-clause-filed : goal.covers_by_steps-requires-clause-filed
+covers_by_steps-requires-clause-filed g c = rw c.deref.ensures.value c.requires.kept.filed
 
-pub covers_held-requires-clause-glanced : goal.covers_held-requires-clause-glanced
-covers_held-requires-clause-glanced g c = rw (c.deref.ensures.value, c.deref-2.ensures.value) c.requires.kept.glanced
+pub covers_by_steps-requires-clause-glanced : goal.covers_by_steps-requires-clause-glanced
+covers_by_steps-requires-clause-glanced g c = rw (c.deref.ensures.value, c.deref-2.ensures.value) c.requires.kept.glanced
 
 pub keep_node-requires-clause-covering : goal.keep_node-requires-clause-covering
 keep_node-requires-clause-covering g c = λ none p n stands. c.in-Some.ensures.covering none p n (subst (λ (ps : List (Option Node)). StandsAt ps p n) (sym c.deref.ensures.value) stands)
