@@ -1,12 +1,17 @@
 -- Steps of a staircase: what one more or one less leaves as it was, and what they say of the nodes of their row.
-use Rattle.std.proofs.Common.{◌≡◌, ℕ, zero, suc, ◌<◌, ◌≤◌, ◌⊎◌, inl, inr, Bool, true, false, ◌&&◌, List, [], ◌∷◌, map, fold, set, Option, Some, None, refl, sym, ap, ◌∙◌, subst, arith}
-use Rattle.std.specs.Prelude.{ℤ, pos, nat_eq, nat_le, int_le, int_lt}
+use Rattle.std.proofs.Common.{◌≡◌, ℕ, zero, suc, ◌<◌, ◌≤◌, ◌⊎◌, inl, inr, Bool, true, false, ◌&&◌, List, [], ◌∷◌, ◌++◌, length, get_or, map, set, Option, Some, None, Result, Ok, Err, refl, sym, ap, ◌∙◌, subst, arith}
+use Rattle.std.specs.Prelude.{pos, nat_eq, nat_le, int_le, int_lt, is_ok, OnOk, OnErr}
 use Rattle.std.specs.BTreeMap.{BTreeMap, get, is_at, Updates}
 use Rattle.std.specs.List.{slice_get, list_any}
-use Rattle.std.specs.Ordering.{nat_cmp, is_eq}
+use Rattle.std.specs.BTreeMap.Range.{IsLeBy, IsEntryInRange, IsRangeOf}
+use Rattle.std.specs.Map.{lookup}
+use Rattle.std.specs.Option.{IsSome, IfSome}
+use Rattle.std.specs.declared.ops.Bound.TheVariants.{Included, Unbounded}
+use Rattle.std.specs.Ordering.{nat_cmp, is_gt, is_lt}
 use Rattle.std.specs.declared.cmp.Ordering.{Ordering}
 use Rattle.std.specs.declared.cmp.Ordering.TheVariants as orders
 use Rattle.std.proofs.lemmas.Int.{ints}
+use Rattle.std.proofs.lemmas.Option.{slice_get-get_or, slice_get_within}
 use Rattle.std.proofs.lemmas.Map.Lookups.{exact_unsigned}
 use Rattle.dp_claims.specs.Enough.{Has}
 use Rattle.dp_model.specs.declared.parts.JoinOp.{JoinOp}
@@ -67,6 +72,22 @@ module _ (steps new : BTreeMap ℕ Step) (g : Glance) (place : ℕ) (rises : IsR
       by (inr a) (inl b) = subst (λ m. int_lt s.merit m ≡ true) b.1 (above v s a (omega (arith, b.0, less)))
       by (inr a) (inr b) = rises v w s t less a b
 
+-- the same where memory may have run out
+module _ {A B : Type 0} (steps new : BTreeMap ℕ Step) (g : Glance) (place : ℕ) (rises : IsRising steps) (above : NoneCovers steps g) (below : NoneCovered steps g) where
+  pub insert_has : (r : Result A B) → OnOk r (Updates nat_cmp steps new g.word (Some (record { merit = g.merit; place = place }))) → is_ok r ≡ true → HasStep steps new g place
+  insert_has (Ok x) put ok = put_has steps new g place rises above below put
+  insert_has (Err x) put ok = absurd (cc)
+
+  pub insert_rises : (r : Result A B) → OnOk r (Updates nat_cmp steps new g.word (Some (record { merit = g.merit; place = place }))) → OnErr r (new.entries ≡ steps.entries) → IsRising new
+  insert_rises (Ok x) put same = put_rises steps new g place rises above below put
+  insert_rises (Err x) put same = λ v w s t less at_v at_w. rises v w s t less (was v s at_v) (was w t at_w)
+    where
+      was : (v : ℕ) (s : Step) → get nat_cmp new v ≡ Some s → get nat_cmp steps v ≡ Some s
+      was v s at = ap (λ (es : List (ℕ × Step)). lookup (is_at (nat_cmp v)) es) (sym same) ∙ at
+
+pub empty_rises : (steps : BTreeMap ℕ Step) → steps.entries ≡ [] → IsRising steps
+empty_rises steps none v w s t less at_v at_w = absurd (let clash : None ≡ Some s = sym (ap (λ (es : List (ℕ × Step)). lookup (is_at (nat_cmp v)) es) none) ∙ at_v in cc)
+
 module _ (steps new : BTreeMap ℕ Step) (word : ℕ) (left : Updates nat_cmp steps new word None) where
   pub left_has : (w : ℕ) (s : Step) → get nat_cmp steps w ≡ Some s → (word ≡ w → ⊥) → get nat_cmp new w ≡ Some s
   left_has w s at apart = left.2 w (not_at word w apart) ∙ at
@@ -79,6 +100,69 @@ module _ (steps new : BTreeMap ℕ Step) (word : ℕ) (left : Updates nat_cmp st
 
   pub left_rises : IsRising steps → IsRising new
   left_rises rises v w s t less at_v at_w = rises v w s t less (left_was v s at_v) (left_was w t at_w)
+
+-- ---- the step next to a word tells of all on its side
+
+some_is : (o : Option Step) (s : Step) → o ≡ Some s → IsSome o
+some_is o s e = rw e refl
+
+pub last_tells : (steps : BTreeMap ℕ Step) (g : Glance) (word : ℕ) (step : Step) → IsRising steps → get nat_cmp steps word ≡ Some step → ((q : ℕ) → q ≤ g.word → IsSome (get nat_cmp steps q) → q ≤ word) → int_lt step.merit g.merit ≡ true → NoneCovers steps g
+last_tells steps g word step rises at most less w s at_w low = by (nat_eq w word) refl
+  where
+    by : (b : Bool) → nat_eq w word ≡ b → int_lt s.merit g.merit ≡ true
+    by true e =
+        let same : w ≡ word = grind arith in
+        let is : Some step ≡ Some s = sym at ∙ ap (get nat_cmp steps) (sym same) ∙ at_w in
+        let is_step : step ≡ s = cc in
+        subst (λ (t : Step). int_lt t.merit g.merit ≡ true) is_step less
+    by false e =
+        let apart : w ≡ word → ⊥ = λ same. grind arith in
+        let up : w ≤ word = most w low (some_is (get nat_cmp steps w) s at_w) in
+        let under : w < word = omega (arith, up, apart) in
+        let rise : int_lt s.merit step.merit ≡ true = rises w word s step under at_w at in
+        grind (arith, ints)
+
+pub first_tells : (steps : BTreeMap ℕ Step) (g : Glance) (word : ℕ) (step : Step) → IsRising steps → get nat_cmp steps word ≡ Some step → ((q : ℕ) → g.word ≤ q → IsSome (get nat_cmp steps q) → word ≤ q) → int_lt g.merit step.merit ≡ true → NoneCovered steps g
+first_tells steps g word step rises at least more w s at_w high = by (nat_eq w word) refl
+  where
+    by : (b : Bool) → nat_eq w word ≡ b → int_lt g.merit s.merit ≡ true
+    by true e =
+        let same : w ≡ word = grind arith in
+        let is : Some step ≡ Some s = sym at ∙ ap (get nat_cmp steps) (sym same) ∙ at_w in
+        let is_step : step ≡ s = cc in
+        subst (λ (t : Step). int_lt g.merit t.merit ≡ true) is_step more
+    by false e =
+        let apart : w ≡ word → ⊥ = λ same. grind arith in
+        let down : word ≤ w = least w high (some_is (get nat_cmp steps w) s at_w) in
+        let over : word < w = omega (arith, down, apart) in
+        let rise : int_lt step.merit s.merit ≡ true = rises word w step s over at at_w in
+        grind (arith, ints)
+
+le_by : (a b : ℕ) → a ≤ b → is_gt (nat_cmp a b) ≡ false
+le_by a b h = grind arith
+
+by_le : (a b : ℕ) → is_gt (nat_cmp a b) ≡ false → a ≤ b
+by_le a b h = grind arith
+
+by_lt : (a b : ℕ) → is_lt (nat_cmp a b) ≡ false → b ≤ a
+by_lt a b h = grind arith
+
+module _ (steps : BTreeMap ℕ Step) (g : Glance) where
+  pub none_below : (r : List (ℕ × Step)) → IsRangeOf nat_cmp Unbounded (Included g.word) steps r → r ≡ [] → NoneCovers steps g
+  none_below r h none w s at low = absurd (let clash : None ≡ Some s = sym (h.5 none w (tt, le_by w g.word low)) ∙ at in cc)
+
+  pub last_below : IsRising steps → (r t : List (ℕ × Step)) (e : ℕ × Step) → IsRangeOf nat_cmp Unbounded (Included g.word) steps r → r ≡ t ++ e ∷ [] → int_lt e.1.merit g.merit ≡ true → NoneCovers steps g
+  last_below rises r t e h is less = last_tells steps g e.0 e.1 rises (h.3 e t is).1 (λ q low some. by_lt e.0 q (h.4 e t is q (tt, le_by q g.word low) some)) less
+
+  pub none_above : (r : List (ℕ × Step)) → IsRangeOf nat_cmp (Included g.word) Unbounded steps r → r ≡ [] → NoneCovered steps g
+  none_above r h none w s at high = absurd (let clash : None ≡ Some s = sym (h.5 none w (le_by g.word w high, tt)) ∙ at in cc)
+
+  pub first_has : (r t : List (ℕ × Step)) (e : ℕ × Step) → IsRangeOf nat_cmp (Included g.word) Unbounded steps r → r ≡ e ∷ t → get nat_cmp steps e.0 ≡ Some e.1
+  first_has r t e h is = (subst (λ (xs : List (ℕ × Step)). IfSome (slice_get xs 0) (IsEntryInRange nat_cmp (Included g.word) Unbounded steps)) is h.1).1
+
+  pub first_above : IsRising steps → (r t : List (ℕ × Step)) (e : ℕ × Step) → IsRangeOf nat_cmp (Included g.word) Unbounded steps r → r ≡ e ∷ t → int_lt g.merit e.1.merit ≡ true → NoneCovered steps g
+  first_above rises r t e h is more = first_tells steps g e.0 e.1 rises (first_has r t e h is)
+      (λ q high some. by_le e.0 q (subst (λ (xs : List (ℕ × Step)). IfSome (slice_get xs 0) (λ d. IsLeBy nat_cmp d.0 q)) is (h.2 q (le_by g.word q high, tt) some))) more
 
 -- ---- where no step may cover, no node does, and where none may be covered, none is
 
@@ -146,6 +230,13 @@ same_map test (x ∷ xs) (suc p) = ap (λ (os : List (Option Node)). without tes
 
 pub cleared_same : (test : Node → Bool) (places new : List (Option Node)) (p : ℕ) → new ≡ cleared test places p → map (without test) new ≡ map (without test) places
 cleared_same test places new p is = ap (map (without test)) is ∙ same_map test places p
+
+-- no node stands at a place that was read without one
+pub empty_there : (places : List (Option Node)) (p : ℕ) (x : Option Node) (n : Node) → p < length places → x ≡ get_or places p x → x ≡ None → StandsAt places p n → ⊥
+empty_there places p x n h e f stands = let clash : Some None ≡ Some (Some n) = sym (slice_get-get_or places p x h ∙ ap Some (sym e ∙ f)) ∙ stands in absurd (cc)
+
+pub behind_all : (places : List (Option Node)) (p : ℕ) (n : Node) → StandsAt places p n → p < length places
+behind_all places p n stands = slice_get_within places p (Some n) stands
 
 -- ---- a step for each node
 

@@ -1,7 +1,8 @@
-use Rattle.std.proofs.Common.{List, Option, sym, ◌∙◌}
+use Rattle.std.proofs.Common.{List, Option, arith, sym, ◌∙◌}
 use Rattle.state_layout.specs.declared.node.Node.{Node}
 use Rattle.dom_store.specs.Chains.{older_at, chain_from}
 use Rattle.dom_store.specs.Covering.{covers}
+use Rattle.dom_store.proofs.Adding.{nodes_few}
 use Rattle.dom_store.proofs.Climbing.{none_left, fewer_steps}
 use Rattle.dom_store.proofs.Filing.{fold_stands}
 use Rattle.dom_store.proofs.Rows.{all_cleared}
@@ -30,3 +31,6 @@ pub returns-clause-steps : goal.returns-clause-steps
 returns-clause-steps g c =
     fewer_steps g.K.Covers.prune g.K.Covers.minimize g.K.Covers.operator c.args.layout.now c.clear_steps-gone.new.stairs.row c.clear_steps-gone.new.stairs.steps c.clear_steps-gone.new.places.items c.clear_covered.new.places.items c.clear_steps-gone.ensures.steps
     (λ p n stands. fold_stands (λ (held : Node). covers g.K.Covers.prune g.K.Covers.minimize g.K.Covers.operator c.args.layout.now c.args.node.now held) c.clear_steps-gone.new.places.items (chain_from c.args.chains.now.older.items (older_at c.args.chains.now.older.items c.args.place)) p n (rw c.clear_covered.ensures.places at stands))
+
+pub overflow_add-result : goal.overflow_add-result
+overflow_add-result g c = omega (arith, c.args.places.now.ok.0, c.args.places.now.ok.1, c.args.places.now.small, nodes_few c.args.places.now.items, c.clear_steps-gone.ensures.counted, c.clear_covered.ensures.counted)

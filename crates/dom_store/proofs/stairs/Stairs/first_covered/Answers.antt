@@ -1,0 +1,11 @@
+use Rattle.dom_store.proofs.Climbing.{none_above, first_has, first_above}
+use Rattle.dom_store.proofs.stairs.Stairs.first_covered.Goals as goal
+
+pub returns-in_default-clause-none : goal.returns-in_default-clause-none
+returns-in_default-clause-none c = none_above c.args.self.now.steps c.args.glance c.range.result (c.range.ensures.in_range tt) c.in_default.ensures.steps.0
+
+pub returns-then-glance-step-clause-none : goal.returns-then-glance-step-clause-none
+returns-then-glance-step-clause-none c = first_above c.args.self.now.steps c.args.glance c.args.self.now.rising _ _ _ (c.range.ensures.in_range tt) c.in-Some.ensures.steps c.if-glance-step.true
+
+pub returns-clause-some : goal.returns-clause-some
+returns-clause-some c = first_has c.args.self.now.steps c.args.glance _ _ _ (c.range.ensures.in_range tt) c.in-Some.ensures.steps
