@@ -1,6 +1,6 @@
 -- Steps of a staircase: what one more or one less leaves as it was, and what they say of the nodes of their row.
 use Rattle.std.proofs.Common.{◌≡◌, ℕ, zero, suc, ◌<◌, ◌≤◌, ◌⊎◌, inl, inr, Bool, true, false, ◌&&◌, List, [], ◌∷◌, ◌++◌, length, get_or, map, set, Option, Some, None, Result, Ok, Err, refl, sym, ap, ◌∙◌, subst, arith}
-use Rattle.std.specs.Prelude.{pos, nat_eq, nat_le, int_le, int_lt, is_ok, OnOk, OnErr}
+use Rattle.std.specs.Prelude.{ℤ, pos, nat_eq, nat_le, int_le, int_lt, is_ok, OnOk, OnErr}
 use Rattle.std.specs.BTreeMap.{BTreeMap, get, is_at, Updates}
 use Rattle.std.specs.List.{slice_get, list_any}
 use Rattle.std.specs.BTreeMap.Range.{IsLeBy, IsEntryInRange, IsRangeOf}
@@ -238,12 +238,19 @@ empty_there places p x n h e f stands = let clash : Some None ≡ Some (Some n) 
 pub behind_all : (places : List (Option Node)) (p : ℕ) (n : Node) → StandsAt places p n → p < length places
 behind_all places p n stands = slice_get_within places p (Some n) stands
 
+-- a glance that was read is that of its place
+pub glance_there : (glances : List Glance) (p : ℕ) (g : Glance) → p < length glances → g ≡ get_or glances p g → slice_get glances p ≡ Some g
+glance_there glances p g h e = slice_get-get_or glances p g h ∙ ap Some (sym e)
+
 -- ---- a step for each node
 
 same_glance : (minimize : Bool) (operator : JoinOp) (layout : Layout) (n : Node) (g h : Glance) → IsGlanceOf minimize operator layout n g → IsGlanceOf minimize operator layout n h → (g.word ≡ h.word) × (g.merit ≡ h.merit)
 same_glance minimize operator layout n g h a b =
     let words : pos g.word ≡ pos h.word = a.0 ∙ sym b.0 in
     (cc, a.1 ∙ sym b.1)
+
+same_step : (m n : ℤ) (p q : ℕ) → m ≡ n → p ≡ q → ◌≡◌ {A = Option Step} (Some (record { merit = m; place = p })) (Some (record { merit = n; place = q }))
+same_step m n p q a b = rw (a, b) refl
 
 module _ (prune minimize : Bool) (operator : JoinOp) (layout : Layout) where
   -- no row has steps
@@ -298,7 +305,7 @@ module _ (prune minimize : Bool) (operator : JoinOp) (layout : Layout) where
           let glance = all p n stands in
           let eq = same_glance minimize operator layout n g glance.0 of_node glance.2 in
           let step = (has n glance.0 (subst (λ q. StandsAt places q n) (sym e) stands) (ap (slice_get glances) e ∙ glance.1)).0 in
-          inr (rw (eq.0, eq.1, ← e) step)
+          inr (ap (get nat_cmp new) eq.0 ∙ step ∙ same_step glance.0.merit g.merit place p (sym eq.1) e)
       at p n g stands of_node (inr r) = inl r
 
       by : (p : ℕ) (n : Node) (g : Glance) → StandsAt places p n → IsGlanceOf minimize operator layout n g → Has (chain_from older o) p ⊎ (get nat_cmp steps g.word ≡ Some (record { merit = g.merit; place = p })) → Has (chain_from older next) p ⊎ (get nat_cmp new g.word ≡ Some (record { merit = g.merit; place = p }))

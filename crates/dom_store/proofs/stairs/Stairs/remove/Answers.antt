@@ -3,7 +3,7 @@ use Rattle.dom_store.proofs.Climbing.{left_has, left_rises}
 use Rattle.dom_store.proofs.stairs.Stairs.remove.Goals as goal
 
 pub invariant_of-self : goal.invariant_of-self
-invariant_of-self c = left_rises c.args.self.now.steps c.remove.new.self c.args.word c.remove.ensures.updates c.args.self.now.rising
+invariant_of-self c = record { rising = left_rises c.args.self.now.steps c.remove.new.self c.args.word c.remove.ensures.updates c.args.self.now.rising }
 
 pub returns-clause-others : goal.returns-clause-others
 returns-clause-others c = left_has c.args.self.now.steps c.remove.new.self c.args.word c.remove.ensures.updates
