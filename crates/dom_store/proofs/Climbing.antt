@@ -19,7 +19,6 @@ use Rattle.state_layout.specs.declared.layout.Layout.{Layout}
 use Rattle.state_layout.specs.declared.node.Node.{Node}
 use Rattle.dom_store.specs.Chains.{chain_from}
 use Rattle.dom_store.specs.Covering.{covers, key_of, KeepsKey}
-use Rattle.dom_store.specs.Contents.{is_covered}
 use Rattle.dom_store.specs.Glances.{IsGlanceOf, may_cover, ShowsAtGlance}
 use Rattle.dom_store.specs.Places.{nodes_of, without, cleared, StandsAt, AreGlanced}
 use Rattle.dom_store.specs.Stairs.{IsRising, NoneCovers, NoneCovered, HasStep, AreSteps}

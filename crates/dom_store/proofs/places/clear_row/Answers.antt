@@ -1,4 +1,4 @@
-use Rattle.std.proofs.Common.{List, Option, arith, sym, ◌∙◌}
+use Rattle.std.proofs.Common.{arith, sym, ◌∙◌}
 use Rattle.state_layout.specs.declared.node.Node.{Node}
 use Rattle.dom_store.specs.Chains.{older_at, chain_from}
 use Rattle.dom_store.specs.Covering.{covers}

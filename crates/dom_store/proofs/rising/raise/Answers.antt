@@ -1,7 +1,6 @@
-use Rattle.std.proofs.Common.{◌≡◌, List, ℕ, inl, sym, ap, subst, ◌∙◌}
+use Rattle.std.proofs.Common.{List, ℕ, inl, sym, ap, subst, ◌∙◌}
 use Rattle.dp_claims.specs.Enough.{Has}
-use Rattle.dom_store.specs.Covering.{key_of}
-use Rattle.dom_store.specs.Chains.{chain_from, row_in}
+use Rattle.dom_store.specs.Chains.{row_in}
 use Rattle.dom_store.proofs.Chaining.{left_less}
 use Rattle.dom_store.proofs.Climbing.{no_steps, left_next, all_steps}
 use Rattle.dom_store.proofs.rising.raise.Goals as goal
