@@ -48,7 +48,7 @@ put_nodes test places list node complete =
     let all = all_cleared test (places ++ None ∷ []) list (λ p n stands t. complete p n (none_stands places p n stands) t) in
     rw all (put_last test places node ∙ ap (λ (ns : List Node). ns ++ node ∷ []) (nodes_without test places))
 
-set_stands : (places : List (Option Node)) (at : ℕ) (node : Node) (p : ℕ) (n : Node) → StandsAt (set places at (Some node)) p n → ((p ≡ at) × (node ≡ n)) ⊎ StandsAt places p n
+pub set_stands : (places : List (Option Node)) (at : ℕ) (node : Node) (p : ℕ) (n : Node) → StandsAt (set places at (Some node)) p n → ((p ≡ at) × (node ≡ n)) ⊎ StandsAt places p n
 set_stands [] at node p n h = inr h
 set_stands (x ∷ places) zero node zero n h = inl (refl, cc)
 set_stands (x ∷ places) zero node (suc p) n h = inr h
@@ -71,7 +71,7 @@ cleared_stands test (x ∷ places) zero (suc p) n h = h
 cleared_stands test (x ∷ places) (suc q) zero n h = h
 cleared_stands test (x ∷ places) (suc q) (suc p) n h = cleared_stands test places q p n h
 
-fold_stands : (test : Node → Bool) (places : List (Option Node)) (row : List ℕ) (p : ℕ) (n : Node) → StandsAt (fold (cleared test) places row) p n → StandsAt places p n
+pub fold_stands : (test : Node → Bool) (places : List (Option Node)) (row : List ℕ) (p : ℕ) (n : Node) → StandsAt (fold (cleared test) places row) p n → StandsAt places p n
 fold_stands test places [] p n h = h
 fold_stands test places (q ∷ row) p n h = cleared_stands test places q p n (fold_stands test (cleared test places q) row p n h)
 

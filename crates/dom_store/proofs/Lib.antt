@@ -10,3 +10,4 @@ pub mod Sorting
 pub mod Sharing
 pub mod Sweeping
 pub mod Remembering
+pub mod Climbing

@@ -26,7 +26,7 @@ emptied_gone (x ∷ xs) (suc i) n h = emptied_gone xs i n h
 
 -- ---- clearing the places of a row clears every node that passes, where these are in the row
 
-twice : (test : Node → Bool) (o : Option Node) → without test (without test o) ≡ without test o
+pub twice : (test : Node → Bool) (o : Option Node) → without test (without test o) ≡ without test o
 twice test None = refl
 twice test (Some n) = by (test n) refl
   where
@@ -106,7 +106,7 @@ nodes_without test (Some n ∷ places) = by (test n) refl (nodes_without test pl
 
 -- ---- a row tells whether some node passes
 
-any_node : (test : Node → Bool) (places : List (Option Node)) (p : ℕ) → passes test (node_at places p) ≡ true → list_any test (nodes_of places) ≡ true
+pub any_node : (test : Node → Bool) (places : List (Option Node)) (p : ℕ) → passes test (node_at places p) ≡ true → list_any test (nodes_of places) ≡ true
 any_node test [] p h = h
 any_node test (None ∷ places) zero h = absurd (cc)
 any_node test (None ∷ places) (suc p) h = any_node test places p h
@@ -117,7 +117,7 @@ any_node test (Some n ∷ places) (suc p) h = or_true (test n) (list_any test (n
     or_true true b e = refl
     or_true false b e = e
 
-some_place : (test : Node → Bool) (places : List (Option Node)) → list_any test (nodes_of places) ≡ true → (p : ℕ) × (n : Node) × (slice_get places p ≡ Some (Some n)) × (test n ≡ true)
+pub some_place : (test : Node → Bool) (places : List (Option Node)) → list_any test (nodes_of places) ≡ true → (p : ℕ) × (n : Node) × (slice_get places p ≡ Some (Some n)) × (test n ≡ true)
 some_place test [] h = absurd (cc)
 some_place test (None ∷ places) h = let r = some_place test places h in (suc r.0, r.1, r.2, r.3)
 some_place test (Some n ∷ places) h = by (test n) refl h (λ f. some_place test places f)

@@ -6,3 +6,4 @@ pub mod Contents
 pub mod Places
 pub mod Order
 pub mod Past
+pub mod Stairs

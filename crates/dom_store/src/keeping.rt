@@ -8,11 +8,14 @@ ghost use Rattle.dom_store.specs.Covering.{covers, key_of};
 ghost use Rattle.dom_store.specs.Glances.{IsGlanceOf};
 ghost use Rattle.dom_store.specs.Contents.{is_covered, with_node};
 ghost use Rattle.dom_store.specs.Places.{nodes_of, StandsAt, AreFiled, AreGlanced, IsKept};
+ghost use Rattle.dom_store.specs.Stairs.{AreSteps};
 
 use crate::chains::Chains;
 use crate::covers::Covers;
 use crate::glance::Glance;
-use crate::places::{covers_in_chain, put_node};
+use crate::places::{covers_at, covers_in_chain, put_node};
+use crate::rising::raise_long;
+use crate::stairs::Stairs;
 use state_layout::{Layout, Node};
 use std::alloc::AllocError;
 
@@ -27,27 +30,35 @@ pub enum Added {
 /// Adds a node to the places of a store.
 pub(crate) fn add_node<K: Covers>(
     layout: &Layout,
+    one_resource: bool,
     chains: &mut Chains,
+    stairs: &mut Stairs,
     places: &mut Vec<Option<Node>>,
     glances: &mut Vec<Glance>,
     count: &mut usize,
     node: Node,
 ) -> Result<Added, Node>
     requires kept { IsKept K.prune K.minimize K.operator layout.now (row_in chains.old.newest chains.old.older.items) (length chains.old.older.items) places.old.items glances.old.items count.old }
+    requires steps { AreSteps K.prune K.minimize K.operator layout.now stairs.old.row stairs.old.steps places.old.items }
     requires node { IsNodeFor layout.now node }
     ensures kept { IsKept K.prune K.minimize K.operator layout.now (row_in chains.new.newest chains.new.older.items) (length chains.new.older.items) places.new.items glances.new.items count.new }
+    ensures steps { AreSteps K.prune K.minimize K.operator layout.now stairs.new.row stairs.new.steps places.new.items }
     ensures answer { IfOk result (λ added. added ≡ (if is_covered (covers K.prune K.minimize K.operator layout.now) (nodes_of places.old.items) node then Added.Covered else Added.Kept)) }
     ensures nodes { OnOk result (nodes_of places.new.items ≡ (if is_covered (covers K.prune K.minimize K.operator layout.now) (nodes_of places.old.items) node then nodes_of places.old.items else with_node (covers K.prune K.minimize K.operator layout.now) (nodes_of places.old.items) node)) }
     ensures err { IfErr result (λ back. (back ≡ node) × (nodes_of places.new.items ≡ nodes_of places.old.items)) }
 {
     let key = K::key(layout, &node);
     let glance = K::glance(layout, &node);
-    let Some(covering) = covers_held::<K>(layout, chains, places, glances, &node, key, glance)
-    else {
+    let Some(covering) = covers_by_steps::<K>(
+        layout, chains, stairs, places, glances, &node, key, glance,
+    ) else {
         return Ok(Added::Covered);
     };
-    let gone = keep_node::<K>(layout, chains, places, glances, covering, node, key, glance)?;
+    let gone = keep_node::<K>(
+        layout, chains, stairs, places, glances, covering, node, key, glance,
+    )?;
     *count = *count + 1 - gone;
+    raise_long::<K>(layout, one_resource, chains, stairs, places, glances, key);
     Ok(Added::Kept)
 }
 
@@ -74,10 +85,44 @@ fn covers_held<K: Covers>(
     covers_in_chain::<K>(layout, chains, places, glances, newest, node, glance)
 }
 
+// the same, by the steps of the row of the key where it has them
+fn covers_by_steps<K: Covers>(
+    layout: &Layout,
+    chains: &Chains,
+    stairs: &Stairs,
+    places: &[Option<Node>],
+    glances: &[Glance],
+    node: &Node,
+    key: u64,
+    glance: Glance,
+) -> Option<bool>
+    requires node { IsNodeFor layout.now node.now }
+    requires filed { AreFiled (key_of K.prune layout.now) layout.now (row_in chains.now.newest chains.now.older.items) places.now }
+    requires glanced { AreGlanced K.minimize K.operator layout.now places.now glances.now }
+    requires steps { AreSteps K.prune K.minimize K.operator layout.now stairs.now.row stairs.now.steps places.now }
+    requires key { key ≡ key_of K.prune layout.now node.now }
+    requires glance { IsGlanceOf K.minimize K.operator layout.now node.now glance }
+    ensures none { IfNone result (is_covered (covers K.prune K.minimize K.operator layout.now) (nodes_of places.now) node.now ≡ true) }
+    ensures free { IfSome result (λ covering. is_covered (covers K.prune K.minimize K.operator layout.now) (nodes_of places.now) node.now ≡ false) }
+    ensures covering { IfSome result (λ covering. covering ≡ false → (p : ℕ) (n : Node) → StandsAt places.now p n → covers K.prune K.minimize K.operator layout.now node.now n ≡ false) }
+{
+    if !stairs.is_of(key) {
+        return covers_held::<K>(layout, chains, places, glances, node, key, glance);
+    }
+    let Some(place) = stairs.covering(glance) else {
+        return Some(true);
+    };
+    if covers_at::<K>(layout, places, glances, place, node, glance) {
+        return None;
+    }
+    covers_held::<K>(layout, chains, places, glances, node, key, glance)
+}
+
 // puts the node at a new place, where those that it covers are gone, none where `covering` is false, and tells how many these were
 fn keep_node<K: Covers>(
     layout: &Layout,
     chains: &mut Chains,
+    stairs: &mut Stairs,
     places: &mut Vec<Option<Node>>,
     glances: &mut Vec<Glance>,
     covering: bool,
@@ -92,12 +137,14 @@ fn keep_node<K: Covers>(
     requires glanced { AreGlanced K.minimize K.operator layout.now places.old.items glances.old.items }
     requires level { length glances.old.items ≡ length places.old.items }
     requires linked { length chains.old.older.items ≡ length places.old.items }
+    requires steps { AreSteps K.prune K.minimize K.operator layout.now stairs.old.row stairs.old.steps places.old.items }
     requires covering { covering ≡ false → (p : ℕ) (n : Node) → StandsAt places.old.items p n → covers K.prune K.minimize K.operator layout.now node n ≡ false }
     ensures nodes { OnOk result (nodes_of places.new.items ≡ with_node (covers K.prune K.minimize K.operator layout.now) (nodes_of places.old.items) node) }
     ensures counted { IfOk result (λ gone. length (nodes_of places.new.items) + gone ≡ length (nodes_of places.old.items) + 1) }
     ensures err { IfErr result (λ back. (back ≡ node) × (places.new.items ≡ places.old.items)) }
     ensures filed { AreFiled (key_of K.prune layout.now) layout.now (row_in chains.new.newest chains.new.older.items) places.new.items }
     ensures glanced { AreGlanced K.minimize K.operator layout.now places.new.items glances.new.items }
+    ensures steps { AreSteps K.prune K.minimize K.operator layout.now stairs.new.row stairs.new.steps places.new.items }
     ensures level { length glances.new.items ≡ length places.new.items }
     ensures linked { length chains.new.older.items ≡ length places.new.items }
 {
@@ -106,7 +153,7 @@ fn keep_node<K: Covers>(
         return Err(node);
     };
     Ok(put_node::<K>(
-        layout, chains, places, glances, covering, place, node, glance,
+        layout, chains, stairs, places, glances, covering, place, node, key, glance,
     ))
 }
 

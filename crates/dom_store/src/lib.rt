@@ -9,6 +9,8 @@ mod order;
 mod past;
 mod past_node;
 mod places;
+mod rising;
+mod stairs;
 mod store;
 mod sweep;
 mod taking;

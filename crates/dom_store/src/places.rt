@@ -1,17 +1,20 @@
 //! The places of a store's nodes, in order of adding. No call takes memory.
 
-ghost use Rattle.std.specs.Prelude.{◌≡◌, ℕ, ◌<◌, ◌+◌, ◌||◌, true, false, length, IfNone, IfSome, slice_get, slice_set, if◌then◌else◌, Option, Some, None, fold};
+ghost use Rattle.std.specs.Prelude.{◌≡◌, ℕ, ◌<◌, ◌+◌, ◌||◌, true, false, length, IfNone, IfSome, slice_get, slice_set, if◌then◌else◌, Option, Some, None, fold, map};
 ghost use Rattle.std.specs.List.{list_any};
 ghost use Rattle.state_layout.specs.Conditions.{IsNodeFor};
 ghost use Rattle.state_layout.specs.declared.node.Node.{Node};
 ghost use Rattle.dom_store.specs.Chains.{older_at, chain_from, row_in};
-ghost use Rattle.dom_store.specs.Covering.{covers};
+ghost use Rattle.dp_claims.specs.Enough.{Has};
+ghost use Rattle.dom_store.specs.Covering.{covers, key_of};
 ghost use Rattle.dom_store.specs.Glances.{IsGlanceOf};
-ghost use Rattle.dom_store.specs.Places.{nodes_of, passes, node_at, cleared, StandsAt, KeepsRows, AreGlanced};
+ghost use Rattle.dom_store.specs.Places.{nodes_of, passes, node_at, without, cleared, StandsAt, KeepsRows, AreGlanced};
+ghost use Rattle.dom_store.specs.Stairs.{AreSteps};
 
 use crate::chains::Chains;
 use crate::covers::Covers;
 use crate::glance::{Glance, may_be_covered_at, may_cover_at};
+use crate::stairs::Stairs;
 use state_layout::{Layout, Node};
 
 /// Whether the node with this glance covers one at the places of a chain, from this one on; `None` where one of these covers it.
@@ -52,8 +55,8 @@ fn either(a: bool, b: bool) -> bool
     a || b
 }
 
-// whether the node at a place covers the node with this glance
-fn covers_at<K: Covers>(
+/// Whether the node at a place covers the node with this glance.
+pub(crate) fn covers_at<K: Covers>(
     layout: &Layout,
     places: &[Option<Node>],
     glances: &[Glance],
@@ -117,11 +120,13 @@ fn clear_covered<K: Covers>(
 fn clear_if<K: Covers>(
     layout: &Layout,
     chains: &mut Chains,
+    stairs: &mut Stairs,
     places: &mut Vec<Option<Node>>,
     glances: &[Glance],
     covering: bool,
     place: usize,
     node: &Node,
+    key: u64,
     glance: Glance,
 ) -> usize
     requires within { place < length chains.old.older.items }
@@ -130,15 +135,89 @@ fn clear_if<K: Covers>(
     requires glanced { AreGlanced K.minimize K.operator layout.now places.old.items glances.now }
     requires glance { IsGlanceOf K.minimize K.operator layout.now node.now glance }
     requires covering { covering ≡ false → (p : ℕ) (n : Node) → StandsAt places.old.items p n → covers K.prune K.minimize K.operator layout.now node.now n ≡ false }
+    requires key { key ≡ key_of K.prune layout.now node.now }
+    requires steps { AreSteps K.prune K.minimize K.operator layout.now stairs.old.row stairs.old.steps places.old.items }
+    requires complete { (p : ℕ) (n : Node) → StandsAt places.old.items p n → covers K.prune K.minimize K.operator layout.now node.now n ≡ true → Has (chain_from chains.old.older.items (older_at chains.old.older.items place)) p }
     ensures places { places.new.items ≡ fold (cleared (λ (held : Node). covers K.prune K.minimize K.operator layout.now node.now held)) places.old.items (chain_from chains.old.older.items (older_at chains.old.older.items place)) }
     ensures counted { length (nodes_of places.new.items) + result ≡ length (nodes_of places.old.items) }
     ensures rows { KeepsRows (row_in chains.old.newest chains.old.older.items) (row_in chains.new.newest chains.new.older.items) place places.new.items }
+    ensures steps { AreSteps K.prune K.minimize K.operator layout.now stairs.new.row stairs.new.steps places.new.items }
     ensures links { length chains.new.older.items ≡ length chains.old.older.items }
 {
     if !covering {
         return 0;
     }
-    clear_covered::<K>(layout, chains, places, glances, place, node, glance)
+    clear_row::<K>(
+        layout, chains, stairs, places, glances, place, node, key, glance,
+    )
+}
+
+// the same, by the steps of the row of the key as far as it has them
+fn clear_row<K: Covers>(
+    layout: &Layout,
+    chains: &mut Chains,
+    stairs: &mut Stairs,
+    places: &mut Vec<Option<Node>>,
+    glances: &[Glance],
+    place: usize,
+    node: &Node,
+    key: u64,
+    glance: Glance,
+) -> usize
+    requires within { place < length chains.old.older.items }
+    requires node { IsNodeFor layout.now node.now }
+    requires nodes { (p : ℕ) (n : Node) → StandsAt places.old.items p n → IsNodeFor layout.now n }
+    requires glanced { AreGlanced K.minimize K.operator layout.now places.old.items glances.now }
+    requires glance { IsGlanceOf K.minimize K.operator layout.now node.now glance }
+    requires key { key ≡ key_of K.prune layout.now node.now }
+    requires steps { AreSteps K.prune K.minimize K.operator layout.now stairs.old.row stairs.old.steps places.old.items }
+    requires complete { (p : ℕ) (n : Node) → StandsAt places.old.items p n → covers K.prune K.minimize K.operator layout.now node.now n ≡ true → Has (chain_from chains.old.older.items (older_at chains.old.older.items place)) p }
+    ensures places { places.new.items ≡ fold (cleared (λ (held : Node). covers K.prune K.minimize K.operator layout.now node.now held)) places.old.items (chain_from chains.old.older.items (older_at chains.old.older.items place)) }
+    ensures counted { length (nodes_of places.new.items) + result ≡ length (nodes_of places.old.items) }
+    ensures rows { KeepsRows (row_in chains.old.newest chains.old.older.items) (row_in chains.new.newest chains.new.older.items) place places.new.items }
+    ensures steps { AreSteps K.prune K.minimize K.operator layout.now stairs.new.row stairs.new.steps places.new.items }
+    ensures links { length chains.new.older.items ≡ length chains.old.older.items }
+{
+    let gone = clear_steps::<K>(layout, stairs, places, glances, node, key, glance);
+    if stairs.is_of(key) {
+        return gone;
+    }
+    gone + clear_covered::<K>(layout, chains, places, glances, place, node, glance)
+}
+
+// takes out the nodes that the node with this glance covers, and their steps, where the row of the key has steps; where a step shows
+// that it may cover a node and it does not, no row has steps any more
+fn clear_steps<K: Covers>(
+    layout: &Layout,
+    stairs: &mut Stairs,
+    places: &mut Vec<Option<Node>>,
+    glances: &[Glance],
+    node: &Node,
+    key: u64,
+    glance: Glance,
+) -> usize
+    requires node { IsNodeFor layout.now node.now }
+    requires nodes { (p : ℕ) (n : Node) → StandsAt places.old.items p n → IsNodeFor layout.now n }
+    requires glanced { AreGlanced K.minimize K.operator layout.now places.old.items glances.now }
+    requires glance { IsGlanceOf K.minimize K.operator layout.now node.now glance }
+    requires key { key ≡ key_of K.prune layout.now node.now }
+    requires steps { AreSteps K.prune K.minimize K.operator layout.now stairs.old.row stairs.old.steps places.old.items }
+    ensures same { map (without (λ (held : Node). covers K.prune K.minimize K.operator layout.now node.now held)) places.new.items ≡ map (without (λ (held : Node). covers K.prune K.minimize K.operator layout.now node.now held)) places.old.items }
+    ensures none { stairs.new.row ≡ Some key → (p : ℕ) (n : Node) → StandsAt places.new.items p n → covers K.prune K.minimize K.operator layout.now node.now n ≡ false }
+    ensures nodes { (p : ℕ) (n : Node) → StandsAt places.new.items p n → StandsAt places.old.items p n }
+    ensures steps { AreSteps K.prune K.minimize K.operator layout.now stairs.new.row stairs.new.steps places.new.items }
+    ensures counted { length (nodes_of places.new.items) + result ≡ length (nodes_of places.old.items) }
+{
+    let mut gone = 0;
+    while let Some((word, step)) = stairs.first_covered_in(key, glance) {
+        if !clear_at::<K>(layout, places, glances, step.place, node, glance) {
+            stairs.end();
+            return gone;
+        }
+        stairs.remove(word);
+        gone += 1;
+    }
+    gone
 }
 
 // whether a node was there that the node covers; it is gone then
@@ -199,11 +278,13 @@ fn is_covered_at<K: Covers>(
 pub(crate) fn put_node<K: Covers>(
     layout: &Layout,
     chains: &mut Chains,
+    stairs: &mut Stairs,
     places: &mut Vec<Option<Node>>,
     glances: &[Glance],
     covering: bool,
     place: usize,
     node: Node,
+    key: u64,
     glance: Glance,
 ) -> usize
     requires place { slice_get places.old.items place ≡ Some None }
@@ -213,14 +294,19 @@ pub(crate) fn put_node<K: Covers>(
     requires glanced { AreGlanced K.minimize K.operator layout.now places.old.items glances.now }
     requires glance { IsGlanceOf K.minimize K.operator layout.now node glance }
     requires covering { covering ≡ false → (p : ℕ) (n : Node) → StandsAt places.old.items p n → covers K.prune K.minimize K.operator layout.now node n ≡ false }
+    requires key { key ≡ key_of K.prune layout.now node }
+    requires steps { AreSteps K.prune K.minimize K.operator layout.now stairs.old.row stairs.old.steps places.old.items }
+    requires complete { (p : ℕ) (n : Node) → StandsAt places.old.items p n → covers K.prune K.minimize K.operator layout.now node n ≡ true → Has (chain_from chains.old.older.items (older_at chains.old.older.items place)) p }
     ensures places { places.new.items ≡ slice_set (fold (cleared (λ (held : Node). covers K.prune K.minimize K.operator layout.now node held)) places.old.items (chain_from chains.old.older.items (older_at chains.old.older.items place))) place (Some node) }
     ensures counted { length (nodes_of places.new.items) + result ≡ length (nodes_of places.old.items) + 1 }
     ensures rows { KeepsRows (row_in chains.old.newest chains.old.older.items) (row_in chains.new.newest chains.new.older.items) place places.new.items }
+    ensures steps { AreSteps K.prune K.minimize K.operator layout.now stairs.new.row stairs.new.steps places.new.items }
     ensures links { length chains.new.older.items ≡ length chains.old.older.items }
 {
     let gone = clear_if::<K>(
-        layout, chains, places, glances, covering, place, &node, glance,
+        layout, chains, stairs, places, glances, covering, place, &node, key, glance,
     );
+    stairs.add(key, glance, place);
     places[place] = Some(node);
     gone
 }

@@ -16,6 +16,8 @@ use crate::covers::Covers;
 use crate::glance::Glance;
 use crate::keeping::{Added, add_node};
 use crate::past::PastStore;
+use crate::rising::has_one_resource;
+use crate::stairs::Stairs;
 use crate::sweep::clear_past;
 use crate::taking::{Taken, take_nodes};
 use cost_laws::CostLaw;
@@ -27,7 +29,9 @@ use std::marker::{Model, PhantomData};
 #[derive(Drop)]
 pub struct DomStore<K: Covers> {
     layout: Layout,
+    one_resource: bool,
     chains: Chains,
+    stairs: Stairs,
     places: Vec<Option<Node>>,
     glances: Vec<Glance>,
     count: usize,
@@ -39,12 +43,13 @@ impl<K: Covers> Model for DomStore<K> {
     ghost use Rattle.dom_store.specs.Chains.{row_in};
     ghost use Rattle.dom_store.specs.Contents.{Contents};
     ghost use Rattle.dom_store.specs.Places.{nodes_of, IsKept};
+    ghost use Rattle.dom_store.specs.Stairs.{AreSteps};
 
     ghost Value = { Contents };
 
     ghost view = { λ s. record { layout = s.layout; nodes = nodes_of s.places.items } };
 
-    ghost invariant = { λ s. IsKept K.prune K.minimize K.operator s.layout (row_in s.chains.newest s.chains.older.items) (length s.chains.older.items) s.places.items s.glances.items s.count };
+    ghost invariant = { λ s. IsKept K.prune K.minimize K.operator s.layout (row_in s.chains.newest s.chains.older.items) (length s.chains.older.items) s.places.items s.glances.items s.count × AreSteps K.prune K.minimize K.operator s.layout s.stairs.row s.stairs.steps s.places.items };
 }
 
 impl<K: Covers> DomStore<K> {
@@ -55,7 +60,9 @@ impl<K: Covers> DomStore<K> {
     {
         Ok(DomStore {
             layout: layout.copy(alloc)?,
+            one_resource: has_one_resource(layout),
             chains: Chains::new(alloc),
+            stairs: Stairs::new(alloc),
             places: Vec::new(alloc),
             glances: Vec::new(alloc),
             count: 0,
@@ -78,7 +85,9 @@ impl<K: Covers> DomStore<K> {
     {
         add_node::<K>(
             layout,
+            self.one_resource,
             &mut self.chains,
+            &mut self.stairs,
             &mut self.places,
             &mut self.glances,
             &mut self.count,
@@ -116,6 +125,7 @@ impl<K: Covers> DomStore<K> {
     {
         let taken = take_nodes::<L>(alloc, &mut self.places, self.count, share)?;
         self.chains.clear();
+        self.stairs.end();
         self.glances.clear();
         self.count = 0;
         Ok(taken)

@@ -7,11 +7,14 @@ use Rattle.dom_store.specs.Places.{nodes_of, StandsAt}
 use Rattle.dom_store.proofs.Adding.{kept_same, kept_with, nodes_few}
 use Rattle.dom_store.proofs.keeping.add_node.Goals as goal
 
-pub covers_held-requires-clause-filed : goal.covers_held-requires-clause-filed
-covers_held-requires-clause-filed g c = rw c.deref.ensures.value c.requires.kept.filed
+pub covers_by_steps-requires-clause-filed : goal.covers_by_steps-requires-clause-filed
+covers_by_steps-requires-clause-filed g c = rw c.deref.ensures.value c.requires.kept.filed
 
-pub covers_held-requires-clause-glanced : goal.covers_held-requires-clause-glanced
-covers_held-requires-clause-glanced g c = rw (c.deref.ensures.value, c.deref-2.ensures.value) c.requires.kept.glanced
+pub covers_by_steps-requires-clause-steps : goal.covers_by_steps-requires-clause-steps
+covers_by_steps-requires-clause-steps g c = rw c.deref.ensures.value c.requires.steps
+
+pub covers_by_steps-requires-clause-glanced : goal.covers_by_steps-requires-clause-glanced
+covers_by_steps-requires-clause-glanced g c = rw (c.deref.ensures.value, c.deref-2.ensures.value) c.requires.kept.glanced
 
 pub keep_node-requires-clause-covering : goal.keep_node-requires-clause-covering
 keep_node-requires-clause-covering g c = λ none p n stands. c.in-Some.ensures.covering none p n (subst (λ (ps : List (Option Node)). StandsAt ps p n) (sym c.deref.ensures.value) stands)
@@ -31,3 +34,15 @@ returns-clause-kept g c =
     let free : is_covered (covers g.K.Covers.prune g.K.Covers.minimize g.K.Covers.operator c.args.layout.now) (nodes_of c.args.places.now.items) c.args.node ≡ false = ap (λ (ps : List (Option Node)). is_covered (covers g.K.Covers.prune g.K.Covers.minimize g.K.Covers.operator c.args.layout.now) (nodes_of ps) c.args.node) (sym c.deref.ensures.value) ∙ c.in-Some.ensures.free in
     kept_with g.K.Covers.prune g.K.Covers.minimize g.K.Covers.operator c.args.layout.now (row_in c.args.chains.now.newest c.args.chains.now.older.items) (row_in c.keep_node.new.chains.newest c.keep_node.new.chains.older.items) (length c.args.chains.now.older.items) (length c.keep_node.new.chains.older.items) c.args.places.now.items c.keep_node.new.places.items c.args.glances.now.items c.keep_node.new.glances.items c.args.count.now c.in_ok-gone.gone c.args.node c.requires.kept
     free c.in_ok-gone.ensures.nodes c.in_ok-gone.ensures.counted c.keep_node.ensures.filed c.keep_node.ensures.glanced c.keep_node.ensures.level c.keep_node.ensures.linked
+
+pub raise_long-requires-clause-filed : goal.raise_long-requires-clause-filed
+raise_long-requires-clause-filed g c = rw c.deref-3.ensures.value c.keep_node.ensures.filed
+
+pub raise_long-requires-clause-glanced : goal.raise_long-requires-clause-glanced
+raise_long-requires-clause-glanced g c = rw (c.deref-3.ensures.value, c.deref-4.ensures.value) c.keep_node.ensures.glanced
+
+pub raise_long-requires-clause-steps : goal.raise_long-requires-clause-steps
+raise_long-requires-clause-steps g c = rw c.deref-3.ensures.value c.keep_node.ensures.steps
+
+pub returns-clause-steps : goal.returns-clause-steps
+returns-clause-steps g c = rw c.deref-3.ensures.value at c.raise_long.ensures

@@ -1,7 +1,9 @@
-use Rattle.std.proofs.Common.{◌≡◌, inr, arith, length, ap, ◌∙◌}
+use Rattle.std.proofs.Common.{◌≡◌, ℕ, List, inr, arith, length, sym, ap, subst, ◌∙◌}
+use Rattle.dp_claims.specs.Enough.{Has}
 use Rattle.dom_store.specs.Chains.{older_at, chain_from, row_in}
 use Rattle.dom_store.specs.Covering.{covers, key_of}
 use Rattle.dom_store.proofs.Adding.{complete}
+use Rattle.dom_store.proofs.Climbing.{fewer_steps}
 use Rattle.dom_store.proofs.Filing.{Put, put_by, pushed_none, none_stands, filed_same, filed_with, filed_left, kept_nodes, kept_stands, kept_length}
 use Rattle.dom_store.proofs.Glancing.{opened_glanced, put_glanced, pushed_level, pushed_links}
 use Rattle.dom_store.proofs.keeping.keep_node.Goals as goal
@@ -25,6 +27,20 @@ put_node-requires-clause-covering g c = λ none p n stands. c.requires.covering 
 
 pub put_node-requires-clause-glanced : goal.put_node-requires-clause-glanced
 put_node-requires-clause-glanced g c = rw c.deref.ensures.value (opened_glanced g.K.Covers.minimize g.K.Covers.operator c.args.layout.now c.args.places.now.items c.open_place.new.places.items c.args.glances.now.items c.open_place.new.glances.items c.args.glance c.requires.glanced c.in-Ok.ensures.places c.in-Ok.ensures.glances)
+
+pub returns-in_default-clause-steps : goal.returns-in_default-clause-steps
+returns-in_default-clause-steps g c = rw c.in_default.ensures.err.0 c.requires.steps
+
+pub put_node-requires-clause-steps : goal.put_node-requires-clause-steps
+put_node-requires-clause-steps g c =
+    fewer_steps g.K.Covers.prune g.K.Covers.minimize g.K.Covers.operator c.args.layout.now c.args.stairs.now.row c.args.stairs.now.steps c.args.places.now.items c.open_place.new.places.items c.requires.steps (λ p n stands. none_stands c.args.places.now.items p n (rw c.in-Ok.ensures.places at stands))
+
+pub put_node-requires-clause-complete : goal.put_node-requires-clause-complete
+put_node-requires-clause-complete g c = λ p n stands t.
+    let last : c.len-place.result ≡ length c.args.chains.now.older.items = omega (arith, c.requires.linked) in
+    subst (λ (ps : List ℕ). Has ps p) (sym (ap (λ q. chain_from c.open_place.new.chains.older.items (older_at c.open_place.new.chains.older.items q)) last ∙ c.in-Ok.ensures.left))
+    (complete g.K.Covers.prune g.K.Covers.minimize g.K.Covers.operator g.met.K.Covers.one_key c.args.layout.now (row_in c.args.chains.now.newest c.args.chains.now.older.items) c.args.places.now.items c.requires.filed c.args.node c.args.key c.requires.key
+    p n (none_stands c.args.places.now.items p n (rw c.in-Ok.ensures.places at stands)) t)
 
 pub returns-clause-nodes : goal.returns-clause-nodes
 returns-clause-nodes g c =
