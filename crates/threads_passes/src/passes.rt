@@ -6,7 +6,7 @@ ghost use Rattle.pass_ends.specs.Passes.{AreOptions};
 
 use crate::orders::drawn_order;
 use board_words::Board;
-use cost_laws::{CostLaw, MinPlus, NO_INCUMBENT};
+use cost_laws::NO_INCUMBENT;
 use dp_base::{FILE_LIMIT, Seq};
 use dp_model::{Cause, Keep, Model, Options};
 use dp_outside::OpenGate;
@@ -53,7 +53,7 @@ pub(crate) fn options_of(workers: u32, budget: u64) -> Option<Options>
     })
 }
 
-/// A pass over a board of its own, on which a word is the best one so far.
+/// A pass over a board of its own, on which a word is the best one so far. With it comes the best one afterwards.
 fn make_pass<R: Wait>(
     rt: &R,
     alloc: Global,
@@ -62,13 +62,13 @@ fn make_pass<R: Wait>(
     share: u64,
     best: u64,
     order: &Seq<u32>,
-) -> Option<PassEnd>
+) -> Option<(PassEnd, u64)>
     requires inner { Inner model.now model.now.target }
     requires share { 1 ≤ share }
     requires options { AreOptions options.now }
 {
     let (board, mut seat) = Board::new(alloc, best, options.budget()).ok()?;
-    Some(run_pass_in_order(
+    let end = run_pass_in_order(
         rt,
         alloc,
         model,
@@ -78,7 +78,8 @@ fn make_pass<R: Wait>(
         &mut seat,
         &OpenGate::new(),
         order,
-    ))
+    );
+    Some((end, board.look(&mut seat)))
 }
 
 /// Passes with shares that double, until one drops no node. Answers the best cost, if there is one and no pass was halted.
@@ -96,7 +97,7 @@ fn make_passes<R: Wait>(
     let mut cost = None;
     let mut share = 1;
     while share < GREATEST_SHARE {
-        let end = make_pass(rt, alloc, model, options, share, best, order)?;
+        let (end, word) = make_pass(rt, alloc, model, options, share, best, order)?;
         let PassEnd::Closed {
             dropped,
             best: found,
@@ -107,8 +108,8 @@ fn make_passes<R: Wait>(
         };
         if let Some(found) = found {
             cost = Some(found.cost());
-            best = MinPlus::word(cost);
         }
+        best = word;
         if dropped == 0 {
             return cost;
         }
@@ -171,8 +172,8 @@ pub(crate) fn halt_in_order<R: Wait>(
         NO_INCUMBENT,
         order,
     ) {
-        Some(PassEnd::Closed { .. }) => "closed",
-        Some(PassEnd::Halted { cause, .. }) => match cause {
+        Some((PassEnd::Closed { .. }, _)) => "closed",
+        Some((PassEnd::Halted { cause, .. }, _)) => match cause {
             Cause::Budget => "budget",
             Cause::Fault(_) => "fault",
             Cause::Memory => "memory",
