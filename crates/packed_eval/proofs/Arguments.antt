@@ -1,29 +1,21 @@
 -- The arguments of a table's cell, evaluated in order.
-use Rattle.std.proofs.Common.{◌≡◌, ℕ, zero, suc, ◌+◌, ◌<◌, true, ◌&&◌, List, [], ◌∷◌, length, get_or, map, drop, drop-cons, add-one, min, Result, Ok, Err, Bool, ℤ, refl, sym, ap, ◌∙◌, arith}
-use Rattle.std.specs.List.{list_all}
+use Rattle.std.proofs.Common.{◌≡◌, ℕ, zero, suc, ◌+◌, ◌<◌, true, List, [], ◌∷◌, length, get_or, drop, drop-cons, add-one, min, Result, Ok, Err, ℤ, refl, sym, ◌∙◌, arith}
 use Rattle.std.proofs.lemmas.Bool.{and_parts}
-use Rattle.dp_base.specs.Results.{◌>>=◌, in_turn}
+use Rattle.dp_base.specs.Results.{◌>>=◌}
 use Rattle.packed_words.specs.Places.{most, placed_at}
 use Rattle.packed_words.specs.Sets.{IsClean}
 use Rattle.packed_words.proofs.OnePass.{placed-is}
-use Rattle.dp_model.specs.Evaluation.{count_of, cells_object, members_of, place_from, table_counts, cells_of, number_cell, truth_cell, set_cell, num_value, set_value, cond_value, ArgValue, CondValue, NumValue, SetValue, arg_step, cond_step, num_step, set_step}
+use Rattle.dp_model.specs.Evaluation.{count_of, cells_object, members_of, place_from, table_counts, cells_of, set_cell, num_value, set_value, ArgValue, CondValue, NumValue, SetValue, arg_step, cond_step, num_step, set_step}
 use Rattle.dp_model.specs.declared.answers.FaultKind.{FaultKind}
 use Rattle.dp_model.specs.declared.trees.Num as nums
-use Rattle.dp_model.specs.declared.trees.Cond as conds
 use Rattle.dp_model.specs.declared.trees.SetEx as sets
 use Rattle.dp_model.specs.declared.parts.PlainState.{PlainState}
 use Rattle.dp_model.specs.declared.whole.Model.{Model}
-use Rattle.eval_room.specs.Fits.{RoomTest, SetRoom, ArgRoom, arg_room, cond_room, num_room, set_room, num_fits, set_fits, cond_fits, all_fit}
+use Rattle.eval_room.specs.Fits.{num_fits, all_fit}
 use Rattle.packed_words.specs.Operands.{Tells, at_operands, num_values}
-use Rattle.packed_words.specs.Places.{placed, placed_from, member_on}
+use Rattle.packed_words.specs.Places.{placed_from, member_on}
 
 module _ (m : Model) (given room : ℕ) where
-  pub num_cell_fit : (e : nums.Num) (t : ℕ) (ns : List nums.Num) → nums.out-Num e ≡ nums.Num-F.Num::Cell t ns → num_fits m e given room ≡ true → all_fit m ns given room ≡ true
-  num_cell_fit e t ns p h = rw (nums.fold_out-Num ArgRoom RoomTest RoomTest SetRoom arg_room (cond_room m) (num_room m) (set_room m) e, p) at h
-
-  pub cond_cell_fit : (e : conds.Cond) (t : ℕ) (ns : List nums.Num) → conds.out-Cond e ≡ conds.Cond-F.Cond::Cell t ns → cond_fits m e given room ≡ true → all_fit m ns given room ≡ true
-  cond_cell_fit e t ns p h = rw (conds.fold_out-Cond ArgRoom RoomTest RoomTest SetRoom arg_room (cond_room m) (num_room m) (set_room m) e, p) at h
-
   pub fit_at : (ns : List nums.Num) (i : ℕ) (d : nums.Num) → i < length ns → all_fit m ns given room ≡ true → num_fits m (get_or ns i d) given room ≡ true
   fit_at [] i d p h = absurd (omega arith)
   fit_at (n ∷ ns) zero d p h = (and_parts (num_fits m n given room) (all_fit m ns given room) h).0
@@ -39,12 +31,6 @@ module _ (m : Model) (s : PlainState) (given : List ℕ) where
 
   pub place_fault : (counts : List ℕ) (ns : List nums.Num) (led : Result ℕ FaultKind) (i : ℕ) (d : nums.Num) (n : nums.Num) (kind : FaultKind) → i < length ns → n ≡ get_or ns i d → num_value m s n given ≡ Err kind → placed_from counts (num_values m s (drop i ns) given) led ≡ Err kind
   place_fault counts ns led i d n kind p q e = rw (drop-cons ns i d, ← q, e) refl
-
-  pub num_cell_is : (e : nums.Num) (t : ℕ) (ns : List nums.Num) → nums.out-Num e ≡ nums.Num-F.Num::Cell t ns → num_value m s e given ≡ at_operands m t (number_cell (cells_of m t)) (num_values m s ns given)
-  num_cell_is e t ns p = rw (nums.fold_out-Num ArgValue CondValue NumValue SetValue arg_step (cond_step m s) (num_step m s) (set_step m s) e, p) refl
-
-  pub cond_cell_is : (e : conds.Cond) (t : ℕ) (ns : List nums.Num) → conds.out-Cond e ≡ conds.Cond-F.Cond::Cell t ns → cond_value m s e given ≡ at_operands m t (truth_cell (cells_of m t)) (num_values m s ns given)
-  cond_cell_is e t ns p = rw (conds.fold_out-Cond ArgValue CondValue NumValue SetValue arg_step (cond_step m s) (num_step m s) (set_step m s) e, p) refl
 
   set_cell_is : (e : sets.SetEx) (t : ℕ) (ns : List nums.Num) → sets.out-SetEx e ≡ sets.SetEx-F.SetEx::Cell t ns → (set_value m s e).1 given ≡ at_operands m t (set_cell (cells_of m t)) (num_values m s ns given)
   set_cell_is e t ns p = rw (sets.fold_out-SetEx ArgValue CondValue NumValue SetValue arg_step (cond_step m s) (num_step m s) (set_step m s) e, p) refl

@@ -1,5 +1,5 @@
 -- The object type of a set expression is the same as a value and as a test.
-use Rattle.std.proofs.Common.{◌≡◌, ℕ, refl, sym, ap, subst, ◌∙◌}
+use Rattle.std.proofs.Common.{◌≡◌, refl, sym, ap, subst, ◌∙◌}
 use Rattle.dp_model.specs.Evaluation.{num_value, set_value, cond_value, ArgValue, CondValue, NumValue, SetValue, arg_step, cond_step, num_step, set_step}
 use Rattle.dp_model.specs.declared.trees.Arg as args
 use Rattle.dp_model.specs.declared.trees.Num as nums

@@ -1,13 +1,12 @@
 -- What the parts of an expression fit, where the whole does; and what the forms over sets stand for.
-use Rattle.std.proofs.Common.{◌≡◌, ℕ, ◌-◌, ◌<◌, ◌≤◌, Bool, true, not, ◌&&◌, eqb, leb, List, Result, Ok, Err, ℤ, refl, sym, ap, subst, ◌∙◌}
+use Rattle.std.proofs.Common.{◌≡◌, ℕ, ◌-◌, ◌<◌, ◌≤◌, Bool, true, not, ◌&&◌, eqb, List, Result, Ok, ℤ, refl, ap, ◌∙◌}
 use Rattle.std.specs.Prelude.{nat_lt, nat_le}
 use Rattle.std.proofs.lemmas.Bool.{and_parts, eqb-true, leb-true, ltb-true}
 use Rattle.dp_model.specs.Typing.{is_number_kind, is_set_kind, kind_at}
 use Rattle.dp_model.specs.declared.trees.Over.{Over}
 use Rattle.packed_words.specs.Ranges.{over_fits}
-use Rattle.dp_base.specs.Results.{◌>>=◌}
 use Rattle.state_layout.specs.Signatures.{word_count}
-use Rattle.dp_model.specs.Evaluation.{num_value, set_value, cond_value, count_of, kind_of, object_of_kind, cells_of, cells_object, set_operation, set_in, members_where, member_of, has, ArgValue, CondValue, NumValue, SetValue, arg_step, cond_step, num_step, set_step}
+use Rattle.dp_model.specs.Evaluation.{num_value, set_value, cond_value, count_of, kind_of, object_of_kind, cells_of, cells_object, set_in, members_where, has, ArgValue, CondValue, NumValue, SetValue, arg_step, cond_step, num_step, set_step}
 use Rattle.dp_model.specs.declared.answers.FaultKind.{FaultKind}
 use Rattle.dp_model.specs.declared.trees.Arg as args
 use Rattle.dp_model.specs.declared.trees.Num as nums
@@ -18,7 +17,7 @@ use Rattle.dp_model.specs.declared.trees.SetOp.{SetOp}
 use Rattle.dp_model.specs.declared.trees.Compare.{Compare}
 use Rattle.dp_model.specs.declared.parts.PlainState.{PlainState}
 use Rattle.dp_model.specs.declared.whole.Model.{Model}
-use Rattle.eval_room.specs.Fits.{RoomTest, SetRoom, ArgRoom, arg_room, cond_room, num_room, set_room, num_fits, set_fits, cond_fits, all_fit, more_fits, operand_fits, both_fit}
+use Rattle.eval_room.specs.Fits.{RoomTest, SetRoom, ArgRoom, arg_room, cond_room, num_room, set_room, num_fits, set_fits, cond_fits, more_fits, operand_fits, both_fit}
 use Rattle.packed_words.specs.Operands.{Tells, operated_by, complement_of, with_in, without_in, is_member_in}
 use Rattle.packed_eval.proofs.Objects.{same_object}
 
@@ -70,9 +69,6 @@ module _ (m : Model) (given room : ℕ) where
 
   pub set_var_object : (e : sets.SetEx) (v : ℕ) → sets.out-SetEx e ≡ sets.SetEx-F.SetEx::Var v → (set_fits m e).0 ≡ object_of_kind (kind_of m v)
   set_var_object e v p = rw (set_out e, p) refl
-
-  pub set_cell_fit : (e : sets.SetEx) (t : ℕ) (ns : List nums.Num) → sets.out-SetEx e ≡ sets.SetEx-F.SetEx::Cell t ns → (set_fits m e).1 given room ≡ true → all_fit m ns given room ≡ true
-  set_cell_fit e t ns p h = rw (set_out e, p) at h
 
   pub set_cell_object : (e : sets.SetEx) (t : ℕ) (ns : List nums.Num) → sets.out-SetEx e ≡ sets.SetEx-F.SetEx::Cell t ns → (set_fits m e).0 ≡ cells_object (cells_of m t)
   set_cell_object e t ns p = rw (set_out e, p) refl

@@ -1,11 +1,11 @@
 -- The arguments of a sum, evaluated in order.
-use Rattle.std.proofs.Common.{◌≡◌, ℕ, zero, suc, ◌+◌, ◌-◌, ◌<◌, ◌≤◌, Bool, true, false, ◌&&◌, eqb, List, [], ◌∷◌, ◌++◌, length, get_or, map, take, drop, drop-cons, add-one, append-nil, Result, Ok, Err, ℤ, ◌⊎◌, inl, inr, refl, sym, ap, subst, ◌∙◌, arith}
+use Rattle.std.proofs.Common.{◌≡◌, ℕ, zero, suc, ◌+◌, ◌-◌, ◌<◌, ◌≤◌, true, ◌&&◌, eqb, List, [], ◌∷◌, ◌++◌, length, get_or, map, take, drop, drop-cons, add-one, append-nil, Result, Ok, Err, ℤ, ◌⊎◌, inl, inr, refl, sym, ap, subst, ◌∙◌, arith}
 use Rattle.std.specs.Prelude.{Option, Some, None, nat_le, slice_index}
 use Rattle.std.proofs.lemmas.Bool.{and_parts, eqb-true, leb-true}
 use Rattle.std.proofs.lemmas.List.{drop_all, take_all, length-drop, length-take-le}
 use Rattle.dp_base.specs.Results.{◌>>=◌, in_turn}
 use Rattle.dp_model.specs.Costs.{ranged}
-use Rattle.dp_model.specs.Evaluation.{count_of, table_counts, ways, total_of, num_value, set_value, ArgValue, CondValue, NumValue, SetValue, arg_step, cond_step, num_step, set_step}
+use Rattle.dp_model.specs.Evaluation.{count_of, ways, total_of, num_value, set_value, ArgValue, CondValue, NumValue, SetValue, arg_step, cond_step, num_step, set_step}
 use Rattle.dp_model.specs.declared.answers.FaultKind.{FaultKind}
 use Rattle.dp_model.specs.declared.trees.Arg as args
 use Rattle.dp_model.specs.declared.trees.Num as nums
@@ -14,8 +14,8 @@ use Rattle.dp_model.specs.declared.parts.PlainState.{PlainState}
 use Rattle.dp_model.specs.declared.whole.Model.{Model}
 use Rattle.bit_sets.specs.Sets.{members_of}
 use Rattle.state_layout.specs.Signatures.{word_count}
-use Rattle.eval_room.specs.Fits.{RoomTest, SetRoom, ArgRoom, arg_room, cond_room, num_room, set_room, num_fits, set_fits, arg_fits, terms_fit, term_room, sum_fits}
-use Rattle.packed_words.specs.Totals.{arg_value, sum_value}
+use Rattle.eval_room.specs.Fits.{RoomTest, SetRoom, ArgRoom, arg_room, cond_room, num_room, set_room, num_fits, set_fits, arg_fits, terms_fit, term_room}
+use Rattle.packed_words.specs.Totals.{arg_value}
 use Rattle.packed_eval.specs.Sums.{words_of, sets_in, waits_on, Chooses, sum_after, Termed}
 use Rattle.packed_eval.proofs.Ways.{sum_step, sets_more, take_more, words_more}
 
@@ -26,9 +26,6 @@ arg_values m s terms given = in_turn (λ (a : ArgValue). a given) (map (arg_valu
 -- ---- what fits
 
 module _ (m : Model) (given room : ℕ) where
-  pub sum_fit : (e : nums.Num) (t : ℕ) (terms : List args.Arg) → nums.out-Num e ≡ nums.Num-F.Sum t terms → num_fits m e given room ≡ true → terms_fit m (table_counts m t) terms given room ≡ true
-  sum_fit e t terms p h = rw (nums.fold_out-Num ArgRoom RoomTest RoomTest SetRoom arg_room (cond_room m) (num_room m) (set_room m) e, p) at h
-
   first_fits : (left : List ℕ) (e : args.Arg) (more : List args.Arg) → terms_fit m left (e ∷ more) given room ≡ true → (left ≡ slice_index left 0 ∷ drop 1 left) × (word_count (slice_index left 0) ≤ room) × (term_room m (arg_fits m e) (slice_index left 0) given (room - word_count (slice_index left 0)) ≡ true) × (terms_fit m (drop 1 left) more given (room - word_count (slice_index left 0)) ≡ true)
   first_fits [] e more h = absurd cc
   first_fits (count ∷ rest) e more h =
@@ -60,20 +57,11 @@ module _ (m : Model) (given room : ℕ) where
 -- ---- values
 
 module _ (m : Model) (s : PlainState) (given : List ℕ) where
-  pub sum_is : (e : nums.Num) (t : ℕ) (terms : List args.Arg) → nums.out-Num e ≡ nums.Num-F.Sum t terms → num_value m s e given ≡ sum_value m s t terms given
-  sum_is e t terms p = rw (nums.fold_out-Num ArgValue CondValue NumValue SetValue arg_step (cond_step m s) (num_step m s) (set_step m s) e, p) refl
-
   number_is : (e : args.Arg) (n : nums.Num) → args.out-Arg e ≡ args.Arg-F.One n → arg_value m s e given ≡ (num_value m s n given >>= λ z. Ok (inl z))
   number_is e n p = rw (args.fold_out-Arg ArgValue CondValue NumValue SetValue arg_step (cond_step m s) (num_step m s) (set_step m s) e, p) refl
 
   set_is : (e : args.Arg) (a : sets.SetEx) → args.out-Arg e ≡ args.Arg-F.Many a → arg_value m s e given ≡ ((set_value m s a).1 given >>= λ members. Ok (inr members))
   set_is e a p = rw (args.fold_out-Arg ArgValue CondValue NumValue SetValue arg_step (cond_step m s) (num_step m s) (set_step m s) e, p) refl
-
-  pub number_fault : (e : args.Arg) (n : nums.Num) (kind : FaultKind) → args.out-Arg e ≡ args.Arg-F.One n → num_value m s n given ≡ Err kind → arg_value m s e given ≡ Err kind
-  number_fault e n kind p h = rw (number_is e n p, h) refl
-
-  pub set_fault : (e : args.Arg) (a : sets.SetEx) (kind : FaultKind) → args.out-Arg e ≡ args.Arg-F.Many a → (set_value m s a).1 given ≡ Err kind → arg_value m s e given ≡ Err kind
-  set_fault e a kind p h = rw (set_is e a p, h) refl
 
   pub number_termed : (e : args.Arg) (n : nums.Num) (count : ℕ) (waits now : Option FaultKind) (choice : List ℕ) (z : ℤ) → args.out-Arg e ≡ args.Arg-F.One n → num_value m s n given ≡ Ok z → now ≡ waits_on count waits (inl z) → (now ≡ None → Chooses count (inl z) choice) → Termed count waits choice (Ok now) (arg_value m s e given)
   number_termed e n count waits now choice z p h w c = (inl z, (rw (number_is e n p, h) refl), w, c)

@@ -1,6 +1,6 @@
 -- Arguments of a sum, one after another, and the total over the sets that they are.
-use Rattle.std.proofs.Common.{◌≡◌, ℕ, zero, suc, ◌+◌, ◌*◌, ◌-◌, ◌≤◌, ◌<◌, Bool, true, false, ◌||◌, ◌&&◌, eqb, min, add-one, ◌-ℤ◌, ◌≤ℤ◌, negsuc, FitsSigned, List, [], ◌∷◌, ◌++◌, length, get_or, map, take, drop, append_assoc, append-nil, Result, Ok, Err, ℤ, pos, ◌+ℤ◌, inl, inr, ◌⊎◌, refl, sym, ap, subst, ◌∙◌, arith}
-use Rattle.std.specs.Prelude.{Option, Some, None, option_and_then, unwrap_or, slice_get, slice_index, nat_le}
+use Rattle.std.proofs.Common.{◌≡◌, ℕ, zero, suc, ◌+◌, ◌*◌, ◌≤◌, ◌<◌, Bool, true, false, ◌||◌, eqb, min, add-one, negsuc, FitsSigned, List, [], ◌∷◌, ◌++◌, length, get_or, map, take, drop, append_assoc, Result, Ok, Err, ℤ, pos, ◌+ℤ◌, inl, inr, ◌⊎◌, refl, sym, ap, subst, ◌∙◌, arith}
+use Rattle.std.specs.Prelude.{Option, Some, None, option_and_then, unwrap_or, slice_get, slice_index}
 use Rattle.std.specs.List.{flat_map, filter, list_all, range_with_len}
 use Rattle.std.proofs.lemmas.Int.{ints, fits_signed_from_abs}
 use Rattle.std.specs.Int.{w128}
@@ -9,7 +9,7 @@ use Rattle.std.proofs.lemmas.List.{take_all, drop_all, take-append-le, drop-appe
 use Rattle.std.proofs.lemmas.Bool.{and_parts, cases_eq, eq-eqb, ne_eqb, leb-true}
 use Rattle.dp_base.specs.Results.{◌>>=◌}
 use Rattle.dp_model.specs.Costs.{ranged}
-use Rattle.dp_model.specs.Evaluation.{member_of, choices_of, ways, total_of, place_from, place_in, count_of, counts_of, table_counts, cells_of, number_cell}
+use Rattle.dp_model.specs.Evaluation.{member_of, choices_of, ways, total_of, place_from, place_in, counts_of, table_counts, cells_of, number_cell}
 use Rattle.dp_model.specs.Limits.{is_small_object, is_small_table, has_most, is_name}
 use Rattle.dp_model.specs.declared.parts.Variable.{Variable}
 use Rattle.dp_model.specs.declared.parts.TableData.{TableData}
@@ -196,11 +196,6 @@ few_counts m t = by (slice_get m.tables t) refl
         let few : length x.args ≤ 4 = leb-true (length x.args) 4 (and_parts (is_name x.name) (has_most 4 x.args) small).1 in
         record { four = omega (arith, few, counts_length m x.args); each = λ i. few_at m x.args i }
 
-pub few_behind : (counts : List ℕ) (count : ℕ) (rest : List ℕ) → counts ≡ count ∷ rest → AreFew counts → (count ≤ 4096) × AreFew rest
-few_behind counts count rest e few =
-    let f : AreFew (count ∷ rest) = rw e at few in
-    (f.each 0, record { four = (let h = f.four in omega (arith, h)); each = λ i. f.each (suc i) })
-
 pub bound_small : (n : ℕ) → n ≤ 3 → bound_for n ≤ 5070602400912917605986812821504
 bound_small zero h = omega arith
 bound_small (suc zero) h = omega arith
@@ -209,13 +204,6 @@ bound_small (suc (suc (suc zero))) h = omega arith
 bound_small (suc (suc (suc (suc n)))) h = absurd (omega arith)
 
 -- ---- totals one member after another, and how large they are
-
-pub first_there : (counts : List ℕ) → (length counts ≡ 0 → ⊥) → counts ≡ slice_index counts 0 ∷ drop 1 counts
-first_there [] h = absurd (h refl)
-first_there (c ∷ cs) h = refl
-
-pub over_first : (cell : ℕ → ℤ) (place : ℕ) (counts : List ℕ) (count : ℕ) (rest held set behind : List ℕ) → counts ≡ count ∷ rest → set ≡ take (word_count count) held → behind ≡ drop (word_count count) held → total_by (λ k. total_over cell (place * count + k) rest (sets_in rest behind)) (members_of set) ≡ total_over cell place counts (sets_in counts held)
-over_first cell place counts count rest held set behind c s b = rw (c, s, b) refl
 
 pub over_none : (cell : ℕ → ℤ) (place : ℕ) (counts held : List ℕ) → length counts ≡ 0 → cell place ≡ total_over cell place counts (sets_in counts held)
 over_none cell place [] held h = refl
@@ -233,13 +221,6 @@ within_step b from member total more after h t r e =
     let down = r.low in
     let up = r.high in
     record { low = omega (arith, ints, grows, e, low, down); high = omega (arith, ints, grows, e, high, up) }
-
-pub within_more : (b from most : ℕ) (total : ℤ) → from ≤ most → IsWithin (from * b) total → IsWithin (most * b) total
-within_more b from most total h t =
-    let grows : from * b ≤ most * b = mul-le-mul_right b h in
-    let low = t.low in
-    let high = t.high in
-    record { low = omega (arith, ints, grows, low); high = omega (arith, ints, grows, high) }
 
 pub fits_within : (b : ℕ) (z : ℤ) → IsWithin b z → b < 170141183460469231731687303715884105728 → FitsSigned w128 z
 fits_within b (pos n) h s = let high = h.high in fits_signed_from_abs w128 (pos n) (omega (arith, ints, high, s))

@@ -1,5 +1,4 @@
-use Rattle.std.proofs.Common.{◌≡◌, ℕ, ◌<◌, length, take, get_or, get_or-take, length-take-le, arith, ◌∙◌}
-use Rattle.std.proofs.lemmas.Grind.{same_number_lists}
+use Rattle.std.proofs.Common.{arith}
 use Rattle.packed_eval.proofs.Ways.{same_front}
 use Rattle.packed_eval.proofs.calls.write_params.Goals as goal
 

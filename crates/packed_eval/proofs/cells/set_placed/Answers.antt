@@ -1,5 +1,4 @@
-use Rattle.std.proofs.Common.{rules, sym, ap, ◌∙◌, Ok}
-use Rattle.bit_sets.specs.Sets.{members_of}
+use Rattle.std.proofs.Common.{sym, ◌∙◌}
 use Rattle.dp_model.specs.Evaluation.{cells_of, set_cell}
 use Rattle.packed_words.proofs.OnePass.{cell_at, cell_fault}
 use Rattle.packed_eval.proofs.Arguments.{clean_placed}

@@ -1,4 +1,4 @@
-use Rattle.std.proofs.Common.{◌≡◌, ◌≤◌, ℕ, length, ap, pos, ◌∙◌, arith, w64}
+use Rattle.std.proofs.Common.{ap, pos, ◌∙◌, arith, w64}
 use Rattle.std.proofs.lemmas.Int.{to_z_pos}
 use Rattle.packed_eval.proofs.Ways.{few_members_of}
 use Rattle.packed_eval.proofs.cells.size_in.Goals as goal

@@ -1,6 +1,6 @@
-use Rattle.std.proofs.Common.{rules, arith, refl, ◌-◌, ◌+◌, ◌≤◌, take, ◌≡◌, ◌∙◌, ◌++◌, ◌∷◌, [], sym, ap, subst, true, length, get_or, drop, Ok, Err, ℤ, List, ℕ, FitsSigned, w64}
+use Rattle.std.proofs.Common.{rules, arith, refl, ◌-◌, ◌+◌, ◌≤◌, take, ◌≡◌, ◌∙◌, ◌++◌, ◌∷◌, [], sym, ap, subst, true, length, drop, Ok, Err, List, ℕ, FitsSigned, w64}
 use Rattle.std.proofs.lemmas.Int.{to_z-of_z}
-use Rattle.dp_model.specs.Evaluation.{num_value, set_value, cond_value, count_of, counts_of, table_counts, each_holds}
+use Rattle.dp_model.specs.Evaluation.{num_value, cond_value, count_of, table_counts, each_holds}
 use Rattle.dp_model.specs.declared.trees.Arg as args
 use Rattle.dp_model.specs.declared.trees.Cond as conds
 use Rattle.dp_model.specs.declared.trees.Num as nums
@@ -19,7 +19,7 @@ use Rattle.packed_words.specs.Operands.{num_values}
 use Rattle.bit_sets.specs.Sets.{members_of}
 use Rattle.packed_eval.specs.Sums.{sets_in, Termed}
 use Rattle.packed_eval.proofs.Ways.{between}
-use Rattle.packed_eval.proofs.Terms.{arg_values, term_at, term_fault, sum_next, sum_told, fault_told, none_left, drop_next, used_next, fits_next, held_long, number_term, set_term, number_termed, set_termed, number_fault, set_fault}
+use Rattle.packed_eval.proofs.Terms.{term_at, term_fault, sum_next, sum_told, fault_told, none_left, drop_next, used_next, fits_next, held_long, number_term, set_term, number_termed, set_termed}
 use Rattle.packed_eval.proofs.evaluate.+eval.Goals as goal
 
 pub holds-number-requires-in-Numbers : goal.holds-number-requires-in-Numbers

@@ -1,13 +1,11 @@
-use Rattle.std.proofs.Common.{rules, arith, ◌≡◌, ◌≤◌, ℕ, ◌+◌, ◌*◌, ◌-◌, ◌∙◌, sym, ap, take, drop, length, eqb-true, length-drop, length-take-le, to_z, of_z, FitsSigned, w64, ◌+ℤ◌, ℤ, slice_index, mul-le-mul_right}
+use Rattle.std.proofs.Common.{rules, arith, ◌≡◌, ◌≤◌, ◌+◌, ◌*◌, ◌∙◌, sym, length, eqb-true, length-drop, to_z, of_z, FitsSigned, w64, ◌+ℤ◌}
 use Rattle.std.specs.Int.{w128}
 use Rattle.std.proofs.lemmas.Int.{ints, to_z-of_z}
 use Rattle.bit_sets.specs.Sets.{members_of}
 use Rattle.packed_words.specs.Sets.{members_from}
-use Rattle.packed_words.specs.Totals.{total_by}
-use Rattle.state_layout.specs.Signatures.{word_count}
-use Rattle.packed_eval.specs.Sums.{sets_in, total_over, cell_at, bound_for, IsWithin, words_of}
+use Rattle.packed_eval.specs.Sums.{sets_in, total_over, cell_at, bound_for}
 use Rattle.packed_eval.proofs.Foralls.{from_start}
-use Rattle.packed_eval.proofs.Ways.{few_behind, first_there, over_none, over_first, bound_none, bound_small, place_next, total_step, within_step, sum_fits}
+use Rattle.packed_eval.proofs.Ways.{over_none, bound_none, bound_small, place_next, total_step, within_step, sum_fits}
 use Rattle.packed_eval.proofs.sums.+total_from.Goals as goal
 
 pub returns-then-is_empty-clause-value : goal.returns-then-is_empty-clause-value
