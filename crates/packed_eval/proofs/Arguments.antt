@@ -1,0 +1,48 @@
+-- The arguments of a table's cell, evaluated in order.
+use Rattle.std.proofs.Common.{◌≡◌, ℕ, zero, suc, ◌+◌, ◌<◌, true, List, [], ◌∷◌, length, get_or, drop, drop-cons, add-one, min, Result, Ok, Err, ℤ, refl, sym, ◌∙◌, arith}
+use Rattle.std.proofs.lemmas.Bool.{and_parts}
+use Rattle.dp_base.specs.Results.{◌>>=◌}
+use Rattle.packed_words.specs.Places.{most, placed_at}
+use Rattle.packed_words.specs.Sets.{IsClean}
+use Rattle.packed_words.proofs.OnePass.{placed-is}
+use Rattle.dp_model.specs.Evaluation.{count_of, cells_object, members_of, place_from, table_counts, cells_of, set_cell, num_value, set_value, ArgValue, CondValue, NumValue, SetValue, arg_step, cond_step, num_step, set_step}
+use Rattle.dp_model.specs.declared.answers.FaultKind.{FaultKind}
+use Rattle.dp_model.specs.declared.trees.Num as nums
+use Rattle.dp_model.specs.declared.trees.SetEx as sets
+use Rattle.dp_model.specs.declared.parts.PlainState.{PlainState}
+use Rattle.dp_model.specs.declared.whole.Model.{Model}
+use Rattle.eval_room.specs.Fits.{num_fits, all_fit}
+use Rattle.packed_words.specs.Operands.{Tells, at_operands, num_values}
+use Rattle.packed_words.specs.Places.{placed_from, member_on}
+
+module _ (m : Model) (given room : ℕ) where
+  pub fit_at : (ns : List nums.Num) (i : ℕ) (d : nums.Num) → i < length ns → all_fit m ns given room ≡ true → num_fits m (get_or ns i d) given room ≡ true
+  fit_at [] i d p h = absurd (omega arith)
+  fit_at (n ∷ ns) zero d p h = (and_parts (num_fits m n given room) (all_fit m ns given room) h).0
+  fit_at (n ∷ ns) (suc i) d p h = fit_at ns i d (omega arith) (and_parts (num_fits m n given room) (all_fit m ns given room) h).1
+
+module _ (m : Model) (s : PlainState) (given : List ℕ) where
+  one_more : (counts : List ℕ) (led : Result ℕ FaultKind) (z : ℤ) (r : Result (List ℤ) FaultKind) → placed_from counts (r >>= λ zs. Ok (z ∷ zs)) led ≡ placed_from (drop 1 counts) r (member_on counts led z)
+  one_more counts led z (Ok zs) = refl
+  one_more counts led z (Err kind) = refl
+
+  pub place_step : (counts : List ℕ) (ns : List nums.Num) (led : Result ℕ FaultKind) (i : ℕ) (d : nums.Num) (n : nums.Num) (z : ℤ) → i < length ns → n ≡ get_or ns i d → num_value m s n given ≡ Ok z → placed_from (drop 1 counts) (num_values m s (drop (i + 1) ns) given) (member_on counts led z) ≡ placed_from counts (num_values m s (drop i ns) given) led
+  place_step counts ns led i d n z p q e = rw (add-one, drop-cons ns i d, ← q, e) (sym (one_more counts led z (num_values m s (drop (suc i) ns) given)))
+
+  pub place_fault : (counts : List ℕ) (ns : List nums.Num) (led : Result ℕ FaultKind) (i : ℕ) (d : nums.Num) (n : nums.Num) (kind : FaultKind) → i < length ns → n ≡ get_or ns i d → num_value m s n given ≡ Err kind → placed_from counts (num_values m s (drop i ns) given) led ≡ Err kind
+  place_fault counts ns led i d n kind p q e = rw (drop-cons ns i d, ← q, e) refl
+
+  set_cell_is : (e : sets.SetEx) (t : ℕ) (ns : List nums.Num) → sets.out-SetEx e ≡ sets.SetEx-F.SetEx::Cell t ns → (set_value m s e).1 given ≡ at_operands m t (set_cell (cells_of m t)) (num_values m s ns given)
+  set_cell_is e t ns p = rw (sets.fold_out-SetEx ArgValue CondValue NumValue SetValue arg_step (cond_step m s) (num_step m s) (set_step m s) e, p) refl
+
+  pub set_cell_tells : {A : Type 0} (f : A → List ℕ) (r : Result A FaultKind) (e : sets.SetEx) (t : ℕ) (ns : List nums.Num) → sets.out-SetEx e ≡ sets.SetEx-F.SetEx::Cell t ns → Tells f r (at_operands m t (set_cell (cells_of m t)) (num_values m s ns given)) → Tells f r ((set_value m s e).1 given)
+  set_cell_tells f r e t ns p h = rw (set_cell_is e t ns p) h
+
+-- a place that was found so is that of a cell
+pub clean_placed : (m : Model) (t : ℕ) (operands : Result (List ℤ) FaultKind) (at : ℕ) (words : List ℕ) → Ok at ≡ placed_at (table_counts m t) operands → ((p : ℕ) → at ≡ min most p → IsClean (count_of m (cells_object (cells_of m t))) words) → IsClean (count_of m (cells_object (cells_of m t))) words
+clean_placed m t (Err kind) at words e h = absurd (cc)
+clean_placed m t (Ok zs) at words e h = of_members (members_of (table_counts m t) zs) (e ∙ placed-is (table_counts m t) zs 0)
+  where
+    of_members : (r : Result (List ℕ) FaultKind) → Ok at ≡ (r >>= λ members. Ok (min most (place_from 0 (table_counts m t) members))) → IsClean (count_of m (cells_object (cells_of m t))) words
+    of_members (Ok members) e = h (place_from 0 (table_counts m t) members) (let q : at ≡ min most (place_from 0 (table_counts m t) members) = cc in q)
+    of_members (Err kind) e = absurd (cc)

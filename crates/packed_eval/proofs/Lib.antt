@@ -1,0 +1,6 @@
+pub mod Objects
+pub mod Parts
+pub mod Arguments
+pub mod Foralls
+pub mod Ways
+pub mod Terms

@@ -1,0 +1,445 @@
+//! The evaluators, one arm for each form of expression. Operands are evaluated from left to right, and then the
+//! operation is tested. Sets that an operation needs at once lie one behind another in a stack of words.
+
+ghost use Rattle.std.specs.Prelude.{◌≡◌, ◌≤◌, ◌+◌, ◌-◌, ◌∷◌, ◌++◌, [], length, take, drop, OnOk, IsTrue};
+ghost use Rattle.dp_model.specs.Evaluation.{count_of, table_counts, each_holds, num_value, set_value, cond_value};
+ghost use Rattle.bit_sets.specs.Sets.{members_of};
+ghost use Rattle.state_layout.specs.Signatures.{word_count};
+ghost use Rattle.state_layout.specs.Packing.{state_in};
+ghost use Rattle.eval_room.specs.Fits.{num_fits, set_fits, cond_fits, arg_fits, operand_fits, all_fit, more_fits, terms_fit, term_room};
+ghost use Rattle.packed_words.specs.Sets.{IsClean};
+ghost use Rattle.packed_words.specs.Operands.{Tells, operated_by, with_in, without_in, is_within, is_same_as, is_member_in, is_empty, size_of, num_values};
+ghost use Rattle.packed_words.specs.Places.{placed_at};
+ghost use Rattle.packed_words.specs.Totals.{arg_value, sum_value};
+ghost use Rattle.packed_eval.specs.Sums.{Termed};
+ghost use Rattle.packed_words.specs.Ranges.{range_members, IsRange};
+
+use crate::cells::{member_at, member_in, set_placed, size_in};
+use crate::sums::{first_of, one_member, sum_held};
+use dp_base::Seq;
+use dp_model::{Arg, Cond, FaultKind, Num, SetEx, SetOp};
+use eval_room::set_count;
+use packed_words::{
+    Range, Scene, after_first, compares, copy_set, counts, is_empty as is_empty_set, is_same,
+    is_subset, member_of, member_on, next_of, number_in, number_placed, operate, operate_into,
+    others, parameter, range_of, start_more, truth_placed, with, without, words_for, write_more,
+};
+
+/// The value of a number expression. Numbers, variables and parameters are read where it stands.
+#[cycle(eval)]
+#[inline(always)]
+pub(crate) fn number(at: &Scene<'_>, e: &Num, stack: &mut [u64]) -> Result<i64, FaultKind>
+    requires { IsTrue (num_fits at.now.model.now e.now (length at.now.args.now) (length stack.old)) }
+    ensures { result ≡ num_value at.now.model.now (state_in at.now.words.now) e.now at.now.args.now }
+{
+    match e {
+        Num::Fixed(n) => Ok(*n),
+        Num::Var(v) => Ok(number_in(at, *v)),
+        Num::Param(p) => Ok(parameter(at, *p)),
+        _ => composed(at, e, stack),
+    }
+}
+
+/// The value of a number expression that has parts.
+#[cycle(eval)]
+#[inline(never)]
+fn composed(at: &Scene<'_>, e: &Num, stack: &mut [u64]) -> Result<i64, FaultKind>
+    requires { IsTrue (num_fits at.now.model.now e.now (length at.now.args.now) (length stack.old)) }
+    ensures { result ≡ num_value at.now.model.now (state_in at.now.words.now) e.now at.now.args.now }
+{
+    match e {
+        Num::Fixed(n) => Ok(*n),
+        Num::Var(v) => Ok(number_in(at, *v)),
+        Num::Param(p) => Ok(parameter(at, *p)),
+        Num::Cell(t, ns) => number_placed(at.model, *t, place_of(at, *t, ns, stack)),
+        Num::Sum(t, terms) => sum(at, *t, terms, stack),
+        Num::Size(a) => size_of(at, a.get(), stack),
+        Num::Op(op, a, b) => {
+            let x = number(at, a.get(), stack)?;
+            let y = number(at, b.get(), stack)?;
+            operate(*op, x, y)
+        }
+        Num::If(c, a, b) => {
+            if holds(at, c.get(), stack)? {
+                number(at, a.get(), stack)
+            } else {
+                number(at, b.get(), stack)
+            }
+        }
+    }
+}
+
+/// The place of a table's cell, whose arguments are evaluated in order. A fault of a member waits until all are.
+#[cycle(eval)]
+#[inline(never)]
+fn place_of(at: &Scene<'_>, t: u32, ns: &Seq<Num>, stack: &mut [u64]) -> Result<usize, FaultKind>
+    requires { IsTrue (all_fit at.now.model.now ns.now (length at.now.args.now) (length stack.old)) }
+    ensures { result ≡ placed_at (table_counts at.now.model.now t)
+        (num_values at.now.model.now (state_in at.now.words.now) ns.now at.now.args.now) }
+{
+    let mut led = Ok(0);
+    let mut left = counts(at, t);
+    for n in ns.list() {
+        let z = number(at, n, stack)?;
+        led = member_on(left, led, z);
+        left = after_first(left);
+    }
+    led
+}
+
+/// Writes the members of a set expression, whose object type has so many.
+#[cycle(eval)]
+#[inline(never)]
+pub(crate) fn set_into(
+    at: &Scene<'_>,
+    e: &SetEx,
+    count: u32,
+    out: &mut [u64],
+    stack: &mut [u64],
+) -> Result<(), FaultKind>
+    requires fits { IsTrue ((set_fits at.now.model.now e.now).1 (length at.now.args.now) (length stack.old)) }
+    requires count { count ≡ count_of at.now.model.now (set_fits at.now.model.now e.now).0 }
+    requires length { length out.old ≡ word_count count }
+    ensures members { Tells (λ _. members_of out.new) result
+        ((set_value at.now.model.now (state_in at.now.words.now) e.now).1 at.now.args.now) }
+    ensures clean { OnOk result (IsClean count out.new) }
+{
+    match e {
+        SetEx::Var(v) => {
+            copy_set(at, *v, out);
+            Ok(())
+        }
+        SetEx::Cell(t, ns) => set_placed(at, *t, place_of(at, *t, ns, stack), out),
+        SetEx::Op(op, a, b) => {
+            set_into(at, a.get(), count, out, stack)?;
+            operated(at, *op, count, out, b.get(), stack)
+        }
+        SetEx::Not(a) => {
+            set_into(at, a.get(), count, out, stack)?;
+            others(count, out);
+            Ok(())
+        }
+        SetEx::With(n, a) => {
+            let z = number(at, n.get(), stack)?;
+            with_member(at, z, a.get(), count, out, stack)
+        }
+        SetEx::Without(n, a) => {
+            let z = number(at, n.get(), stack)?;
+            without_member(at, z, a.get(), count, out, stack)
+        }
+        SetEx::If(c, a, b) => {
+            if holds(at, c.get(), stack)? {
+                set_into(at, a.get(), count, out, stack)
+            } else {
+                set_into(at, b.get(), count, out, stack)
+            }
+        }
+    }
+}
+
+/// A set operation on a set and its second operand.
+#[cycle(eval)]
+#[inline(never)]
+fn operated(
+    at: &Scene<'_>,
+    op: SetOp,
+    count: u32,
+    out: &mut [u64],
+    b: &SetEx,
+    stack: &mut [u64],
+) -> Result<(), FaultKind>
+    requires fits { IsTrue (operand_fits at.now.model.now (set_fits at.now.model.now b.now) (length at.now.args.now) (length stack.old)) }
+    requires count { count ≡ count_of at.now.model.now (set_fits at.now.model.now b.now).0 }
+    requires length { length out.old ≡ word_count count }
+    requires clean { IsClean count out.old }
+    ensures members { Tells (λ _. members_of out.new) result
+        (operated_by op count (members_of out.old) ((set_value at.now.model.now (state_in at.now.words.now) b.now).1 at.now.args.now)) }
+    ensures clean { OnOk result (IsClean count out.new) }
+{
+    let (mine, rest) = stack.split_at_mut(words_for(count));
+    set_into(at, b, count, mine, rest)?;
+    operate_into(op, count, out, mine);
+    Ok(())
+}
+
+/// Whether a condition holds.
+#[cycle(eval)]
+#[inline(never)]
+pub(crate) fn holds(at: &Scene<'_>, e: &Cond, stack: &mut [u64]) -> Result<bool, FaultKind>
+    requires { IsTrue (cond_fits at.now.model.now e.now (length at.now.args.now) (length stack.old)) }
+    ensures { result ≡ cond_value at.now.model.now (state_in at.now.words.now) e.now at.now.args.now }
+{
+    match e {
+        Cond::Fixed(b) => Ok(*b),
+        Cond::Cell(t, ns) => truth_placed(at.model, *t, place_of(at, *t, ns, stack)),
+        Cond::Numbers(op, a, b) => {
+            let x = number(at, a, stack)?;
+            let y = number(at, b, stack)?;
+            Ok(compares(*op, x, y))
+        }
+        Cond::SameSet(a, b) => {
+            let count = set_count(at.model, a);
+            let (mine, rest) = stack.split_at_mut(words_for(count));
+            set_into(at, a, count, mine, rest)?;
+            is_same_of(at, mine, count, b, rest)
+        }
+        Cond::OtherSet(a, b) => {
+            let count = set_count(at.model, a);
+            let (mine, rest) = stack.split_at_mut(words_for(count));
+            set_into(at, a, count, mine, rest)?;
+            Ok(!is_same_of(at, mine, count, b, rest)?)
+        }
+        Cond::IsIn(n, a) => {
+            let z = number(at, n, stack)?;
+            is_in(at, z, a, stack)
+        }
+        Cond::Subset(a, b) => {
+            let count = set_count(at.model, a);
+            let (mine, rest) = stack.split_at_mut(words_for(count));
+            set_into(at, a, count, mine, rest)?;
+            is_within_of(at, mine, count, b, rest)
+        }
+        Cond::Empty(a) => is_empty(at, a, stack),
+        Cond::Not(c) => Ok(!holds(at, c.get(), stack)?),
+        Cond::And(a, b) => {
+            if holds(at, a.get(), stack)? {
+                holds(at, b.get(), stack)
+            } else {
+                Ok(false)
+            }
+        }
+        Cond::Or(a, b) => {
+            if holds(at, a.get(), stack)? {
+                Ok(true)
+            } else {
+                holds(at, b.get(), stack)
+            }
+        }
+        Cond::If(c, a, b) => {
+            if holds(at, c.get(), stack)? {
+                holds(at, a.get(), stack)
+            } else {
+                holds(at, b.get(), stack)
+            }
+        }
+        Cond::All(over, c) => all_hold(at, range_of(at, *over), c.get(), stack),
+    }
+}
+
+/// Whether a condition holds with each of these members as one more parameter, up to the first where it does not.
+#[cycle(eval)]
+#[inline(never)]
+fn all_hold(at: &Scene<'_>, range: Range, c: &Cond, stack: &mut [u64]) -> Result<bool, FaultKind>
+    requires words { IsRange at.now.model.now range }
+    requires fits { IsTrue (more_fits (cond_fits at.now.model.now c.now) (length at.now.args.now) (length stack.old)) }
+    ensures { result ≡ each_holds
+        (λ k. cond_value at.now.model.now (state_in at.now.words.now) c.now (at.now.args.now ++ k ∷ []))
+        (range_members (state_in at.now.words.now) range) }
+{
+    let (mine, rest) = stack.split_at_mut(at.args.len() + 1);
+    start_more(at.args, mine);
+    let mut from = 0;
+    while let Some(member) = next_of(at, range, from) {
+        write_more(at.args, member, mine);
+        let there = Scene {
+            model: at.model,
+            tables: at.tables,
+            slots: at.slots,
+            words: at.words,
+            args: mine,
+        };
+        if !holds(&there, c, rest)? {
+            return Ok(false);
+        }
+        from = member + 1;
+    }
+    Ok(true)
+}
+
+/// Whether a number is a member of a set.
+#[cycle(eval)]
+#[inline(never)]
+fn is_in(at: &Scene<'_>, z: i64, a: &SetEx, stack: &mut [u64]) -> Result<bool, FaultKind>
+    requires { IsTrue (operand_fits at.now.model.now (set_fits at.now.model.now a.now) (length at.now.args.now) (length stack.old)) }
+    ensures { result ≡ is_member_in (count_of at.now.model.now (set_fits at.now.model.now a.now).0) z
+        ((set_value at.now.model.now (state_in at.now.words.now) a.now).1 at.now.args.now) }
+{
+    let count = set_count(at.model, a);
+    if let SetEx::Var(v) = a {
+        return member_at(at, *v, count, z);
+    }
+    let (mine, rest) = stack.split_at_mut(words_for(count));
+    set_into(at, a, count, mine, rest)?;
+    member_in(count, mine, z)
+}
+
+/// A set with the member of its object type that a number is.
+#[cycle(eval)]
+#[inline(never)]
+fn with_member(
+    at: &Scene<'_>,
+    z: i64,
+    a: &SetEx,
+    count: u32,
+    out: &mut [u64],
+    stack: &mut [u64],
+) -> Result<(), FaultKind>
+    requires fits { IsTrue ((set_fits at.now.model.now a.now).1 (length at.now.args.now) (length stack.old)) }
+    requires count { count ≡ count_of at.now.model.now (set_fits at.now.model.now a.now).0 }
+    requires length { length out.old ≡ word_count count }
+    ensures members { Tells (λ _. members_of out.new) result
+        (with_in count z ((set_value at.now.model.now (state_in at.now.words.now) a.now).1 at.now.args.now)) }
+    ensures clean { OnOk result (IsClean count out.new) }
+{
+    set_into(at, a, count, out, stack)?;
+    let member = member_of(count, z)?;
+    with(count, out, member);
+    Ok(())
+}
+
+/// A set without the member of its object type that a number is.
+#[cycle(eval)]
+#[inline(never)]
+fn without_member(
+    at: &Scene<'_>,
+    z: i64,
+    a: &SetEx,
+    count: u32,
+    out: &mut [u64],
+    stack: &mut [u64],
+) -> Result<(), FaultKind>
+    requires fits { IsTrue ((set_fits at.now.model.now a.now).1 (length at.now.args.now) (length stack.old)) }
+    requires count { count ≡ count_of at.now.model.now (set_fits at.now.model.now a.now).0 }
+    requires length { length out.old ≡ word_count count }
+    ensures members { Tells (λ _. members_of out.new) result
+        (without_in count z ((set_value at.now.model.now (state_in at.now.words.now) a.now).1 at.now.args.now)) }
+    ensures clean { OnOk result (IsClean count out.new) }
+{
+    set_into(at, a, count, out, stack)?;
+    let member = member_of(count, z)?;
+    without(count, out, member);
+    Ok(())
+}
+
+/// Whether a set has no members.
+#[cycle(eval)]
+#[inline(never)]
+fn is_empty(at: &Scene<'_>, a: &SetEx, stack: &mut [u64]) -> Result<bool, FaultKind>
+    requires { IsTrue (operand_fits at.now.model.now (set_fits at.now.model.now a.now) (length at.now.args.now) (length stack.old)) }
+    ensures { result ≡ is_empty ((set_value at.now.model.now (state_in at.now.words.now) a.now).1 at.now.args.now) }
+{
+    let count = set_count(at.model, a);
+    let (mine, rest) = stack.split_at_mut(words_for(count));
+    set_into(at, a, count, mine, rest)?;
+    Ok(is_empty_set(count, mine))
+}
+
+/// How many members a set has.
+#[cycle(eval)]
+#[inline(never)]
+fn size_of(at: &Scene<'_>, a: &SetEx, stack: &mut [u64]) -> Result<i64, FaultKind>
+    requires { IsTrue (operand_fits at.now.model.now (set_fits at.now.model.now a.now) (length at.now.args.now) (length stack.old)) }
+    ensures { result ≡ size_of ((set_value at.now.model.now (state_in at.now.words.now) a.now).1 at.now.args.now) }
+{
+    let count = set_count(at.model, a);
+    let (mine, rest) = stack.split_at_mut(words_for(count));
+    set_into(at, a, count, mine, rest)?;
+    Ok(size_in(count, mine))
+}
+
+/// Whether each member of a set in words is one of another.
+#[cycle(eval)]
+#[inline(never)]
+fn is_within_of(
+    at: &Scene<'_>,
+    x: &[u64],
+    count: u32,
+    b: &SetEx,
+    stack: &mut [u64],
+) -> Result<bool, FaultKind>
+    requires fits { IsTrue (operand_fits at.now.model.now (set_fits at.now.model.now b.now) (length at.now.args.now) (length stack.old)) }
+    requires count { count ≡ count_of at.now.model.now (set_fits at.now.model.now b.now).0 }
+    requires length { length x.now ≡ word_count count }
+    requires clean { IsClean count x.now }
+    ensures { result ≡ is_within (members_of x.now) ((set_value at.now.model.now (state_in at.now.words.now) b.now).1 at.now.args.now) }
+{
+    let (mine, rest) = stack.split_at_mut(words_for(count));
+    set_into(at, b, count, mine, rest)?;
+    Ok(is_subset(x, mine))
+}
+
+/// Whether a set in words has the members of another.
+#[cycle(eval)]
+#[inline(never)]
+fn is_same_of(
+    at: &Scene<'_>,
+    x: &[u64],
+    count: u32,
+    b: &SetEx,
+    stack: &mut [u64],
+) -> Result<bool, FaultKind>
+    requires fits { IsTrue (operand_fits at.now.model.now (set_fits at.now.model.now b.now) (length at.now.args.now) (length stack.old)) }
+    requires count { count ≡ count_of at.now.model.now (set_fits at.now.model.now b.now).0 }
+    requires length { length x.now ≡ word_count count }
+    requires clean { IsClean count x.now }
+    ensures { result ≡ is_same_as (members_of x.now) ((set_value at.now.model.now (state_in at.now.words.now) b.now).1 at.now.args.now) }
+{
+    let (mine, rest) = stack.split_at_mut(words_for(count));
+    set_into(at, b, count, mine, rest)?;
+    Ok(is_same(x, mine))
+}
+
+/// The sum of a table's cells over the members of each set argument. The arguments are written as sets, one behind another,
+/// while those behind them are evaluated; a fault of a member waits until all are.
+#[cycle(eval)]
+#[inline(never)]
+fn sum(at: &Scene<'_>, t: u32, terms: &Seq<Arg>, stack: &mut [u64]) -> Result<i64, FaultKind>
+    requires { IsTrue (terms_fit at.now.model.now (table_counts at.now.model.now t) terms.now (length at.now.args.now) (length stack.old)) }
+    ensures { result ≡ sum_value at.now.model.now (state_in at.now.words.now) t terms.now at.now.args.now }
+{
+    let mut left = counts(at, t);
+    let mut used = 0;
+    let mut waits = None;
+    for e in terms.list() {
+        let count = first_of(left);
+        waits = term_into(at, e, count, waits, used, stack)?;
+        used += words_for(count);
+        left = after_first(left);
+    }
+    match waits {
+        Some(kind) => Err(kind),
+        None => sum_held(at.model, t, counts(at, t), &stack[..used]),
+    }
+}
+
+/// Writes an argument of a sum as a set, behind so many words that are held. What comes back is the fault of a member that
+/// waits.
+#[cycle(eval)]
+#[inline(never)]
+fn term_into(
+    at: &Scene<'_>,
+    e: &Arg,
+    count: u32,
+    waits: Option<FaultKind>,
+    used: usize,
+    stack: &mut [u64],
+) -> Result<Option<FaultKind>, FaultKind>
+    requires room { used + word_count count ≤ length stack.old }
+    requires fits { IsTrue (term_room at.now.model.now (arg_fits at.now.model.now e.now) count (length at.now.args.now) (length stack.old - used - word_count count)) }
+    ensures held { take used stack.new ≡ take used stack.old }
+    ensures value { Termed count waits (members_of (take (word_count count) (drop used stack.new))) result
+        (arg_value at.now.model.now (state_in at.now.words.now) e.now at.now.args.now) }
+{
+    let (_, behind) = stack.split_at_mut(used);
+    let (mine, rest) = behind.split_at_mut(words_for(count));
+    match e {
+        Arg::One(n) => {
+            let z = number(at, n, rest)?;
+            Ok(one_member(count, waits, z, mine))
+        }
+        Arg::Many(set) => {
+            set_into(at, set, count, mine, rest)?;
+            Ok(waits)
+        }
+    }
+}

@@ -1,0 +1,10 @@
+//! The packed evaluators: the value of an expression in a state that lies in words, or the first fault that it meets.
+//! They take no memory.
+#![tactic(auto)]
+
+mod calls;
+mod cells;
+mod evaluate;
+mod sums;
+
+pub use calls::{Scratch, packed_cond, packed_num, packed_set};

@@ -1,0 +1,123 @@
+//! Sums of a table's cells over sets that lie in words, one behind another.
+
+ghost use Rattle.std.specs.Prelude.{◌≡◌, ◌≤◌, ◌<◌, ℕ, ◌∷◌, [], length, slice_index, IfSome, None, min};
+ghost use Rattle.std.proofs.Common.{inl};
+ghost use Rattle.bit_sets.specs.Sets.{members_of};
+ghost use Rattle.dp_model.specs.Costs.{ranged};
+ghost use Rattle.dp_model.specs.Evaluation.{member_of, table_counts, ways, total_of};
+ghost use Rattle.state_layout.specs.Signatures.{word_count};
+ghost use Rattle.packed_words.specs.Places.{most, advanced};
+ghost use Rattle.packed_words.specs.Sets.{IsClean, IsNext};
+ghost use Rattle.packed_eval.specs.Sums.{words_of, sets_in, total_over, cell_at, fault_in, waits_on, Chooses, AreFew, bound_for, IsWithin};
+
+use bit_sets::next_member;
+use dp_model::{FaultKind, Model};
+use packed_words::{after_first, member_of, number_at, numbers_in, ranged, with, words_for};
+
+/// The first of some counts, or 0 where there is none.
+pub fn first_of(counts: &[u32]) -> u32
+    ensures { result ≡ slice_index counts.now 0 }
+{
+    if counts.len() > 0 { counts[0] } else { 0 }
+}
+
+/// Writes the empty set.
+fn clear(out: &mut [u64])
+    ensures members { members_of out.new ≡ [] }
+    ensures clean { (count : ℕ) → IsClean count out.new }
+{
+    for k in 0..out.len() {
+        out[k] = 0;
+    }
+}
+
+/// Writes the set of one member.
+fn write_one(count: u32, member: u32, out: &mut [u64])
+    requires len { length out.old ≡ word_count count }
+    requires member { member < count }
+    ensures { members_of out.new ≡ member ∷ [] }
+{
+    clear(out);
+    with(count, out, member);
+}
+
+/// Writes the set of the one member that a number is. A fault of it waits, and one that waits already stays.
+pub fn one_member(
+    count: u32,
+    waits: Option<FaultKind>,
+    z: i64,
+    out: &mut [u64],
+) -> Option<FaultKind>
+    requires { length out.old ≡ word_count count }
+    ensures waits { result ≡ waits_on count waits (inl z) }
+    ensures member { result ≡ None → Chooses count (inl z) (members_of out.new) }
+{
+    match waits {
+        Some(kind) => Some(kind),
+        None => write_member(count, z, out),
+    }
+}
+
+/// Writes the set of the one member that a number is, or says its fault.
+fn write_member(count: u32, z: i64, out: &mut [u64]) -> Option<FaultKind>
+    requires { length out.old ≡ word_count count }
+    ensures waits { result ≡ fault_in (member_of count z) }
+    ensures member { result ≡ None → Chooses count (inl z) (members_of out.new) }
+{
+    match member_of(count, z) {
+        Ok(member) => {
+            write_one(count, member, out);
+            None
+        }
+        Err(kind) => Some(kind),
+    }
+}
+
+/// The place with one argument more.
+fn next_place(at: usize, count: u32, member: u32) -> usize
+    ensures { result ≡ advanced at count member }
+{
+    at.saturating_mul(count as usize)
+        .saturating_add(member as usize)
+}
+
+/// The first member of a set in words that is not below a number.
+fn next_held(set: &[u64], from: u32) -> Option<u32>
+    requires { length set.now ≤ 64 }
+    ensures value { IsNext result from (members_of set.now) }
+    ensures below { IfSome result (λ k. (from ≤ k) × (k < 8192)) }
+{
+    next_member(set, from)
+}
+
+/// The total of the cells behind a place, over sets that lie in words one behind another.
+fn total_from(cells: &[i64], at: usize, counts: &[u32], held: &[u64]) -> i128
+    requires few { AreFew counts.now }
+    requires len { length held.now ≡ words_of counts.now }
+    ensures value { (place : ℕ) → at ≡ min most place
+        → result ≡ total_over (cell_at cells.now) place counts.now (sets_in counts.now held.now) }
+    ensures within { IsWithin (bound_for (length counts.now)) result }
+{
+    if counts.is_empty() {
+        return i128::from(number_at(cells, at));
+    }
+    let count = first_of(counts);
+    let rest = after_first(counts);
+    let (set, behind) = held.split_at(words_for(count));
+    let mut total = 0;
+    let mut from = 0;
+    while let Some(member) = next_held(set, from) {
+        total += total_from(cells, next_place(at, count, member), rest, behind);
+        from = member + 1;
+    }
+    total
+}
+
+/// The sum of a table over sets of its arguments' object types, which lie in words one behind another.
+pub fn sum_held(model: &Model, t: u32, counts: &[u32], held: &[u64]) -> Result<i64, FaultKind>
+    requires counts { counts.now ≡ table_counts model.now t }
+    requires len { length held.now ≡ words_of counts.now }
+    ensures { result ≡ ranged (total_of model.now t (ways (sets_in counts.now held.now))) }
+{
+    ranged(total_from(numbers_in(model, t), 0, counts, held))
+}
