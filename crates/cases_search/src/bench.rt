@@ -13,7 +13,7 @@ use cost_laws::CostLaw;
 use dom_store::{Added, Covers, DomStore, Taken};
 use dp_model::Model as DpModel;
 use path_log::StepId;
-use spot_eval::SpotEnd;
+use spot_eval::SpotFault;
 use state_layout::{Layout, Node, Packed};
 use std::alloc::{AllocError, Global};
 use std::marker::Model;
@@ -86,7 +86,7 @@ impl<'m, L: CostLaw, K: Covers> Bench<'m, L, K> {
     pub(crate) fn step(&mut self, alloc: Global, number: u32) -> Result<bool, ExpandEnd>
         ensures { self.new ≡ self.old }
     {
-        if !self.expander.enabled(alloc, &self.state, number)? {
+        if !self.expander.enabled(&self.state, number)? {
             return Ok(false);
         }
         self.state = self.expander.apply(alloc, &self.state, number)?;
@@ -100,30 +100,30 @@ impl<'m, L: CostLaw, K: Covers> Bench<'m, L, K> {
         self.expander.start(alloc)
     }
 
-    pub(crate) fn allowed(&mut self, alloc: Global) -> Result<bool, SpotEnd>
+    pub(crate) fn allowed(&mut self) -> Result<bool, SpotFault>
         ensures { self.new ≡ self.old }
     {
-        self.expander.allowed(alloc, &self.state)
+        self.expander.allowed(&self.state)
     }
 
-    pub(crate) fn base_cost(&mut self, alloc: Global) -> Result<Option<i64>, SpotEnd>
+    pub(crate) fn base_cost(&mut self) -> Result<Option<i64>, SpotFault>
         ensures { self.new ≡ self.old }
     {
-        self.expander.base_cost(alloc, &self.state)
+        self.expander.base_cost(&self.state)
     }
 
-    pub(crate) fn enabled(&mut self, alloc: Global, number: u32) -> Result<bool, SpotEnd>
+    pub(crate) fn enabled(&mut self, number: u32) -> Result<bool, SpotFault>
         ensures { self.new ≡ self.old }
     {
-        self.expander.enabled(alloc, &self.state, number)
+        self.expander.enabled(&self.state, number)
     }
 
     /// The floor of the state at hand with this cost so far.
-    pub(crate) fn floor(&mut self, alloc: Global, cost: Option<i64>) -> Result<Option<i64>, SpotEnd>
+    pub(crate) fn floor(&mut self, cost: Option<i64>) -> Result<Option<i64>, SpotFault>
         requires { IfSome cost InRange }
         ensures { self.new ≡ self.old }
     {
-        self.expander.floor(alloc, &self.state, cost)
+        self.expander.floor(&self.state, cost)
     }
 
     /// A node of the state at hand, which has no parent.

@@ -6,7 +6,7 @@ use crate::bench::Bench;
 use crate::layers::{add, many, take};
 use crate::numbers::{cost_of, count_of, floor_of, two_words};
 use crate::sessions::Command;
-use crate::shown::{cost_shown, end_shown, spot_end_shown, step_shown};
+use crate::shown::{cost_shown, end_shown, spot_fault_shown, step_shown};
 use cost_laws::{CostLaw, NO_INCUMBENT};
 use dom_store::Covers;
 use dp_base::{FILE_LIMIT, Seq};
@@ -109,10 +109,10 @@ fn allowed<R: Print + Alloc<A = Global>, L: CostLaw, K: Covers>(
     bench: &mut Bench<'_, L, K>,
 ) -> io::Result<()> {
     let alloc = rt.alloc();
-    match bench.allowed(alloc) {
+    match bench.allowed() {
         Ok(allowed) => println!(rt; "allowed: {allowed}"),
-        Err(end) => {
-            let end = spot_end_shown(alloc, bench.model(), &end)?;
+        Err(met) => {
+            let end = spot_fault_shown(alloc, bench.model(), met)?;
             println!(rt; "allowed: {end}")
         }
     }
@@ -124,9 +124,9 @@ fn base<R: Print + Alloc<A = Global>, L: CostLaw, K: Covers>(
     bench: &mut Bench<'_, L, K>,
 ) -> io::Result<()> {
     let alloc = rt.alloc();
-    let told = match bench.base_cost(alloc) {
+    let told = match bench.base_cost() {
         Ok(cost) => cost_shown(alloc, cost)?,
-        Err(end) => spot_end_shown(alloc, bench.model(), &end)?,
+        Err(met) => spot_fault_shown(alloc, bench.model(), met)?,
     };
     println!(rt; "base: {told}")
 }
@@ -141,10 +141,10 @@ fn enabled<R: Print + Alloc<A = Global>, L: CostLaw, K: Covers>(
     for number in steps_of(alloc, bench.model(), text).list() {
         let step = step_shown(alloc, bench.model(), *number)?;
         let step = step.as_text();
-        match bench.enabled(alloc, *number) {
+        match bench.enabled(*number) {
             Ok(enabled) => println!(rt; "enabled: {step} {enabled}")?,
-            Err(end) => {
-                let end = spot_end_shown(alloc, bench.model(), &end)?;
+            Err(met) => {
+                let end = spot_fault_shown(alloc, bench.model(), met)?;
                 println!(rt; "enabled: {step} {end}")?
             }
         }
@@ -159,9 +159,9 @@ fn floor<R: Print + Alloc<A = Global>, L: CostLaw, K: Covers>(
     text: &str,
 ) -> io::Result<()> {
     let alloc = rt.alloc();
-    let told = match bench.floor(alloc, cost_of(text)) {
+    let told = match bench.floor(cost_of(text)) {
         Ok(floor) => cost_shown(alloc, floor)?,
-        Err(end) => spot_end_shown(alloc, bench.model(), &end)?,
+        Err(met) => spot_fault_shown(alloc, bench.model(), met)?,
     };
     println!(rt; "floor {text}: {told}")
 }

@@ -2,7 +2,7 @@
 
 use dp_model::{FaultKind, Model, PlainState, PlainValue, Spot, Text, step_text};
 use path_log::StepId;
-use spot_eval::SpotEnd;
+use spot_eval::SpotFault;
 use std::alloc::{AllocError, Global};
 use successors::ExpandEnd;
 
@@ -77,15 +77,12 @@ fn fault_shown(
 }
 
 /// Why a part of the model has no value.
-pub(crate) fn spot_end_shown(
+pub(crate) fn spot_fault_shown(
     alloc: Global,
     model: &Model,
-    end: &SpotEnd,
+    met: SpotFault,
 ) -> Result<String, AllocError> {
-    match end {
-        SpotEnd::Fault(met) => fault_shown(alloc, model, met.spot, met.kind, None),
-        SpotEnd::Memory => String::from_str(alloc, "memory"),
-    }
+    fault_shown(alloc, model, met.spot, met.kind, None)
 }
 
 /// Why a call of the expander has no answer.

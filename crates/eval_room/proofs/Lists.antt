@@ -1,12 +1,18 @@
 -- What serves all items of a list.
-use Rattle.std.proofs.Common.{◌≡◌, ℕ, ◌+◌, ◌<◌, ◌≤◌, max, Bool, List, length, get_or, subst, inl, inr, arith}
+use Rattle.std.proofs.Common.{◌≡◌, ℕ, ◌+◌, ◌<◌, ◌≤◌, max, Bool, true, ◌&&◌, eqb, List, length, get_or, subst, inl, inr, arith}
 use Rattle.std.specs.Prelude.{slice_get, Some}
 use Rattle.std.proofs.lemmas.Bool.{cases_eq}
 use Rattle.std.proofs.lemmas.Option.{slice_get-get_or}
+use Rattle.dp_model.specs.Typing.{is_number_kind, is_set_kind, kind_at}
+use Rattle.dp_model.specs.Evaluation.{kind_of, object_of_kind}
 use Rattle.dp_model.specs.declared.parts.BaseCase.{BaseCase}
+use Rattle.dp_model.specs.declared.parts.Effect.TheVariants as effects
+use Rattle.dp_model.specs.declared.trees.Num.{Num}
+use Rattle.dp_model.specs.declared.trees.SetEx.{SetEx}
 use Rattle.dp_model.specs.declared.parts.Transition.{Transition}
 use Rattle.dp_model.specs.declared.whole.Model.{Model}
-use Rattle.eval_room.specs.Fits.{num_fits, cond_fits}
+use Rattle.eval_room.specs.Fits.{num_fits, set_fits, cond_fits, operand_fits}
+use Rattle.eval_room.proofs.Wholes.{beside}
 use Rattle.eval_room.specs.Needs.{Serves, AllServe, ServesTransition, ServesBaseCase, AllServeTransition, AllServeBaseCase, ServesModel, effect_fits, weight_fits}
 
 pub serves_more : {test : ℕ → Bool} {a b : ℕ} → a ≤ b → Serves test a → Serves test b
@@ -27,7 +33,17 @@ transitions_more h s = record { at = λ i x e. transition_more h (s.at i x e) }
 pub base_cases_more : {m : Model} {bs : List BaseCase} {a b : ℕ} → a ≤ b → AllServeBaseCase m bs a → AllServeBaseCase m bs b
 base_cases_more h s = record { at = λ i x e. base_case_more h (s.at i x e) }
 
--- the items before one are served
+-- ---- effects
+
+pub number_serves : (m : Model) (given v : ℕ) (e : Num) (n : ℕ) → is_number_kind (kind_at m.variables v) ≡ true → Serves (num_fits m e given) n → Serves (effect_fits m given (effects.Number v e)) n
+number_serves m given v e n h q = beside (is_number_kind (kind_at m.variables v)) (num_fits m e given) n h q
+
+pub members_serve : (m : Model) (given v : ℕ) (e : SetEx) (n : ℕ) → is_set_kind (kind_at m.variables v) ≡ true → eqb (object_of_kind (kind_of m v)) (set_fits m e).0 ≡ true → Serves (operand_fits m (set_fits m e) given) n → Serves (effect_fits m given (effects.Members v e)) n
+members_serve m given v e n h o q =
+    beside (is_set_kind (kind_at m.variables v)) (λ room. eqb (object_of_kind (kind_of m v)) (set_fits m e).0 && operand_fits m (set_fits m e) given room) n h
+    (beside (eqb (object_of_kind (kind_of m v)) (set_fits m e).0) (operand_fits m (set_fits m e) given) n o q)
+
+-- ---- the items before one are served
 
 module _ {A : Type 0} (P : A → ℕ → Type 0) (grows : (x : A) (a b : ℕ) → a ≤ b → P x a → P x b) where
   pub before_more : (items : List A) (i : ℕ) (d x : A) (most need now : ℕ) → i < length items → x ≡ get_or items i d → now ≡ max need most → P x need → ((j : ℕ) (y : A) → j < i → slice_get items j ≡ Some y → P y most) → (j : ℕ) (y : A) → j < i + 1 → slice_get items j ≡ Some y → P y now

@@ -1,12 +1,14 @@
 -- Which room suffices for a model's expressions.
-use Rattle.std.specs.Prelude.{◌≡◌, ℕ, ◌≤◌, Bool, true, List, length, slice_get, Option, Some, None}
+use Rattle.std.specs.Prelude.{◌≡◌, ℕ, ◌≤◌, ◌==◌, ◌&&◌, Bool, true, List, length, slice_get, Option, Some, None}
 use Rattle.dp_model.specs.declared.parts.BaseCase.{BaseCase}
 use Rattle.dp_model.specs.declared.parts.Effect.{Effect}
 use Rattle.dp_model.specs.declared.parts.Effect.TheVariants as effects
 use Rattle.dp_model.specs.declared.parts.Transition.{Transition}
 use Rattle.dp_model.specs.declared.trees.Num.{Num}
 use Rattle.dp_model.specs.declared.whole.Model.{Model}
-use Rattle.eval_room.specs.Fits.{num_fits, set_fits, cond_fits}
+use Rattle.dp_model.specs.Typing.{is_number_kind, is_set_kind, kind_at}
+use Rattle.dp_model.specs.Evaluation.{kind_of, object_of_kind}
+use Rattle.eval_room.specs.Fits.{num_fits, set_fits, cond_fits, operand_fits}
 
 -- a test holds in so much room and in more
 pub record Serves (test : ℕ → Bool) (need : ℕ) : Type 0 where
@@ -16,9 +18,11 @@ pub record Serves (test : ℕ → Bool) (need : ℕ) : Type 0 where
 pub record AllServe {A : Type 0} (test : A → ℕ → Bool) (items : List A) (need : ℕ) : Type 0 where
   pub at : (i : ℕ) (x : A) → slice_get items i ≡ Some x → Serves (test x) need
 
+-- an effect sets a variable of its kind; a set is held when it is known
 abbrev pub effect_fits : Model → (given : ℕ) → Effect → ℕ → Bool
-effect_fits m given (effects.Number v n) room = num_fits m n given room
-effect_fits m given (effects.Members v set) room = (set_fits m set).1 given room
+effect_fits m given (effects.Number v n) room = is_number_kind (kind_at m.variables v) && num_fits m n given room
+effect_fits m given (effects.Members v set) room =
+    is_set_kind (kind_at m.variables v) && ((object_of_kind (kind_of m v) == (set_fits m set).0) && operand_fits m (set_fits m set) given room)
 
 abbrev pub weight_fits : Model → (given : ℕ) → Option Num → ℕ → Bool
 weight_fits m given (Some n) room = num_fits m n given room

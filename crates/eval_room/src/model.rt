@@ -1,12 +1,14 @@
 //! The room that all expressions of a model need.
 
 ghost use Rattle.std.specs.Prelude.{◌≡◌, IfSome, length};
+ghost use Rattle.dp_model.specs.declared.parts.Effect.TheVariants as effects;
 ghost use Rattle.eval_room.specs.Fits.{num_fits, cond_fits};
 ghost use Rattle.eval_room.specs.Needs.{Serves, AllServe, ServesTransition, ServesBaseCase, AllServeTransition, AllServeBaseCase, ServesModel, effect_fits, weight_fits};
 
-use crate::needs::{cond_need, num_need, set_need};
+use crate::needs::{cond_need, num_need, operand_need};
+use crate::objects::{is_number, is_set, set_object, variable_object};
 use dp_base::Seq;
-use dp_model::{BaseCase, Cond, Effect, Model, Num, Transition};
+use dp_model::{BaseCase, Cond, Effect, Model, Num, SetEx, Transition};
 
 /// How many words each expression of a model can be evaluated in; none where no word holds the number. It takes no memory.
 pub fn room_for(model: &Model) -> Option<usize>
@@ -56,8 +58,31 @@ fn effect_need(model: &Model, e: &Effect, given: usize) -> Option<usize>
     ensures { IfSome result (Serves (effect_fits model.now given e.now)) }
 {
     match e {
-        Effect::Number(_, n) => num_need(model, n, given),
-        Effect::Members(_, set) => set_need(model, set, given),
+        Effect::Number(v, n) => number_need(model, *v, n, given),
+        Effect::Members(v, set) => members_need(model, *v, set, given),
+    }
+}
+
+fn number_need(model: &Model, v: u32, n: &Num, given: usize) -> Option<usize>
+    ensures { IfSome result (Serves (effect_fits model.now given (effects.Number v n.now))) }
+{
+    let need = num_need(model, n, given)?;
+    if is_number(model, v) {
+        Some(need)
+    } else {
+        None
+    }
+}
+
+#[tactic(auto, using(crate::proofs::Lists::members_serve))]
+fn members_need(model: &Model, v: u32, set: &SetEx, given: usize) -> Option<usize>
+    ensures { IfSome result (Serves (effect_fits model.now given (effects.Members v set.now))) }
+{
+    let need = operand_need(model, set, given)?;
+    if is_set(model, v) && variable_object(model, v) == set_object(model, set) {
+        Some(need)
+    } else {
+        None
     }
 }
 

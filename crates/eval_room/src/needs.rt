@@ -133,7 +133,7 @@ pub fn set_need(model: &Model, e: &SetEx, given: usize) -> Option<usize>
 
 /// The room that a set needs with the words that it is written to.
 #[cycle(need)]
-fn operand_need(model: &Model, a: &SetEx, given: usize) -> Option<usize>
+pub fn operand_need(model: &Model, a: &SetEx, given: usize) -> Option<usize>
     ensures { IfSome result (Serves (operand_fits model.now (set_fits model.now a.now) given)) }
 {
     let need = set_need(model, a, given)?;

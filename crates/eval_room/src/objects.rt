@@ -35,7 +35,7 @@ pub fn set_count(model: &Model, e: &SetEx) -> u32
 }
 
 /// The object type of what a variable holds.
-fn variable_object(model: &Model, v: u32) -> u32
+pub fn variable_object(model: &Model, v: u32) -> u32
     ensures { result ≡ object_of_kind (kind_of model.now v) }
 {
     match model.variables.list().get(v as usize) {

@@ -72,8 +72,8 @@ fn args_len(args: &Seq<u32>) -> usize
     args.list().len()
 }
 
-/// The words of a packed state.
-fn words_of<'a>(model: &Model, layout: &Layout, p: &'a Packed) -> &'a [u64]
+/// The words of a packed state, as a scene shows them.
+pub fn words_of<'a>(model: &Model, layout: &Layout, p: &'a Packed) -> &'a [u64]
     requires layout { IsLayoutOf model.now layout.now }
     requires state { IsPackedFor layout.now p.now }
     ensures shown { Shows model.now layout.now result.now }

@@ -28,7 +28,7 @@ use packed_words::{
 /// The value of a number expression. Numbers, variables and parameters are read where it stands.
 #[cycle(eval)]
 #[inline(always)]
-pub(crate) fn number(at: &Scene<'_>, e: &Num, stack: &mut [u64]) -> Result<i64, FaultKind>
+pub fn number(at: &Scene<'_>, e: &Num, stack: &mut [u64]) -> Result<i64, FaultKind>
     requires { IsTrue (num_fits at.now.model.now e.now (length at.now.args.now) (length stack.old)) }
     ensures { result ≡ num_value at.now.model.now (state_in at.now.words.now) e.now at.now.args.now }
 {
@@ -90,7 +90,7 @@ fn place_of(at: &Scene<'_>, t: u32, ns: &Seq<Num>, stack: &mut [u64]) -> Result<
 /// Writes the members of a set expression, whose object type has so many.
 #[cycle(eval)]
 #[inline(never)]
-pub(crate) fn set_into(
+pub fn set_into(
     at: &Scene<'_>,
     e: &SetEx,
     count: u32,
@@ -165,7 +165,7 @@ fn operated(
 /// Whether a condition holds.
 #[cycle(eval)]
 #[inline(never)]
-pub(crate) fn holds(at: &Scene<'_>, e: &Cond, stack: &mut [u64]) -> Result<bool, FaultKind>
+pub fn holds(at: &Scene<'_>, e: &Cond, stack: &mut [u64]) -> Result<bool, FaultKind>
     requires { IsTrue (cond_fits at.now.model.now e.now (length at.now.args.now) (length stack.old)) }
     ensures { result ≡ cond_value at.now.model.now (state_in at.now.words.now) e.now at.now.args.now }
 {

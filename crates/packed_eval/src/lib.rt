@@ -7,4 +7,5 @@ mod cells;
 mod evaluate;
 mod sums;
 
-pub use calls::{Scratch, packed_cond, packed_num, packed_set};
+pub use calls::{Scratch, packed_cond, packed_num, packed_set, words_of};
+pub use evaluate::{holds, number, set_into};

@@ -1,11 +1,11 @@
 //! Why a call of the expander gives no answer.
 
-ghost use Rattle.std.specs.Prelude.{◌≡◌};
+ghost use Rattle.std.specs.Prelude.{◌≡◌, None};
 ghost use Rattle.successors.specs.Answers.{ended};
-ghost use Rattle.successors.specs.declared.ends.ExpandEnd.TheVariants.{Memory};
+ghost use Rattle.successors.specs.declared.ends.ExpandEnd.TheVariants.{Fault, Memory};
 
 use dp_model::{FaultKind, Spot};
-use spot_eval::SpotEnd;
+use spot_eval::{SpotEnd, SpotFault};
 use std::alloc::{AllocError, AllocFailed};
 use thiserror::Error;
 
@@ -34,6 +34,18 @@ impl From<SpotEnd> for ExpandEnd {
                 last: None,
             },
             SpotEnd::Memory => ExpandEnd::Memory,
+        }
+    }
+}
+
+impl From<SpotFault> for ExpandEnd {
+    ghost from_gives = { λ met e. e ≡ Fault met.spot met.kind None };
+
+    fn from(met: SpotFault) -> ExpandEnd {
+        ExpandEnd::Fault {
+            spot: met.spot,
+            kind: met.kind,
+            last: None,
         }
     }
 }

@@ -1,13 +1,13 @@
 //! The expander of a model.
 
-ghost use Rattle.std.specs.Prelude.{◌≡◌, Some, List, IfOk, IfSome, OnErr, OnOk, ℕ};
+ghost use Rattle.std.specs.Prelude.{◌≡◌, Some, List, IfOk, IfSome, OnErr, OnOk, ℕ, length};
+ghost use Rattle.eval_room.specs.Needs.{ServesModel};
 ghost use Rattle.dp_model.specs.Costs.{InRange};
 ghost use Rattle.dp_model.specs.StepTexts.{ground_of};
 ghost use Rattle.dp_model.specs.declared.parts.Transition.{Transition};
 ghost use Rattle.dp_steps.specs.States.{Enabled};
 ghost use Rattle.cost_laws.specs.Orders.{InWideRange, IsLawOf};
 ghost use Rattle.state_layout.specs.Conditions.{IsPackedOf, IsNodeOf};
-ghost use Rattle.spot_eval.specs.Answers.{Answers as Evaluates};
 ghost use Rattle.spot_eval.specs.Looks.{allowed_at, base_at, floor_at};
 ghost use Rattle.spot_eval.specs.Moves.{may_step_at, next_at};
 ghost use Rattle.successors.specs.Answers.{Answers, AnswersBy, here};
@@ -18,24 +18,43 @@ ghost use Rattle.successors.specs.Visits.{expansion};
 use crate::batch::Batch;
 use crate::ends::ExpandEnd;
 use crate::starts::Start;
-use crate::visits::Visitor;
+use crate::visits::{Visitor, words_of};
 use cost_laws::CostLaw;
-use dp_model::{Model as DpModel, PlainState};
+use dp_model::Model as DpModel;
+use eval_room::room_for;
+use packed_spots::in_words;
+use packed_words::{Scene, Tables};
 use path_log::StepId;
-use spot_eval::{Look, SpotEnd};
+use spot_eval::{Look, SpotFault};
 use state_layout::{Layout, Node, Packed};
 use std::alloc::{AllocError, Global};
 use std::marker::{Model, PhantomData};
 
-/// What looks at the states of a model and makes their successors. It lists the forced transitions once, and reads
-/// packed states. A call changes neither the model nor whether dual bounds are used.
+/// A packed state with values of parameters, as an expander looks at it.
+macro_rules! scene_of {
+    ($expander:ident, $state:expr, $values:expr) => {
+        Scene {
+            model: $expander.model,
+            tables: &$expander.tables,
+            slots: $expander.layout.slots(),
+            words: words_of($expander.model, &$expander.layout, $state),
+            args: $values,
+        }
+    };
+}
+
+/// What looks at the states of a model and makes their successors. It lists the forced transitions once, keeps what
+/// evaluation needs of tables and the words that it holds, and reads packed states. A call changes neither the model nor
+/// whether dual bounds are used.
 #[derive(Drop)]
 pub struct Expander<'m, L: CostLaw> {
     model: &'m DpModel,
     prune: bool,
     layout: Layout,
+    tables: Tables,
     forced: Vec<u32>,
     others: Vec<u32>,
+    stack: Vec<u64>,
     law: PhantomData<L>,
 }
 
@@ -43,7 +62,10 @@ impl<'m, L: CostLaw> Model for Expander<'m, L> {
     ghost use Rattle.std.specs.Prelude.{◌≡◌};
     ghost use Rattle.cost_laws.specs.Orders.{IsLawOf};
     ghost use Rattle.state_layout.specs.Conditions.{IsLayoutOf};
+    ghost use Rattle.std.specs.Prelude.{length};
     ghost use Rattle.spot_eval.specs.Moves.{forced_of, others_of};
+    ghost use Rattle.packed_words.specs.Tables.{AreTablesOf};
+    ghost use Rattle.eval_room.specs.Needs.{ServesModel};
     ghost use Rattle.successors.specs.Searches.{Search, search_code};
 
     ghost Value = { Search };
@@ -52,7 +74,7 @@ impl<'m, L: CostLaw> Model for Expander<'m, L> {
 
     ghost view = { λ e. record { model = e.model.now; prune = e.prune } };
 
-    ghost invariant = { λ e. IsLawOf e.model.now L.minimize L.operator × IsLayoutOf e.model.now e.layout × (e.forced.items ≡ forced_of e.model.now) × (e.others.items ≡ others_of e.model.now) };
+    ghost invariant = { λ e. IsLawOf e.model.now L.minimize L.operator × IsLayoutOf e.model.now e.layout × (e.forced.items ≡ forced_of e.model.now) × (e.others.items ≡ others_of e.model.now) × AreTablesOf e.model.now e.tables × ServesModel e.model.now (length e.stack.items) };
 }
 
 impl<'m, L: CostLaw> Expander<'m, L> {
@@ -69,26 +91,12 @@ impl<'m, L: CostLaw> Expander<'m, L> {
             model,
             prune,
             layout: Layout::of(alloc, model)?,
+            tables: Tables::of(alloc, model)?,
             forced: spot_eval::forced_of(alloc, model)?,
             others: spot_eval::others_of(alloc, model)?,
+            stack: stack_for(alloc, model)?,
             law: PhantomData,
         })
-    }
-
-    /// The state that was packed.
-    fn plain(&self, alloc: Global, p: &Packed) -> Result<PlainState, AllocError>
-        requires { IsPackedOf self.now.model p.now }
-        ensures { IfOk result (λ s. s ≡ p.now) }
-    {
-        self.layout.unpack(alloc, p)
-    }
-
-    /// A state of the model in packed form.
-    fn packed(&self, alloc: Global, s: &PlainState) -> Result<Packed, AllocError>
-        requires { IsPackedOf self.now.model s.now }
-        ensures { IfOk result (λ p. p ≡ s.now) }
-    {
-        self.layout.pack(alloc, s)
     }
 
     /// What the target turns out to be. Its node has no cost so far.
@@ -97,12 +105,13 @@ impl<'m, L: CostLaw> Expander<'m, L> {
         ensures fits { IfOk result (StartFits self.old.model) }
         ensures same { self.new ≡ self.old }
     {
-        let target = self.model.target();
-        match spot_eval::look_at::<L>(alloc, self.model, self.prune, target, None)? {
+        let state = self.layout.pack(alloc, self.model.target())?;
+        let at = scene_of!(self, &state, &[]);
+        match packed_spots::look_at::<L>(&at, self.prune, None, &mut self.stack)? {
             Look::NotAllowed => Ok(Start::NotAllowed),
             Look::Base(base) => Ok(Start::Base(base)),
             Look::Open(floor) => Ok(Start::Open(Node {
-                state: self.packed(alloc, target)?,
+                state,
                 cost: None,
                 floor,
                 parent: None,
@@ -112,38 +121,39 @@ impl<'m, L: CostLaw> Expander<'m, L> {
     }
 
     /// Whether a state is allowed: all constraints hold.
-    pub fn allowed(&mut self, alloc: Global, p: &Packed) -> Result<bool, SpotEnd>
+    pub fn allowed(&mut self, p: &Packed) -> Result<bool, SpotFault>
         requires { IsPackedOf self.old.model p.now }
-        ensures allowed { Evaluates result (allowed_at self.old.model p.now) }
+        ensures allowed { result ≡ allowed_at self.old.model p.now }
         ensures same { self.new ≡ self.old }
     {
-        let s = self.plain(alloc, p)?;
-        spot_eval::allowed(alloc, self.model, &s)
+        let at = scene_of!(self, p, &[]);
+        packed_spots::allowed(&at, &mut self.stack)
     }
 
     /// The base cost of a state. `None` where it is not base and no fault is met.
-    pub fn base_cost(&mut self, alloc: Global, p: &Packed) -> Result<Option<i64>, SpotEnd>
+    pub fn base_cost(&mut self, p: &Packed) -> Result<Option<i64>, SpotFault>
         requires { IsPackedOf self.old.model p.now }
-        ensures cost { Evaluates result (base_at self.old.model p.now) }
+        ensures cost { result ≡ base_at self.old.model p.now }
         ensures in_range { IfOk result (λ cost. IfSome cost InRange) }
         ensures same { self.new ≡ self.old }
     {
-        let s = self.plain(alloc, p)?;
-        spot_eval::base_cost(alloc, self.model, &s)
+        let at = scene_of!(self, p, &[]);
+        packed_spots::base_cost(&at, &mut self.stack)
     }
 
     /// Whether a ground transition is considered and enabled in a state: it is enabled, and no forced one that is tested
     /// before it is.
-    pub fn enabled(&mut self, alloc: Global, p: &Packed, number: u32) -> Result<bool, SpotEnd>
+    pub fn enabled(&mut self, p: &Packed, number: u32) -> Result<bool, SpotFault>
         requires { IsPackedOf self.old.model p.now }
-        ensures enabled { Evaluates result (may_step_at self.old.model p.now number) }
+        ensures enabled { result ≡ may_step_at self.old.model p.now number }
         ensures same { self.new ≡ self.old }
     {
-        let s = self.plain(alloc, p)?;
-        spot_eval::may_step(alloc, self.model, &s, number, &self.forced)
+        let at = scene_of!(self, p, &[]);
+        packed_spots::may_step(&at, number, &self.forced, &mut self.stack)
     }
 
     /// The state that an enabled ground transition leads to. Its effects alone are evaluated.
+    #[tactic(auto, using(packed_spots::proofs::Rooms::few_values))]
     pub fn apply(&mut self, alloc: Global, p: &Packed, number: u32) -> Result<Packed, ExpandEnd>
         requires packed { IsPackedOf self.old.model p.now }
         requires enabled { Enabled self.old.model p.now number }
@@ -154,53 +164,60 @@ impl<'m, L: CostLaw> Expander<'m, L> {
         let Some((transition, args)) = self.model.step(number) else {
             unreachable!()
         };
-        let s = self.plain(alloc, p)?;
-        let next = spot_eval::next_state(alloc, self.model, number, transition, args, &s)?;
-        Ok(self.packed(alloc, &next)?)
+        let given = in_words(args.list());
+        let given = &given[..args.list().len()];
+        let at = scene_of!(self, p, given);
+        let next = packed_spots::next_state(
+            alloc,
+            &self.layout,
+            &at,
+            p,
+            number,
+            transition,
+            &mut self.stack,
+        )?;
+        Ok(next)
     }
 
     /// The floor of an inner state with this cost so far. `None` where dual bounds are not used, or the model has none.
-    pub fn floor(
-        &mut self,
-        alloc: Global,
-        p: &Packed,
-        cost: Option<i64>,
-    ) -> Result<Option<i64>, SpotEnd>
+    pub fn floor(&mut self, p: &Packed, cost: Option<i64>) -> Result<Option<i64>, SpotFault>
         requires packed { IsPackedOf self.old.model p.now }
         requires cost { IfSome cost InRange }
-        ensures floor { Evaluates result (floor_at self.old.model self.old.prune p.now cost) }
+        ensures floor { result ≡ floor_at self.old.model self.old.prune p.now cost }
         ensures wide { IfOk result (λ floor. IfSome floor InWideRange) }
         ensures same { self.new ≡ self.old }
     {
-        let s = self.plain(alloc, p)?;
-        spot_eval::floor::<L>(alloc, self.model, self.prune, &s, cost)
+        let at = scene_of!(self, p, &[]);
+        packed_spots::floor::<L>(&at, self.prune, cost, &mut self.stack)
     }
 
     /// Fills an empty batch with the successors of a node.
     fn fill(
-        &self,
+        &mut self,
         alloc: Global,
         node: &Node,
         id: StepId,
         best: u64,
         batch: &mut Batch,
     ) -> Result<(), ExpandEnd>
-        requires node { IsNodeOf self.now.model node.now }
+        requires node { IsNodeOf self.old.model node.now }
         requires empty { batch.old ≡ empty_batch }
-        ensures batch { AnswersBy (λ _. batch.new) result (expansion self.now.model (record { prune = self.now.prune; state = node.now.state; cost = node.now.cost; id = id; best = best })) }
-        ensures fits { OnOk result (BatchFits self.now.model batch.new) }
+        ensures batch { AnswersBy (λ _. batch.new) result (expansion self.old.model (record { prune = self.old.prune; state = node.now.state; cost = node.now.cost; id = id; best = best })) }
+        ensures fits { OnOk result (BatchFits self.old.model batch.new) }
+        ensures same { self.new ≡ self.old }
     {
-        let s = self.plain(alloc, &node.state)?;
-        let visitor: Visitor<'_, L> = Visitor::of(
-            self.model,
-            &self.layout,
-            self.prune,
-            &s,
-            node.cost,
+        let visitor: Visitor<'_, L> = Visitor {
+            model: self.model,
+            tables: &self.tables,
+            layout: &self.layout,
+            prune: self.prune,
+            state: &node.state,
+            cost: node.cost,
             id,
             best,
-        );
-        visitor.fill(alloc, &self.forced, &self.others, batch)
+            law: PhantomData,
+        };
+        visitor.fill(alloc, &self.forced, &self.others, batch, &mut self.stack)
     }
 
     /// The successors of an inner node, which is visited under this step. The batch is emptied first, and filled in order
@@ -226,4 +243,12 @@ impl<'m, L: CostLaw> Expander<'m, L> {
         }
         told
     }
+}
+
+/// Words enough for whatever evaluation holds at once.
+fn stack_for(alloc: Global, model: &DpModel) -> Result<Vec<u64>, AllocError>
+    ensures { IfOk result (λ stack. ServesModel model.now (length stack.items)) }
+{
+    let room = room_for(model).ok_or(AllocError)?;
+    vec![in alloc; 0u64; room]
 }

@@ -5,43 +5,85 @@ ghost use Rattle.dp_base.specs.Results.{each};
 ghost use Rattle.dp_model.specs.Costs.{InRange};
 ghost use Rattle.dp_model.specs.StepTexts.{ground_of};
 ghost use Rattle.cost_laws.specs.Orders.{InWideRange, IsLawOf};
-ghost use Rattle.state_layout.specs.Conditions.{IsLayoutOf};
+ghost use Rattle.state_layout.specs.Conditions.{IsLayoutOf, IsPackedOf};
+ghost use Rattle.state_layout.specs.Packing.{state_in};
+ghost use Rattle.eval_room.specs.Needs.{ServesModel};
+ghost use Rattle.packed_words.specs.Scenes.{AreSmall, Shows};
+ghost use Rattle.packed_words.specs.Tables.{AreTablesOf};
 ghost use Rattle.spot_eval.specs.Answers.{AnswersBy as Evaluates};
 ghost use Rattle.spot_eval.specs.Moves.{forced_of, others_of};
-ghost use Rattle.spot_eval.specs.Ranges.{IsStateIn};
 ghost use Rattle.successors.specs.Answers.{AnswersBy, after};
 ghost use Rattle.successors.specs.Batches.{BatchFits, empty_batch};
-ghost use Rattle.successors.specs.Visits.{expansion, is_pruned, with_costed, with_next, with_node, with_number, with_successor, with_tested};
+ghost use Rattle.successors.specs.Visits.{expansion, is_pruned, with_next, with_node, with_number, with_successor, with_tested};
 
 use crate::batch::{Batch, Offer};
 use crate::ends::ExpandEnd;
 use cost_laws::CostLaw;
-use dp_model::{Model as DpModel, PlainState, Seq, Spot, Transition};
+use dp_model::{Model as DpModel, Spot, Transition};
+use packed_spots::in_words;
+use packed_words::{Scene, Tables};
 use path_log::StepId;
 use spot_eval::{Look, SpotEnd};
-use state_layout::{Layout, Node};
+use state_layout::{Layout, Node, Packed};
 use std::alloc::{AllocError, Global};
 use std::marker::{Model, PhantomData};
 
 /// A visit of a state of a model: with its cost so far, under a step, and with the best word that prunes its successors.
 #[derive(Drop)]
 pub(crate) struct Visitor<'a, L: CostLaw> {
-    model: &'a DpModel,
-    layout: &'a Layout,
-    prune: bool,
-    state: &'a PlainState,
-    cost: Option<i64>,
-    id: StepId,
-    best: u64,
-    law: PhantomData<L>,
+    pub(crate) model: &'a DpModel,
+    pub(crate) tables: &'a Tables,
+    pub(crate) layout: &'a Layout,
+    pub(crate) prune: bool,
+    pub(crate) state: &'a Packed,
+    pub(crate) cost: Option<i64>,
+    pub(crate) id: StepId,
+    pub(crate) best: u64,
+    pub(crate) law: PhantomData<L>,
+}
+
+/// The words of a packed state of the model.
+pub(crate) fn words_of<'p>(model: &DpModel, layout: &Layout, p: &'p Packed) -> &'p [u64]
+    requires layout { IsLayoutOf model.now layout.now }
+    requires packed { IsPackedOf model.now p.now }
+    ensures shown { Shows model.now layout.now result.now }
+    ensures state { state_in result.now ≡ p.now }
+{
+    packed_eval::words_of(model, layout, p)
+}
+
+/// A state of the model, with values of parameters.
+fn scene<'s>(
+    model: &'s DpModel,
+    tables: &'s Tables,
+    layout: &'s Layout,
+    p: &'s Packed,
+    args: &'s [u64],
+) -> Scene<'s>
+    requires tables { AreTablesOf model.now tables.now }
+    requires layout { IsLayoutOf model.now layout.now }
+    requires packed { IsPackedOf model.now p.now }
+    requires small { AreSmall args.now }
+    ensures model { result.model.now ≡ model.now }
+    ensures slots { result.slots.now ≡ layout.now }
+    ensures state { state_in result.words.now ≡ p.now }
+    ensures args { result.args.now ≡ args.now }
+{
+    Scene {
+        model,
+        tables,
+        slots: layout.slots(),
+        words: words_of(model, layout, p),
+        args,
+    }
 }
 
 impl<'a, L: CostLaw> Model for Visitor<'a, L> {
     ghost use Rattle.std.specs.Prelude.{IfSome};
     ghost use Rattle.dp_model.specs.Costs.{InRange};
     ghost use Rattle.cost_laws.specs.Orders.{IsLawOf};
-    ghost use Rattle.state_layout.specs.Conditions.{IsLayoutOf};
-    ghost use Rattle.spot_eval.specs.Ranges.{IsStateIn};
+    ghost use Rattle.state_layout.specs.Conditions.{IsLayoutOf, IsPackedOf};
+    ghost use Rattle.packed_words.specs.Tables.{AreTablesOf};
     ghost use Rattle.successors.specs.Searches.{Visiting, visiting_code};
 
     ghost Value = { Visiting };
@@ -50,37 +92,10 @@ impl<'a, L: CostLaw> Model for Visitor<'a, L> {
 
     ghost view = { λ v. record { model = v.model.now; visit = record { prune = v.prune; state = v.state.now; cost = v.cost; id = v.id; best = v.best } } };
 
-    ghost invariant = { λ v. IsLawOf v.model.now L.minimize L.operator × IsLayoutOf v.model.now v.layout.now × IsStateIn v.model.now v.state.now × IfSome v.cost InRange };
+    ghost invariant = { λ v. IsLawOf v.model.now L.minimize L.operator × AreTablesOf v.model.now v.tables.now × IsLayoutOf v.model.now v.layout.now × IsPackedOf v.model.now v.state.now × IfSome v.cost InRange };
 }
 
 impl<'a, L: CostLaw> Visitor<'a, L> {
-    pub(crate) fn of(
-        model: &'a DpModel,
-        layout: &'a Layout,
-        prune: bool,
-        state: &'a PlainState,
-        cost: Option<i64>,
-        id: StepId,
-        best: u64,
-    ) -> Visitor<'a, L>
-        requires law { IsLawOf model.now L.minimize L.operator }
-        requires layout { IsLayoutOf model.now layout.now }
-        requires state { IsStateIn model.now state.now }
-        requires cost { IfSome cost InRange }
-        ensures { result ≡ record { model = model.now; visit = record { prune = prune; state = state.now; cost = cost; id = id; best = best } } }
-    {
-        Visitor {
-            model,
-            layout,
-            prune,
-            state,
-            cost,
-            id,
-            best,
-            law: PhantomData,
-        }
-    }
-
     /// Whether the best word prunes a node with this floor.
     fn is_pruned(&self, floor: Option<i64>) -> bool
         requires { IfSome floor InWideRange }
@@ -95,14 +110,13 @@ impl<'a, L: CostLaw> Visitor<'a, L> {
     /// Adds a successor that is open: as a letter, or where it is pruned.
     fn push_node(
         &self,
-        alloc: Global,
         number: u32,
         cost: Option<i64>,
-        next: PlainState,
+        next: Packed,
         floor: Option<i64>,
         batch: &mut Batch,
     ) -> Result<(), AllocError>
-        requires state { IsStateIn self.now.model next }
+        requires state { IsPackedOf self.now.model next }
         requires cost { IfSome cost InRange }
         requires floor { IfSome floor InWideRange }
         requires fits { BatchFits self.now.model batch.old }
@@ -110,7 +124,7 @@ impl<'a, L: CostLaw> Visitor<'a, L> {
         ensures fits { OnOk result (BatchFits self.now.model batch.new) }
     {
         let node = Node {
-            state: self.layout.pack(alloc, &next)?,
+            state: next,
             cost,
             floor,
             parent: Some(self.id),
@@ -128,21 +142,23 @@ impl<'a, L: CostLaw> Visitor<'a, L> {
     #[tactic(auto, using(crate::proofs::Batches::offered))]
     fn push_look(
         &self,
-        alloc: Global,
         number: u32,
         cost: Option<i64>,
-        next: PlainState,
+        next: Packed,
         batch: &mut Batch,
+        stack: &mut [u64],
     ) -> Result<(), SpotEnd>
-        requires state { IsStateIn self.now.model next }
+        requires state { IsPackedOf self.now.model next }
         requires cost { IfSome cost InRange }
+        requires room { ServesModel self.now.model (length stack.old) }
         requires fits { BatchFits self.now.model batch.old }
         requires few { batch.old.not_allowed < 65536 }
         ensures batch { Evaluates (λ _. batch.new) result (with_next self.now.model self.now.visit number cost next batch.old) }
         ensures fits { OnOk result (BatchFits self.now.model batch.new) }
         ensures few { OnOk result (batch.new.not_allowed ≤ batch.old.not_allowed + 1) }
     {
-        match spot_eval::look_at::<L>(alloc, self.model, self.prune, &next, cost)? {
+        let at = scene(self.model, self.tables, self.layout, &next, &[]);
+        match packed_spots::look_at::<L>(&at, self.prune, cost, stack)? {
             Look::NotAllowed => batch.not_allowed += 1,
             Look::Base(base) => {
                 let cost = spot_eval::joined_at::<L>(Spot::Total, cost, base)?;
@@ -151,7 +167,7 @@ impl<'a, L: CostLaw> Visitor<'a, L> {
                     transition: number,
                 })?;
             }
-            Look::Open(floor) => self.push_node(alloc, number, cost, next, floor, batch)?,
+            Look::Open(floor) => self.push_node(number, cost, next, floor, batch)?,
         }
         Ok(())
     }
@@ -159,21 +175,22 @@ impl<'a, L: CostLaw> Visitor<'a, L> {
     /// The same, where a fault is told with the ground transition that led to the successor.
     fn push_next(
         &self,
-        alloc: Global,
         number: u32,
         cost: Option<i64>,
-        next: PlainState,
+        next: Packed,
         batch: &mut Batch,
+        stack: &mut [u64],
     ) -> Result<(), ExpandEnd>
-        requires state { IsStateIn self.now.model next }
+        requires state { IsPackedOf self.now.model next }
         requires cost { IfSome cost InRange }
+        requires room { ServesModel self.now.model (length stack.old) }
         requires fits { BatchFits self.now.model batch.old }
         requires few { batch.old.not_allowed < 65536 }
         ensures batch { AnswersBy (λ _. batch.new) result (after number (with_next self.now.model self.now.visit number cost next batch.old)) }
         ensures fits { OnOk result (BatchFits self.now.model batch.new) }
         ensures few { OnOk result (batch.new.not_allowed ≤ batch.old.not_allowed + 1) }
     {
-        match self.push_look(alloc, number, cost, next, batch) {
+        match self.push_look(number, cost, next, batch, stack) {
             Ok(()) => Ok(()),
             Err(SpotEnd::Fault(met)) => Err(ExpandEnd::Fault {
                 spot: met.spot,
@@ -184,76 +201,88 @@ impl<'a, L: CostLaw> Visitor<'a, L> {
         }
     }
 
-    /// Adds the successor that an enabled ground transition makes, with this cost so far.
-    fn push_costed(
-        &self,
-        alloc: Global,
-        number: u32,
-        transition: &Transition,
-        args: &Seq<u32>,
-        cost: Option<i64>,
-        batch: &mut Batch,
-    ) -> Result<(), ExpandEnd>
-        requires step { ground_of self.now.model number ≡ Some (transition.now, args.now) }
-        requires cost { IfSome cost InRange }
-        requires fits { BatchFits self.now.model batch.old }
-        requires few { batch.old.not_allowed < 65536 }
-        ensures batch { AnswersBy (λ _. batch.new) result (with_costed self.now.model self.now.visit batch.old number (transition.now, args.now) cost) }
-        ensures fits { OnOk result (BatchFits self.now.model batch.new) }
-        ensures few { OnOk result (batch.new.not_allowed ≤ batch.old.not_allowed + 1) }
-    {
-        let s = self.state;
-        let next = spot_eval::next_state(alloc, self.model, number, transition, args, s)?;
-        self.push_next(alloc, number, cost, next, batch)
-    }
-
-    /// Adds the successor that an enabled ground transition makes.
+    /// Adds the successor that an enabled ground transition makes, with the values of its parameters at hand.
     fn push_successor(
         &self,
         alloc: Global,
+        at: &Scene<'_>,
         number: u32,
         transition: &Transition,
-        args: &Seq<u32>,
         batch: &mut Batch,
+        stack: &mut [u64],
     ) -> Result<(), ExpandEnd>
-        requires step { ground_of self.now.model number ≡ Some (transition.now, args.now) }
+        requires model { at.now.model.now ≡ self.now.model }
+        requires state { state_in at.now.words.now ≡ self.now.visit.state }
+        requires step { ground_of self.now.model number ≡ Some (transition.now, at.now.args.now) }
+        requires room { ServesModel self.now.model (length stack.old) }
         requires fits { BatchFits self.now.model batch.old }
         requires few { batch.old.not_allowed < 65536 }
-        ensures batch { AnswersBy (λ _. batch.new) result (with_successor self.now.model self.now.visit batch.old number (transition.now, args.now)) }
+        ensures batch { AnswersBy (λ _. batch.new) result (with_successor self.now.model self.now.visit batch.old number (transition.now, at.now.args.now)) }
         ensures fits { OnOk result (BatchFits self.now.model batch.new) }
         ensures few { OnOk result (batch.new.not_allowed ≤ batch.old.not_allowed + 1) }
     {
-        let s = self.state;
-        let cost = spot_eval::cost_at::<L>(
-            alloc, self.model, number, transition, args, s, self.cost,
+        let cost = packed_spots::cost_at::<L>(at, number, transition, self.cost, stack)?;
+        let next = packed_spots::next_state(
+            alloc,
+            self.layout,
+            at,
+            self.state,
+            number,
+            transition,
+            stack,
         )?;
-        self.push_costed(alloc, number, transition, args, cost, batch)
+        self.push_next(number, cost, next, batch, stack)
     }
 
-    /// The same of the number of a ground transition.
-    fn push_number(&self, alloc: Global, number: u32, batch: &mut Batch) -> Result<(), ExpandEnd>
+    /// Adds the successor that an enabled ground transition makes.
+    #[tactic(auto, using(packed_spots::proofs::Rooms::few_values))]
+    fn push_number(
+        &self,
+        alloc: Global,
+        number: u32,
+        batch: &mut Batch,
+        stack: &mut [u64],
+    ) -> Result<(), ExpandEnd>
+        requires room { ServesModel self.now.model (length stack.old) }
         requires fits { BatchFits self.now.model batch.old }
         requires few { batch.old.not_allowed < 65536 }
         ensures batch { AnswersBy (λ _. batch.new) result (with_number self.now.model self.now.visit batch.old number) }
         ensures fits { OnOk result (BatchFits self.now.model batch.new) }
         ensures few { OnOk result (batch.new.not_allowed ≤ batch.old.not_allowed + 1) }
     {
-        match self.model.step(number) {
-            Some((transition, args)) => self.push_successor(alloc, number, transition, args, batch),
-            None => Ok(()),
-        }
+        let Some((transition, args)) = self.model.step(number) else {
+            return Ok(());
+        };
+        let given = in_words(args.list());
+        let given = &given[..args.list().len()];
+        let at = scene(self.model, self.tables, self.layout, self.state, given);
+        self.push_successor(alloc, &at, number, transition, batch, stack)
     }
 
     /// Adds the successor that a ground transition makes which is not forced, if it is enabled.
-    fn push_tested(&self, alloc: Global, number: u32, batch: &mut Batch) -> Result<(), ExpandEnd>
+    #[tactic(auto, using(packed_spots::proofs::Rooms::few_values))]
+    fn push_tested(
+        &self,
+        alloc: Global,
+        number: u32,
+        batch: &mut Batch,
+        stack: &mut [u64],
+    ) -> Result<(), ExpandEnd>
+        requires room { ServesModel self.now.model (length stack.old) }
         requires fits { BatchFits self.now.model batch.old }
         requires few { batch.old.not_allowed < 65536 }
         ensures batch { AnswersBy (λ _. batch.new) result (with_tested self.now.model self.now.visit batch.old number) }
         ensures fits { OnOk result (BatchFits self.now.model batch.new) }
         ensures few { OnOk result (batch.new.not_allowed ≤ batch.old.not_allowed + 1) }
     {
-        if spot_eval::number_enabled(alloc, self.model, number, self.state)? {
-            self.push_number(alloc, number, batch)
+        let Some((transition, args)) = self.model.step(number) else {
+            return Ok(());
+        };
+        let given = in_words(args.list());
+        let given = &given[..args.list().len()];
+        let at = scene(self.model, self.tables, self.layout, self.state, given);
+        if packed_spots::is_enabled(&at, number, transition, stack)? {
+            self.push_successor(alloc, &at, number, transition, batch, stack)
         } else {
             Ok(())
         }
@@ -261,14 +290,21 @@ impl<'a, L: CostLaw> Visitor<'a, L> {
 
     /// Adds the successors that these ground transitions make, where none is forced.
     #[tactic(auto, using(crate::proofs::Batches::empty_fits))]
-    fn push_each(&self, alloc: Global, numbers: &[u32], batch: &mut Batch) -> Result<(), ExpandEnd>
+    fn push_each(
+        &self,
+        alloc: Global,
+        numbers: &[u32],
+        batch: &mut Batch,
+        stack: &mut [u64],
+    ) -> Result<(), ExpandEnd>
+        requires room { ServesModel self.now.model (length stack.old) }
         requires few { length numbers.now ≤ 65536 }
         requires empty { batch.old ≡ empty_batch }
         ensures batch { AnswersBy (λ _. batch.new) result (each (with_tested self.now.model self.now.visit) empty_batch numbers.now) }
         ensures fits { OnOk result (BatchFits self.now.model batch.new) }
     {
         for number in numbers {
-            self.push_tested(alloc, *number, batch)?;
+            self.push_tested(alloc, *number, batch, stack)?;
         }
         Ok(())
     }
@@ -282,16 +318,19 @@ impl<'a, L: CostLaw> Visitor<'a, L> {
         forced: &[u32],
         others: &[u32],
         batch: &mut Batch,
+        stack: &mut [u64],
     ) -> Result<(), ExpandEnd>
+        requires room { ServesModel self.now.model (length stack.old) }
         requires forced { forced.now ≡ forced_of self.now.model }
         requires others { others.now ≡ others_of self.now.model }
         requires empty { batch.old ≡ empty_batch }
         ensures batch { AnswersBy (λ _. batch.new) result (expansion self.now.model self.now.visit) }
         ensures fits { OnOk result (BatchFits self.now.model batch.new) }
     {
-        match spot_eval::first_enabled(alloc, self.model, self.state, forced)? {
-            Some(number) => self.push_number(alloc, number, batch),
-            None => self.push_each(alloc, others, batch),
+        let at = scene(self.model, self.tables, self.layout, self.state, &[]);
+        match packed_spots::first_enabled(&at, forced, stack)? {
+            Some(number) => self.push_number(alloc, number, batch, stack),
+            None => self.push_each(alloc, others, batch, stack),
         }
     }
 }
