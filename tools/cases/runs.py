@@ -32,6 +32,7 @@ TABLES = [
     ("pruned", "pruned", 3),
     ("keep", "keep", 4),
     ("field", "field", None),
+    ("profile", "profile2", 4),
 ]
 TEXTS = ("domain", "problem", "list")
 

@@ -4,7 +4,7 @@ that each show one rule. What `gen` prints is worked out by gen.py.
 Each case is a title, its texts, its runs (words, output and status), and perhaps its runs of which the last line is shown
 alone. A text stays until another takes its place."""
 
-from gen import printed
+from gen import DOMAINS, printed
 
 USAGE = "usage: solve DOMAIN PROBLEM; replay DOMAIN PROBLEM LIST; show DOMAIN PROBLEM; gen KIND SIZE SEED\n"
 
@@ -909,6 +909,34 @@ WRONG_CLIMB_RUNS = [
     ),
 ]
 
+# ---- conditions over lines, and tables as lists
+
+# The climb whose first condition stands over two lines below a header.
+def over_lines(header, condition="(< x"):
+    return with_line(8, f"      - {header}\n        {condition}\n        3)")
+
+
+def path_of_two(b):
+    return f"domain: path\nproblem: two\nobject_numbers: {{ node: 2 }}\ntarget: {{ at: 0 }}\ntable_values:\n  n: 2\n  a: [ 72, 87 ]\n  b: {b}\n"
+
+
+PROFILE_RUNS = [
+    ("a condition over two lines", [("domain", over_lines(">-")), ("problem", problem("a", "x", 0))], [(OFF, JUMP_OUT, 0)]),
+    ("the same with line breaks", [("domain", over_lines("| # kept"))], [(OFF, JUMP_OUT, 0)]),
+    ("an unknown name on its first line", [("domain", over_lines(">-", "(< y"))], [(OFF, "refused domain:8:9+3 30 UnknownName\n", 3)]),
+    ("an unknown name on its second line", [("domain", over_lines("|", "(<").replace("        3)", "        y 3)"))], [(OFF, "refused domain:8:9+3 30 UnknownName\n", 3)]),
+    ("a number behind the header", [("domain", over_lines("|2"))], [(OFF, "refused domain:8:9 17 OutOfProfile\n", 3)]),
+    ("a line that stands less deep", [("domain", over_lines("|").replace("        3)", "       3)"))], [(OFF, "refused domain:10:8 14 Unread\n", 3)]),
+    (
+        "tables as lists",
+        [("domain", DOMAINS["path"]), ("problem", path_of_two("[ 95, 38 ]"))],
+        [(OFF, told("solution 95 1", "two", "pass 1 share 1 visited 2 dropped 0", "verdict optimal 95"), 0)],
+    ),
+    ("a list without its last cell", [("problem", path_of_two("[ 95 ]"))], [(OFF, told("solution 95 1", "two", "pass 1 share 1 visited 2 dropped 0", "verdict optimal 95"), 0)]),
+    ("one cell too many", [("problem", path_of_two("[ 95, 38, 1 ]"))], [(OFF, "refused problem:8:16 44 BadIndex\n", 3)]),
+    ("a list for a cell", [("problem", path_of_two("[ [ 95 ], 38 ]"))], [(OFF, "refused problem:8:8 50 WrongShape\n", 3)]),
+]
+
 RUNS = [
     (
         "words without a meaning",
@@ -986,6 +1014,7 @@ RUNS = [
     ),
     ("the climb or the jump in quotes", [("domain", CLIMB_IN_QUOTES)], [(OFF, JUMP_OUT, 0), (with_budget("2"), JUMP_STOPPED, 11)]),
     *WRONG_CLIMB_RUNS,
+    *PROFILE_RUNS,
     *GEN_RUNS,
 ]
 

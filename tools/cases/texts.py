@@ -2,12 +2,14 @@
 """Writes the cases of crates/cases_texts and what they must give: texts.py VECTORS, from the top of the repository.
 
 VECTORS is a folder with yaml_profile.json and expressions.json: lists of texts, each with its tree or expression, or
-with its refusal, worked out by programs that share no code with the readers. The lines of files are worked out here."""
+with its refusal, worked out by programs that share no code with the readers. Block scalars stand in block_texts.py, also where the
+table refuses them. The lines of files are worked out here."""
 
 import json
 
 from asked import asked
-from case_lines import entry, escaped
+from block_texts import READ, REFUSED
+from case_lines import entry, escaped, unescaped_bytes
 
 CRATE = "crates/cases_texts"
 
@@ -93,8 +95,10 @@ def read(folder, name, key, shown):
 
 
 def main(folder):
-    yaml = [("yaml", *it) for it in read(folder, "yaml_profile", "tree", tree)]
+    blocks = {unescaped_bytes(text): answer for text, answer in READ + REFUSED}
+    yaml = [("yaml", text, blocks.pop(text.encode(), answer)) for text, answer in read(folder, "yaml_profile", "tree", tree)]
     yaml.append(("yaml", b"a: \xff\n", "refused 1:4 10 NotUtf8"))
+    yaml += [("yaml", *it) for it in blocks.items()]
     cases = {
         "lines": [("lines", it, lines_of(it)) for it in FILES],
         "yaml": yaml,

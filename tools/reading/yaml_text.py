@@ -318,7 +318,7 @@ class Reader:
                 following += 1
             blank = following - k - 1
             if following <= last:
-                deeper = not line or line[0] in BLANKS or lines[following][1][0] in BLANKS
+                deeper = not line or line.startswith(b" ") or lines[following][1].startswith(b" ")
                 gap = b"\n" * (blank + 1) if not folded or deeper else (b"\n" * blank if blank else b" ")
                 for one in gap:
                     text.append(one)

@@ -9,7 +9,7 @@ use std::thread::Threads;
 use std::{fs, io};
 
 /// The files of cases, in the order in which they are run.
-const FILES: [&str; 13] = [
+const FILES: [&str; 14] = [
     "one_variable.txt",
     "first_form.txt",
     "refusals.txt",
@@ -18,6 +18,7 @@ const FILES: [&str; 13] = [
     "pruned.txt",
     "keep.txt",
     "field.txt",
+    "profile.txt",
     "small.txt",
     "orders.txt",
     "models.txt",

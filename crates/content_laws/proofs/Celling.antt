@@ -1,5 +1,5 @@
 -- The cells of a model: what is written is what an expression reads, and else the default.
-use Rattle.std.proofs.Common.{◌≡◌, ℕ, zero, suc, ◌<◌, Bool, true, ◌==◌, List, [], ◌∷◌, length, map, replicate, Option, Some, None, Ok, refl, sym, ap, ◌∙◌, subst, arith}
+use Rattle.std.proofs.Common.{◌≡◌, ℕ, zero, suc, ◌<◌, Bool, true, ◌==◌, List, [], ◌∷◌, length, map, replicate, Option, Some, None, Ok, ⊎_elim, refl, sym, ap, ◌∙◌, subst, arith}
 use Rattle.std.specs.Prelude.{codes, slice_get, slice_set, option_map}
 use Rattle.std.specs.List.{Contains, list_all}
 use Rattle.std.proofs.lemmas.Bool.{and_parts}
@@ -37,7 +37,9 @@ use Rattle.content_laws.proofs.Outcomes.{ok_same}
 use Rattle.content_laws.proofs.Meanings.{meaning_steps}
 use Rattle.content_laws.proofs.Forms.{reads_as}
 use Rattle.content_laws.proofs.Filling.{cell_at}
-use Rattle.content_laws.proofs.Tabling.{members_below, place_below, Changed, table_told, names_set, at_end, by_only, by_none}
+use Rattle.content_laws.proofs.Apart.{members_below, place_below}
+use Rattle.content_laws.proofs.Listing.{item_below}
+use Rattle.content_laws.proofs.Tabling.{Changed, table_told, names_set, at_end, by_only, by_none}
 use Rattle.content_laws.proofs.Targeting.{name_at, entries_are}
 
 -- ---- what is there
@@ -92,7 +94,8 @@ blank_cell (kinds.Set object) n (Members set) i less = ap (option_map Members) (
 
 written_below : (counts : List ℕ) (tree : Tree) (ks : List ℕ) (value : Tree) → IsWritten counts tree ks value → AreBelow counts ks
 written_below [] tree ks value is = subst (AreBelow []) (sym is.0) tt
-written_below (count ∷ counts) tree ks value is = members_below (count ∷ counts) is.2.items ks is.2.are_members
+written_below (count ∷ counts) tree ks value is =
+    ⊎_elim (item_below (count ∷ counts) tree ks value) (λ entry. members_below (count ∷ counts) entry.2.items ks entry.2.are_members) is
 
 -- ---- names stay
 

@@ -8,6 +8,8 @@ pub mod Joining
 pub mod Targeting
 pub mod Placing
 pub mod Filling
+pub mod Apart
+pub mod Listing
 pub mod Tabling
 pub mod Celling
 pub mod Working

@@ -1,11 +1,9 @@
 -- Tables whose cells a problem gives: which cell has what is written under the table's name.
-use Rattle.std.proofs.Common.{◌≡◌, ◌≤◌, ℕ, zero, suc, ◌+◌, ◌*◌, ◌<◌, Bool, true, false, nat_lt, if◌then◌else◌, List, [], ◌∷◌, length, map, replicate, Option, Some, None, Ok, ◌⊎◌, inl, inr, ⊎_elim, refl, sym, ap, ◌∙◌, subst, arith}
+use Rattle.std.proofs.Common.{◌≡◌, ℕ, zero, suc, ◌<◌, Bool, false, List, [], ◌∷◌, length, map, replicate, Option, Some, None, Ok, ◌⊎◌, inl, inr, ⊎_elim, refl, sym, ap, ◌∙◌, subst, arith}
 use Rattle.std.specs.Prelude.{slice_get, slice_set, option_and_then}
-use Rattle.std.proofs.Math.Nat.{mul-le-mul_right}
 use Rattle.std.proofs.lemmas.List.{length-replicate}
-use Rattle.std.proofs.lemmas.Bool.Decides.{eqb_tells, Decides-ltb}
+use Rattle.std.proofs.lemmas.Bool.Decides.{eqb_tells}
 use Rattle.std.proofs.lemmas.Option.{slice_get_within}
-use Rattle.dp_base.specs.declared.place.Place.{Place}
 use Rattle.dp_base.specs.Results.{◌>>=◌, each}
 use Rattle.dp_model.specs.Evaluation.{place_from}
 use Rattle.dp_model.specs.Typing.{type_count, cell_count}
@@ -14,85 +12,24 @@ use Rattle.dp_model.specs.declared.parts.Cells.{Cells}
 use Rattle.dp_model.specs.declared.parts.TableData.{TableData}
 use Rattle.yaml_tree.specs.declared.tree.Tree.{Tree}
 use Rattle.yaml_tree.specs.declared.tree.Pair.{Pair}
-use Rattle.yaml_tree.specs.Fields.{tree_place, scalar_text, map_entries}
-use Rattle.dypdl_nodes.specs.Reads.{Reads, refuse, or_refuse}
+use Rattle.yaml_tree.specs.declared.tree.Tree as trees
+use Rattle.yaml_tree.specs.Fields.{tree_place, scalar_text, form_items, form_entries, list_items, map_entries}
+use Rattle.dypdl_nodes.specs.Reads.{Reads, or_refuse}
 use Rattle.dypdl_nodes.specs.Shapes.{entries_of}
-use Rattle.dypdl_nodes.specs.Scalars.{count_of, index_of}
 use Rattle.dypdl_data.specs.Names.{number_named, known_key}
 use Rattle.dypdl_data.specs.Tables.{cell_of}
-use Rattle.dypdl_data.specs.Cells.{kind_of_cells, with_cell, held_count, Filling, filling_step, cells_given, table_given, changed_table, table_names, value_step}
+use Rattle.dypdl_data.specs.Cells.{kind_of_cells, with_cell, held_count, Filling, filling_step, filled_by, listed, listed_or_filled, cells_given, table_given, changed_table, table_names, value_step}
 use Rattle.dypdl_data.specs.declared.kinds.Cell.{Cell}
 use Rattle.dypdl_load.proofs.Lists.{bound}
-use Rattle.content_laws.specs.Places.{AreMembers, IsKey}
-use Rattle.content_laws.specs.CellTexts.{IsWritten, AreBelow}
+use Rattle.content_laws.specs.Places.{IsKey}
+use Rattle.content_laws.specs.CellTexts.{IsItem, IsEntry, IsWritten, AreBelow}
 use Rattle.content_laws.proofs.Members.{contains_at, at_contains}
 use Rattle.content_laws.proofs.Outcomes.{ok_same, there_is, set_there, set_elsewhere}
 use Rattle.content_laws.proofs.Placing.{of_key, to_key}
+use Rattle.content_laws.proofs.Apart.{members_below, one_place, place_below}
+use Rattle.content_laws.proofs.Listing.{item_below, alike_listed, put_listed, left_listed}
 use Rattle.content_laws.proofs.Filling.{cell_at, Alike, alike_itself, alike_then, with_alike, cell_put, alike_all, left, put}
 use Rattle.content_laws.proofs.Targeting.{name_at, entries_are}
-
--- ---- places
-
-index_below : (count : ℕ) (item : Tree) (k : ℕ) → index_of count item ≡ Ok k → k < count
-index_below count item k e =
-    let i = bound (count_of item) (on_index count item) k e in
-    tested count i.0 k (tree_place item) i.2
-  where
-    on_index : ℕ → Tree → ℕ → Reads ℕ
-    on_index count item i = if nat_lt i count then Ok i else refuse 44 (tree_place item)
-
-    by_test : (b : Bool) (i k : ℕ) (at : Place) → (if b then Ok i else refuse 44 at) ≡ Ok k → (b ≡ true) × (i ≡ k)
-    by_test true i k at e = (refl, ok_same i k e)
-    by_test false i k at e = absurd (cc e)
-
-    tested : (count i k : ℕ) (at : Place) → (if nat_lt i count then Ok i else refuse 44 at) ≡ Ok k → k < count
-    tested count i k at e = (let t = by_test (nat_lt i count) i k at e in subst (λ (n : ℕ). n < count) t.1 ((Decides-ltb i count).0 t.0))
-
-pub members_below : (counts : List ℕ) (items : List Tree) (ks : List ℕ) → AreMembers counts items ks → AreBelow counts ks
-members_below [] [] [] are = tt
-members_below [] [] (k ∷ ks) are = absurd are
-members_below [] (item ∷ items) ks are = absurd are
-members_below (count ∷ counts) [] ks are = absurd are
-members_below (count ∷ counts) (item ∷ items) [] are = absurd are
-members_below (count ∷ counts) (item ∷ items) (k ∷ ks) are = (index_below count item k are.0, members_below counts items ks are.1)
-
--- different members have different places
-not_less : (c a b k l : ℕ) → k < c → a < b → a * c + k ≡ b * c + l → ⊥
-not_less c a b k l small less e =
-    let step : a + 1 ≤ b = omega arith in
-    let more : (a + 1) * c ≤ b * c = mul-le-mul_right c step in
-    omega (arith, more, e, small)
-
-heads_same : (c a b k l : ℕ) → k < c → l < c → a * c + k ≡ b * c + l → a ≡ b
-heads_same c a b k l small also e =
-    let not_a : a < b → ⊥ = λ less. not_less c a b k l small less e in
-    let not_b : b < a → ⊥ = λ less. not_less c b a l k also less (sym e) in
-    omega (arith, not_a, not_b)
-
-pub one_place : (counts ks ls : List ℕ) (a b : ℕ) → AreBelow counts ks → AreBelow counts ls → place_from a counts ks ≡ place_from b counts ls → (a ≡ b) × (ks ≡ ls)
-one_place [] [] [] a b x y e = (e, refl)
-one_place [] [] (l ∷ ls) a b x y e = absurd y
-one_place [] (k ∷ ks) ls a b x y e = absurd x
-one_place (c ∷ counts) [] ls a b x y e = absurd x
-one_place (c ∷ counts) (k ∷ ks) [] a b x y e = absurd y
-one_place (c ∷ counts) (k ∷ ks) (l ∷ ls) a b x y e =
-    let rest = one_place counts ks ls (a * c + k) (b * c + l) x.1 y.1 e in
-    let head : a ≡ b = heads_same c a b k l x.0 y.0 rest.0 in
-    let rows : a * c ≡ b * c = ap (λ (n : ℕ). n * c) head in
-    let last : k ≡ l = omega arith in
-    (head, (λ i. last i ∷ rest.1 i))
-
--- a place is below the count of cells
-pub place_below : (objects : List ObjectType) (args ks : List ℕ) (from : ℕ) → AreBelow (map (type_count objects) args) ks → place_from from (map (type_count objects) args) ks < (from + 1) * cell_count objects args
-place_below objects [] [] from below = omega arith
-place_below objects [] (k ∷ ks) from below = absurd below
-place_below objects (o ∷ args) [] from below = absurd below
-place_below objects (o ∷ args) (k ∷ ks) from below =
-    let c = type_count objects o in
-    let rest = place_below objects args ks (from * c + k) below.1 in
-    let less : from * c + k + 1 ≤ (from + 1) * c = (let k_less : k < c = below.0 in omega arith) in
-    let more : (from * c + k + 1) * cell_count objects args ≤ (from + 1) * c * cell_count objects args = mul-le-mul_right (cell_count objects args) less in
-    omega (arith, rest, more)
 
 -- ---- one table
 
@@ -137,8 +74,8 @@ module _ (objects : List ObjectType) (element : Bool) (held : Cells) (tree : Tre
     abbrev on_entries : List Pair → Reads Cells
     on_entries entries = each (filling_step objects counts (kind_of_cells element held)) start entries >>= λ filling. Ok filling.cells
 
-    many : cells_given objects (arg ∷ args) (kind_of_cells element held) held tree ≡ Ok new → GivenCells objects (arg ∷ args) element held tree new
-    many e =
+    mapped : list_items tree ≡ None → filled_by objects counts (kind_of_cells element held) held tree ≡ Ok new → GivenCells objects (arg ∷ args) element held tree new
+    mapped no_list e =
         let entries = bound (entries_of tree) on_entries new e in
         let filling = bound (each (filling_step objects counts (kind_of_cells element held)) start entries.0) (λ filling. Ok filling.cells) new entries.2 in
         whole entries.0 filling.0 (entries_are tree entries.0 entries.1) filling.1 (ok_same filling.0.cells new filling.2)
@@ -147,24 +84,71 @@ module _ (objects : List ObjectType) (element : Bool) (held : Cells) (tree : Tre
             → GivenCells objects (arg ∷ args) element held tree new
         whole entries filling all e same = record {
           alike = subst (Alike held) same (alike_all objects counts (kind_of_cells element held) entries start filling e);
-          written = λ full ks value is.
-              (let found = at_contains (map_entries tree) is.0 is.1 in
-              let at : slice_get entries found.0 ≡ Some is.0 = ap (λ (es : List Pair). slice_get es found.0) all ∙ found.1 in
-              let below = members_below counts is.2.items ks is.2.are_members in
-              let inside = place_below objects (arg ∷ args) ks 0 below in
-              let less : place_from 0 counts ks < held_count held = omega (arith, inside, full) in
-              let has = put objects counts (kind_of_cells element held) element entries start filling found.0 (place_from 0 counts ks) is.0 e refl (length-replicate (held_count held) false) at (to_key counts is.0.key ks is.2) less in
-              (has.0, ap (cell_of objects (kind_of_cells element held)) is.3 ∙ has.1, ap (λ (c : Cells). cell_at c (place_from 0 counts ks)) (sym same) ∙ has.2));
-          left = λ ks below none.
-              (ap (λ (c : Cells). cell_at c (place_from 0 counts ks)) (sym same)
-              ∙ left objects counts (kind_of_cells element held) entries start filling (place_from 0 counts ks) e
-              (λ j pair at named.
-              (let found = of_key counts pair.key (place_from 0 counts ks) named in
-              let other = members_below counts found.1.items found.0 found.1.are_members in
-              let one = one_place counts ks found.0 0 0 below other found.2 in
-              none pair.value
-              (pair, contains_at (map_entries tree) j pair (ap (λ (es : List Pair). slice_get es j) (sym all) ∙ at), subst (IsKey counts pair.key) (sym one.1) found.1, refl))));
+          written = λ full ks value is. ⊎_elim (λ item. absurd (no_item ks value item)) (by_entry full ks value) is;
+          left = left_so;
         }
+          where
+            no_item : (ks : List ℕ) (value : Tree) → IsItem counts tree ks value → ⊥
+            no_item [] value item = item
+            no_item (k ∷ ks) value item = (let t : None ≡ Some item.0 = sym no_list ∙ item.2 in cc)
+
+            by_entry : held_count held ≡ cell_count objects (arg ∷ args) → (ks : List ℕ) (value : Tree) → IsEntry counts tree ks value → (cell : Cell) × (cell_of objects (kind_of_cells element held) value ≡ Ok cell) × (cell_at new (place_from 0 counts ks) ≡ Some cell)
+            by_entry full ks value is =
+                (let found = at_contains (map_entries tree) is.0 is.1 in
+                let at : slice_get entries found.0 ≡ Some is.0 = ap (λ (es : List Pair). slice_get es found.0) all ∙ found.1 in
+                let below = members_below counts is.2.items ks is.2.are_members in
+                let inside = place_below objects (arg ∷ args) ks 0 below in
+                let less : place_from 0 counts ks < held_count held = omega (arith, inside, full) in
+                let has = put objects counts (kind_of_cells element held) element entries start filling found.0 (place_from 0 counts ks) is.0 e refl (length-replicate (held_count held) false) at (to_key counts is.0.key ks is.2) less in
+                (has.0, ap (cell_of objects (kind_of_cells element held)) is.3 ∙ has.1, ap (λ (c : Cells). cell_at c (place_from 0 counts ks)) (sym same) ∙ has.2))
+
+            left_so : (ks : List ℕ) → AreBelow counts ks → ((value : Tree) → IsWritten counts tree ks value → ⊥) → cell_at new (place_from 0 counts ks) ≡ cell_at held (place_from 0 counts ks)
+            left_so ks below none =
+                (ap (λ (c : Cells). cell_at c (place_from 0 counts ks)) (sym same)
+                ∙ left objects counts (kind_of_cells element held) entries start filling (place_from 0 counts ks) e
+                (λ j pair at named.
+                (let found = of_key counts pair.key (place_from 0 counts ks) named in
+                let other = members_below counts found.1.items found.0 found.1.are_members in
+                let one = one_place counts ks found.0 0 0 below other found.2 in
+                none pair.value
+                (inr (pair, contains_at (map_entries tree) j pair (ap (λ (es : List Pair). slice_get es j) (sym all) ∙ at), subst (IsKey counts pair.key) (sym one.1) found.1, refl)))))
+
+    -- a list has no entries
+    no_entries : (items : List Tree) → list_items tree ≡ Some items → map_entries tree ≡ []
+    no_entries items is = of_form (trees.out-Tree tree) is where
+      of_form : (form : trees.Tree-F Tree Pair) → form_items form ≡ Some items → form_entries form ≡ []
+      of_form (trees.Tree-F.Scalar at text) e = refl
+      of_form (trees.Tree-F.List at items') e = refl
+      of_form (trees.Tree-F.Map at entries) e = absurd (cc e)
+
+    itemized : (items : List Tree) → list_items tree ≡ Some items → listed objects (kind_of_cells element held) counts 0 held tree ≡ Ok new → GivenCells objects (arg ∷ args) element held tree new
+    itemized items a_list e = record {
+      alike = alike_listed objects element (kind_of_cells element held) counts 0 held new tree e;
+      written = λ full ks value is. ⊎_elim (by_item full ks value) (λ entry. absurd (no_entry ks value entry)) is;
+      left = λ ks below none. left_listed objects (kind_of_cells element held) counts 0 ks held new tree e below (λ value is. none value (inl is));
+    }
+      where
+        no_entry : (ks : List ℕ) (value : Tree) → IsEntry counts tree ks value → ⊥
+        no_entry ks value entry =
+            (let found = at_contains (map_entries tree) entry.0 entry.1 in
+            let none : slice_get [] found.0 ≡ Some entry.0 = ap (λ (es : List Pair). slice_get es found.0) (sym (no_entries items a_list)) ∙ found.1 in
+            nothing found.0 entry.0 none)
+          where
+            nothing : (i : ℕ) (pair : Pair) → slice_get [] i ≡ Some pair → ⊥
+            nothing i pair h = cc
+
+        by_item : held_count held ≡ cell_count objects (arg ∷ args) → (ks : List ℕ) (value : Tree) → IsItem counts tree ks value → (cell : Cell) × (cell_of objects (kind_of_cells element held) value ≡ Ok cell) × (cell_at new (place_from 0 counts ks) ≡ Some cell)
+        by_item full ks value is =
+            (let below = item_below counts tree ks value is in
+            let inside = place_below objects (arg ∷ args) ks 0 below in
+            let less : place_from 0 counts ks < held_count held = omega (arith, inside, full) in
+            put_listed objects element (kind_of_cells element held) counts 0 ks held new tree value e refl is less)
+
+    many : cells_given objects (arg ∷ args) (kind_of_cells element held) held tree ≡ Ok new → GivenCells objects (arg ∷ args) element held tree new
+    many e = by_shape (list_items tree) refl e where
+      by_shape : (o : Option (List Tree)) → list_items tree ≡ o → listed_or_filled objects counts (kind_of_cells element held) held tree o ≡ Ok new → GivenCells objects (arg ∷ args) element held tree new
+      by_shape (Some items) is gives = itemized items is gives
+      by_shape None is gives = mapped is gives
 
 given_cells : (objects : List ObjectType) (args : List ℕ) (element : Bool) (held : Cells) (tree : Tree) (new : Cells) → cells_given objects args (kind_of_cells element held) held tree ≡ Ok new
     → GivenCells objects args element held tree new

@@ -1,5 +1,5 @@
 -- Cells of tables: what is written for a cell, and what an expression reads there.
-use Rattle.std.specs.Prelude.{◌≡◌, ℕ, ◌<◌, List, [], ◌∷◌, map, codes, slice_get, Some, Ok, pos, ⊤}
+use Rattle.std.specs.Prelude.{◌≡◌, ◌⊎◌, ℕ, ◌<◌, List, [], ◌∷◌, map, codes, slice_get, Some, Ok, pos, ⊤}
 use Rattle.std.specs.List.{Contains}
 use Rattle.dp_model.specs.Evaluation.{counts_of, num_value, set_value, cond_value}
 use Rattle.dp_model.specs.declared.trees.Num.{Num}
@@ -11,7 +11,7 @@ use Rattle.dp_model.specs.declared.parts.PlainState.{PlainState}
 use Rattle.dp_model.specs.declared.whole.Model.{Model}
 use Rattle.yaml_tree.specs.declared.tree.Tree.{Tree}
 use Rattle.yaml_tree.specs.declared.tree.Pair.{Pair}
-use Rattle.yaml_tree.specs.Fields.{scalar_text, map_entries}
+use Rattle.yaml_tree.specs.Fields.{scalar_text, list_items, map_entries}
 use Rattle.dypdl_data.specs.Names.{number_named}
 use Rattle.dypdl_data.specs.Tables.{cell_of, heads_of}
 use Rattle.dypdl_data.specs.Cells.{kind_of_cells, table_names}
@@ -34,10 +34,22 @@ ReadsAs m t ks (Number n) = (s : PlainState) (given : List ℕ) → num_value m 
 ReadsAs m t ks (Truth b) = (s : PlainState) (given : List ℕ) → cond_value m s (conds.Cell t (as_arguments ks)) given ≡ Ok b
 ReadsAs m t ks (Members set) = (s : PlainState) (given : List ℕ) → (set_value m s (sets.Cell t (as_arguments ks))).1 given ≡ Ok set
 
--- Under a table's name a map gives values to keys. A table without arguments has one cell, of which the value stands there alone.
+-- In lists as deep as there are arguments each item belongs to the member that counts the items before it.
+abbrev pub IsItem : (counts : List ℕ) → Tree → (ks : List ℕ) → (value : Tree) → Type 0
+IsItem [] tree [] value = value ≡ tree
+IsItem [] tree (k ∷ ks) value = ⊥
+IsItem (count ∷ counts) tree [] value = ⊥
+IsItem (count ∷ counts) tree (k ∷ ks) value =
+    (items : List Tree) × (item : Tree) × (list_items tree ≡ Some items) × (k < count) × (slice_get items k ≡ Some item) × IsItem counts item ks value
+
+-- A map gives values to keys.
+abbrev pub IsEntry : (counts : List ℕ) → Tree → (ks : List ℕ) → (value : Tree) → Type 0
+IsEntry counts tree ks value = (pair : Pair) × Contains (map_entries tree) pair × IsKey counts pair.key ks × (value ≡ pair.value)
+
+-- Under a table's name stand lists or a map. A table without arguments has one cell, of which the value stands there alone.
 abbrev pub IsWritten : (counts : List ℕ) → (under_name : Tree) → (ks : List ℕ) → (value : Tree) → Type 0
 IsWritten [] tree ks value = (ks ≡ []) × (value ≡ tree)
-IsWritten (count ∷ counts) tree ks value = (pair : Pair) × Contains (map_entries tree) pair × IsKey (count ∷ counts) pair.key ks × (value ≡ pair.value)
+IsWritten (count ∷ counts) tree ks value = IsItem (count ∷ counts) tree ks value ⊎ IsEntry (count ∷ counts) tree ks value
 
 -- one member of each object type
 abbrev pub AreBelow : (counts : List ℕ) → List ℕ → Type 0

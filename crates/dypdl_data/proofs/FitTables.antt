@@ -17,15 +17,15 @@ use Rattle.dp_model.specs.declared.parts.Cells.TheVariants as cells
 use Rattle.dp_model.specs.declared.parts.TableData.{TableData}
 use Rattle.yaml_tree.specs.declared.tree.Tree.{Tree}
 use Rattle.yaml_tree.specs.declared.tree.Pair.{Pair}
-use Rattle.yaml_tree.specs.Fields.{tree_place, value_in}
+use Rattle.yaml_tree.specs.Fields.{tree_place, list_items, value_in}
 use Rattle.dypdl_nodes.specs.Reads.{Reads, refuse, holds}
-use Rattle.dypdl_nodes.specs.Shapes.{few_items, items_or_none, entries_of, entries_or_none, keyed, needed}
+use Rattle.dypdl_nodes.specs.Shapes.{items_of, few_items, items_or_none, entries_of, entries_or_none, keyed, needed}
 use Rattle.dypdl_nodes.specs.Scalars.{number_of, truth_of}
 use Rattle.dypdl_data.specs.Names.{new_name, known_key}
 use Rattle.dypdl_data.specs.Objects.{object_names, known_object}
 use Rattle.dypdl_data.specs.Variables.{variable_names, object_at}
 use Rattle.dypdl_data.specs.Tables.{table_keys, members_of, cell_of, plain_cell, default_of, type_of, cell_kind_of, arg_step, args_of, head_of, head_names, head_step, words_of_cell, words_of_head, few_words, heads_of, filled, is_element, blank_table}
-use Rattle.dypdl_data.specs.Cells.{place_of, kind_of_cells, with_cell, held_count, Filling, filling_step, cells_given, table_given, changed_table, table_names, value_step, values_of, tables_of}
+use Rattle.dypdl_data.specs.Cells.{place_of, kind_of_cells, with_cell, held_count, Filling, filling_step, filled_by, Listing, CellsRead, item_step, listed, listed_or_filled, cells_given, table_given, changed_table, table_names, value_step, values_of, tables_of}
 use Rattle.dypdl_data.specs.declared.kinds.TypeWord.{TypeWord}
 use Rattle.dypdl_data.specs.declared.kinds.TypeWord.TheVariants as words
 use Rattle.dypdl_data.specs.declared.kinds.CellKind.{CellKind}
@@ -323,18 +323,46 @@ one_filled os element n counts old filling pair h =
     then_if (CellFits os (kind_of_cells element old)) (λ f. Same os element n old f.cells) (cell_of os (kind_of_cells element old) pair.value) (λ cell. Ok (record { cells = with_cell filling.cells i cell; given = slice_set filling.given i true })) (cell_of_fits os (kind_of_cells element old) pair.value)
     (λ cell fits. cell_set_on os element n old filling.cells i cell h fits)))
 
-given_same : (os : List ObjectType) (element : Bool) (n : ℕ) (args : List ℕ) (held : Cells) (tree : Tree) → are_cells os n held ≡ true → IfOk (cells_given os args (kind_of_cells element held) held tree) (Same os element n held)
-given_same os element n [] held tree e =
-    then_if (CellFits os (kind_of_cells element held)) (Same os element n held) (cell_of os (kind_of_cells element held) tree) (λ cell. Ok (with_cell held 0 cell)) (cell_of_fits os (kind_of_cells element held) tree)
-    (λ cell fits. cell_set os element n held 0 cell e fits)
-given_same os element n (arg ∷ args) held tree e =
-    let counts : List ℕ = map (type_count os) (arg ∷ args) in
+filled_same : (os : List ObjectType) (element : Bool) (n : ℕ) (counts : List ℕ) (held : Cells) (tree : Tree) → are_cells os n held ≡ true → IfOk (filled_by os counts (kind_of_cells element held) held tree) (Same os element n held)
+filled_same os element n counts held tree e =
     let step : Filling → Pair → Reads Filling = filling_step os counts (kind_of_cells element held) in
     let start : Filling = record { cells = held; given = replicate (held_count held) false } in
     after (Same os element n held) (entries_of tree) (λ entries. each step start entries >>= λ filling. Ok filling.cells) (λ entries.
     then_if (λ f. Same os element n held f.cells) (Same os element n held) (each step start entries) (λ filling. Ok filling.cells)
     (each_keeps (λ f. Same os element n held f.cells) step entries start (λ f pair h. one_filled os element n counts held f pair h) (same_itself os element n held e))
     (λ f h. h))
+
+-- lists keep what their items keep
+abbrev ReadsSame : List ObjectType → Bool → ℕ → Cells → CellsRead → Type 0
+ReadsSame os element n old Inner = (at : ℕ) (held : Cells) (tree : Tree) → Same os element n old held → IfOk (Inner at held tree) (Same os element n old)
+
+one_listed : (os : List ObjectType) (element : Bool) (n : ℕ) (old : Cells) (count : ℕ) (Inner : CellsRead) (at : ℕ) (listing : Listing) (item : Tree) → ReadsSame os element n old Inner → Same os element n old listing.cells → IfOk (item_step count Inner at listing item) (λ l. Same os element n old l.cells)
+one_listed os element n old count Inner at listing item keeps h =
+    after (λ l. Same os element n old l.cells) (holds (nat_lt listing.next count) 44 (tree_place item)) _ (λ below.
+    then_if (Same os element n old) (λ l. Same os element n old l.cells) (Inner (at * count + listing.next) listing.cells item) (λ held. Ok (record { next = listing.next + 1; cells = held })) (keeps (at * count + listing.next) listing.cells item h)
+    (λ held k. k))
+
+listed_same : (os : List ObjectType) (element : Bool) (n : ℕ) (old : Cells) (counts : List ℕ) → ReadsSame os element n old (listed os (kind_of_cells element old) counts)
+listed_same os element n old [] at held tree h =
+    then_if (CellFits os (kind_of_cells element old)) (Same os element n old) (cell_of os (kind_of_cells element old) tree) (λ cell. Ok (with_cell held at cell)) (cell_of_fits os (kind_of_cells element old) tree)
+    (λ cell fits. cell_set_on os element n old held at cell h fits)
+listed_same os element n old (count ∷ counts) at held tree h =
+    let step : Listing → Tree → Reads Listing = item_step count (listed os (kind_of_cells element old) counts) at in
+    let start : Listing = record { next = 0; cells = held } in
+    after (Same os element n old) (items_of tree) (λ items. each step start items >>= λ listing. Ok listing.cells) (λ items.
+    then_if (λ l. Same os element n old l.cells) (Same os element n old) (each step start items) (λ listing. Ok listing.cells)
+    (each_keeps (λ l. Same os element n old l.cells) step items start (λ l item k. one_listed os element n old count (listed os (kind_of_cells element old) counts) at l item (listed_same os element n old counts) k) h)
+    (λ l k. k))
+
+listed_or_filled_same : (os : List ObjectType) (element : Bool) (n : ℕ) (counts : List ℕ) (held : Cells) (tree : Tree) (o : Option (List Tree)) → are_cells os n held ≡ true → IfOk (listed_or_filled os counts (kind_of_cells element held) held tree o) (Same os element n held)
+listed_or_filled_same os element n counts held tree (Some items) e = listed_same os element n held counts 0 held tree (same_itself os element n held e)
+listed_or_filled_same os element n counts held tree None e = filled_same os element n counts held tree e
+
+given_same : (os : List ObjectType) (element : Bool) (n : ℕ) (args : List ℕ) (held : Cells) (tree : Tree) → are_cells os n held ≡ true → IfOk (cells_given os args (kind_of_cells element held) held tree) (Same os element n held)
+given_same os element n [] held tree e =
+    then_if (CellFits os (kind_of_cells element held)) (Same os element n held) (cell_of os (kind_of_cells element held) tree) (λ cell. Ok (with_cell held 0 cell)) (cell_of_fits os (kind_of_cells element held) tree)
+    (λ cell fits. cell_set os element n held 0 cell e fits)
+given_same os element n (arg ∷ args) held tree e = listed_or_filled_same os element n (map (type_count os) (arg ∷ args)) held tree (list_items tree) e
 
 record Changed (os : List ObjectType) (old new : TableData) : Type 0 where
   fit : is_table os new ≡ true

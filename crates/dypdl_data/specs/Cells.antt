@@ -1,5 +1,5 @@
 -- The cells that a problem gives.
-use Rattle.std.specs.Prelude.{ℕ, ◌+◌, ◌*◌, Bool, true, false, not, ◌==◌, if◌then◌else◌, List, [], ◌∷◌, length, map, replicate, get_or, slice_get, slice_set, Option, None, Some, Ok}
+use Rattle.std.specs.Prelude.{ℕ, ◌+◌, ◌*◌, Bool, true, false, not, ◌==◌, if◌then◌else◌, nat_lt, List, [], ◌∷◌, length, map, replicate, get_or, slice_get, slice_set, Option, None, Some, Ok}
 use Rattle.dp_base.specs.declared.place.Place.{Place}
 use Rattle.dp_base.specs.Results.{◌>>=◌, each}
 use Rattle.dp_model.specs.Typing.{type_count}
@@ -11,9 +11,9 @@ use Rattle.dp_model.specs.declared.parts.TableData.{TableData}
 use Rattle.yaml_tree.specs.declared.tree.Tree.{Tree}
 use Rattle.yaml_tree.specs.declared.tree.Tree as trees
 use Rattle.yaml_tree.specs.declared.tree.Pair.{Pair}
-use Rattle.yaml_tree.specs.Fields.{tree_place}
+use Rattle.yaml_tree.specs.Fields.{tree_place, list_items}
 use Rattle.dypdl_nodes.specs.Reads.{Reads, refuse, holds}
-use Rattle.dypdl_nodes.specs.Shapes.{entries_of, entries_or_none}
+use Rattle.dypdl_nodes.specs.Shapes.{items_of, entries_of, entries_or_none}
 use Rattle.dypdl_nodes.specs.Scalars.{index_of}
 use Rattle.dypdl_data.specs.Names.{known_key}
 use Rattle.dypdl_data.specs.Tables.{cell_of, heads_of, blank_table}
@@ -85,10 +85,42 @@ filled_by objects counts kind held tree =
     each (filling_step objects counts kind) (record { cells = held; given = replicate (held_count held) false }) entries >>= λ filling.
     Ok filling.cells
 
+-- ---- cells by lists, as deep as the table has arguments
+
+-- the index of the next item of a list, and the cells so far
+pub record Listing : Type 0 where
+  pub next : ℕ
+  pub cells : Cells
+
+-- what is read into cells, from the place of a cell on
+abbrev pub CellsRead : Type 0
+CellsRead = (at : ℕ) → Cells → Tree → Reads Cells
+
+-- An item gives the cells of its index, which lie behind those of the indices before it.
+abbrev pub item_step : (count : ℕ) → CellsRead → (at : ℕ) → Listing → Tree → Reads Listing
+item_step count Inner at listing item =
+    holds (nat_lt listing.next count) 44 (tree_place item) >>= λ below.
+    Inner (at * count + listing.next) listing.cells item >>= λ held.
+    Ok (record { next = listing.next + 1; cells = held })
+
+-- By no more arguments the tree is the cell at a place. By one with this count it is a list, whose items belong to the
+-- indices from 0 on, in order; cells of missing items stay. `at` is the place by the arguments before these.
+abbrev pub listed : List ObjectType → CellKind → (counts : List ℕ) → CellsRead
+listed objects kind [] at held tree = cell_of objects kind tree >>= λ cell. Ok (with_cell held at cell)
+listed objects kind (count ∷ counts) at held tree =
+    items_of tree >>= λ items.
+    each (item_step count (listed objects kind counts) at) (record { next = 0; cells = held }) items >>= λ listing.
+    Ok listing.cells
+
+-- a table with arguments is given by a list, or else by a map
+abbrev pub listed_or_filled : List ObjectType → (counts : List ℕ) → CellKind → Cells → Tree → Option (List Tree) → Reads Cells
+listed_or_filled objects counts kind held tree (Some items) = listed objects kind counts 0 held tree
+listed_or_filled objects counts kind held tree None = filled_by objects counts kind held tree
+
 -- A table without arguments has one cell, which is given alone.
 abbrev pub cells_given : List ObjectType → (args : List ℕ) → CellKind → Cells → Tree → Reads Cells
 cells_given objects [] kind held tree = cell_of objects kind tree >>= λ cell. Ok (with_cell held 0 cell)
-cells_given objects (arg ∷ args) kind held tree = filled_by objects (map (type_count objects) (arg ∷ args)) kind held tree
+cells_given objects (arg ∷ args) kind held tree = listed_or_filled objects (map (type_count objects) (arg ∷ args)) kind held tree (list_items tree)
 
 abbrev pub table_given : List ObjectType → TableData → Tree → Reads TableData
 table_given objects t tree = cells_given objects t.args (kind_of_cells t.element t.cells) t.cells tree >>= λ held. Ok (record t { cells = held })

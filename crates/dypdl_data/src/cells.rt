@@ -1,18 +1,18 @@
 //! The cells that a problem gives.
 
-ghost use Rattle.std.specs.Prelude.{◌≡◌, ◌<◌, ◌*◌, ◌+◌, IfOk, length, map, slice_set, slice_get, option_map, get_or, true, false};
+ghost use Rattle.std.specs.Prelude.{◌≡◌, ◌<◌, ◌*◌, ◌+◌, ◌∷◌, IfOk, length, map, slice_set, slice_get, option_map, get_or, true, false};
 ghost use Rattle.dp_base.specs.Results.{Answers, AnswersBy};
 ghost use Rattle.dp_model.specs.Typing.{type_count};
 ghost use Rattle.dypdl_nodes.specs.Reads.{told};
-ghost use Rattle.dypdl_data.specs.Cells.{place_by, place_of, kind_of_cells, with_cell, held_count, filling_step, filled_by, cells_given, table_given, changed_table, table_names};
+ghost use Rattle.dypdl_data.specs.Cells.{place_by, place_of, kind_of_cells, with_cell, held_count, filling_step, filled_by, listed, cells_given, table_given, changed_table, table_names};
 ghost use Rattle.dypdl_data.specs.Fillings.{filling};
 
 use crate::heads::{cell_of, type_count};
 use crate::kinds::{Cell, CellKind};
 use dp_base::Seq;
 use dp_model::{Cells, ObjectType, TableData};
-use dypdl_nodes::rules::{TWICE_NAME, WRONG_SHAPE};
-use dypdl_nodes::{LoadEnd, entries_of, index_of, refused};
+use dypdl_nodes::rules::{BAD_INDEX, TWICE_NAME, WRONG_SHAPE};
+use dypdl_nodes::{LoadEnd, entries_of, index_of, items_of, refused};
 use std::alloc::{AllocError, Global};
 use std::mem;
 use yaml_tree::{Pair, Tree};
@@ -184,7 +184,57 @@ fn filled_by(
     Ok(cells)
 }
 
-/// The cells of a table, of which some are given: of one without arguments the one that it has.
+/// The cells that a tree gives from a place on: by no counts the one there, else those that lists as deep as there are counts
+/// give. `at` is the place by the arguments before these.
+#[cycle(listed)]
+fn listed(
+    alloc: Global,
+    objects: &Seq<ObjectType>,
+    kind: CellKind,
+    counts: &[u32],
+    at: usize,
+    held: Cells,
+    tree: &Tree,
+) -> Result<Cells, LoadEnd>
+    ensures { Answers told result (listed objects.now kind counts.now at held tree.now) }
+{
+    let [count, counts @ ..] = counts else {
+        let cell = cell_of(alloc, objects, kind, tree)?;
+        return Ok(with_cell(held, at, cell));
+    };
+    items_listed(alloc, objects, kind, *count, counts, at, held, tree)
+}
+
+/// The cells that the items of a list give: item i belongs to index i of an argument with this count, and cells of missing
+/// items stay. `BAD_INDEX` at an item whose index is not below the count.
+#[cycle(listed)]
+fn items_listed(
+    alloc: Global,
+    objects: &Seq<ObjectType>,
+    kind: CellKind,
+    count: u32,
+    counts: &[u32],
+    at: usize,
+    held: Cells,
+    tree: &Tree,
+) -> Result<Cells, LoadEnd>
+    ensures { Answers told result (listed objects.now kind (count ∷ counts.now) at held tree.now) }
+{
+    let mut cells = held;
+    let mut next = 0;
+    for item in items_of(tree)? {
+        if next >= count {
+            return Err(refused(BAD_INDEX, item.place()));
+        }
+        let place = next_place(at, count, next)?;
+        cells = listed(alloc, objects, kind, counts, place, cells, item)?;
+        next += 1;
+    }
+    Ok(cells)
+}
+
+/// The cells of a table, of which some are given: of one without arguments the one that it has, of another by lists as deep
+/// as it has arguments or by a map.
 fn cells_given(
     alloc: Global,
     objects: &Seq<ObjectType>,
@@ -200,7 +250,12 @@ fn cells_given(
         return Ok(with_cell(held, 0, cell));
     }
     let counts = arg_counts(alloc, objects, args)?;
-    filled_by(alloc, objects, &counts, kind, held, tree)
+    match tree {
+        Tree::List(_, _) => listed(alloc, objects, kind, &counts, 0, held, tree),
+        Tree::Scalar(_, _) | Tree::Map(_, _) => {
+            filled_by(alloc, objects, &counts, kind, held, tree)
+        }
+    }
 }
 
 /// Gives cells of a table. After a refusal the table is not to be used.

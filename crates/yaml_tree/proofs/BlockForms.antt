@@ -1,11 +1,16 @@
 -- Scalars and flow forms in block style.
-use Rattle.std.proofs.Common.{◌≡◌, ℕ, zero, suc, true, false, List, length, Result, Ok, Err, refl, sym, ap, ◌∙◌, subst}
+use Rattle.std.proofs.Common.{◌≡◌, ℕ, zero, suc, true, false, List, [], length, Result, Ok, Err, refl, sym, ap, ◌∙◌, subst}
 use Rattle.yaml_tree.specs.Rest.{Rest, place, on}
 use Rattle.yaml_tree.specs.Scalars.{part_of, with_text, added, scalar_at, plain, plain_part}
 use Rattle.yaml_tree.specs.Openings.{opening}
 use Rattle.yaml_tree.specs.declared.opening.Opening.{Opening}
-use Rattle.yaml_tree.specs.declared.opening.Opening.TheVariants.{Plain, Quoted, OpenQuote, FlowList, FlowMap, Outside, Nothing}
-use Rattle.yaml_tree.specs.Flow.{Outcome, Reading, FormOf, Form}
+use Rattle.yaml_tree.specs.declared.opening.Opening.TheVariants.{Plain, Quoted, OpenQuote, FlowList, FlowMap, Header, Outside, Nothing}
+use Rattle.dp_base.specs.declared.place.Place.{Place}
+use Rattle.yaml_tree.specs.Fields.{form_place, tree_place}
+use Rattle.yaml_tree.specs.BlockScalars.{block_scalar}
+use Rattle.yaml_tree.specs.declared.header.Style.{Style}
+use Rattle.yaml_tree.specs.declared.header.Chomping.{Chomping}
+use Rattle.yaml_tree.specs.Flow.{Outcome, Reading, header_line, FormOf, Form}
 use Rattle.yaml_tree.specs.Blocks.{ended, whole_form, LineValue}
 use Rattle.yaml_tree.specs.BlockSteps.{scalar_made, continued_form, continued, whole_from}
 use Rattle.yaml_tree.specs.declared.tree.Tree.{Tree}
@@ -36,6 +41,16 @@ part-continues least from x is =
     let same : whole ≡ x = cc is in
     subst (λ (y : Tree × Rest). Continues least from y) same (begun-continues least from)
 
+-- ---- the content of a block scalar stands below its header
+
+-- the place of what was begun is that of the header
+header-whole : (style : Style) (chomping : Chomping) (least : ℕ) (from : Rest) (x : Tree × Rest) → Ok x ≡ header_line from → block_scalar style chomping least (place from) x.1 ≡ block_scalar style chomping least (tree_place x.0) x.1
+header-whole style chomping least from x is =
+    let same : (trees.Scalar (place from) [], record from { here = [] }) ≡ x = cc is in
+    let at : tree_place (trees.Scalar (place from) []) ≡ place from = ap form_place (trees.outs-Scalar (place from) []) in
+    let there : place from ≡ tree_place x.0 = sym at ∙ ap (λ (y : Tree × Rest). tree_place y.0) same in
+    ap (λ (p : Place). block_scalar style chomping least p x.1) there
+
 -- ---- the whole form is decided by what was begun
 
 form_of-whole : (N K : Reading) (o : Opening) (least : ℕ) (from : Rest) (x : Tree × Rest) → FormOf false N K o from (Ok x) → whole_form o least from (Ok x) ≡ whole_from o least x.0 x.1
@@ -44,6 +59,7 @@ form_of-whole N K (Quoted single inside) least from x is = refl
 form_of-whole N K OpenQuote least from x is = refl
 form_of-whole N K FlowList least from x is = refl
 form_of-whole N K FlowMap least from x is = refl
+form_of-whole N K (Header style chomping) least from x is = header-whole style chomping least from x is
 form_of-whole N K (Outside feature) least from x is = refl
 form_of-whole N K Nothing least from x is = refl
 

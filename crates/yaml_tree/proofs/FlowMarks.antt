@@ -6,7 +6,7 @@ use Rattle.yaml_tree.specs.Characters.{begins, ends_scalar}
 use Rattle.yaml_tree.specs.Flow.{may_be_key, is_key_colon}
 use Rattle.yaml_tree.specs.FlowSteps.{BeginsAscii}
 use Rattle.yaml_tree.specs.declared.opening.Opening.{Opening}
-use Rattle.yaml_tree.specs.declared.opening.Opening.TheVariants.{Plain, Quoted, OpenQuote, FlowList, FlowMap, Outside, Nothing}
+use Rattle.yaml_tree.specs.declared.opening.Opening.TheVariants.{Plain, Quoted, OpenQuote, FlowList, FlowMap, Header, Outside, Nothing}
 
 -- a text may be cut behind a first byte of ASCII
 pub IsCharBoundary-behind_ascii : (here : List ℕ) → BeginsAscii here → IsUtf8 here → IsCharBoundary here 1
@@ -20,5 +20,6 @@ keyed-begins (Quoted single inside) one_line here is = is
 keyed-begins FlowList one_line here is = is
 keyed-begins OpenQuote one_line here is = absurd cc
 keyed-begins FlowMap one_line here is = absurd cc
+keyed-begins (Header style chomping) one_line here is = absurd cc
 keyed-begins (Outside feature) one_line here is = absurd cc
 keyed-begins Nothing one_line here is = absurd cc

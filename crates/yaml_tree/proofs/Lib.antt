@@ -3,6 +3,7 @@ pub mod One
 pub mod OneAtLeast
 pub mod WithinTrees
 pub mod WithinForms
+pub mod WithinContents
 pub mod WithinNodes
 pub mod WithinTexts
 pub mod BaseReader
@@ -17,6 +18,8 @@ pub mod ScalarTexts
 pub mod ScalarOpenings
 pub mod KeyCodes
 pub mod KeySets
+pub mod BlockLines
+pub mod BlockContents
 pub mod BlockForms
 pub mod BlockNodes
 pub mod BlockTurns

@@ -16,7 +16,7 @@ use Rattle.yaml_tree.specs.Flow.{Outcome, Reading, ListTurn, FromNext, ListForm,
 use Rattle.yaml_tree.specs.Blocks.{BlockReading, LineValue, node_in, BelowOf, Below, Item, ItemTurn, BlockList, Value, entry_in, NextEntry, AfterValue, EntryTurn, BlockMap, is_block_key, FirstKey, AfterForm, BlockNode}
 use Rattle.yaml_tree.specs.Texts.{most_levels, before_lines, past_start, TopNode, OfLines, Reads}
 use Rattle.yaml_tree.specs.declared.opening.Opening.{Opening}
-use Rattle.yaml_tree.specs.declared.opening.Opening.TheVariants.{Plain, Quoted, OpenQuote, FlowList, FlowMap, Outside, Nothing}
+use Rattle.yaml_tree.specs.declared.opening.Opening.TheVariants.{Plain, Quoted, OpenQuote, FlowList, FlowMap, Header, Outside, Nothing}
 use Rattle.yaml_tree.specs.declared.tree.Tree.{Tree}
 use Rattle.yaml_tree.specs.declared.tree.Pair.{Pair}
 use Rattle.yaml_tree.specs.declared.tree.YamlEnd.{YamlEnd}
@@ -121,6 +121,7 @@ module _ (Node : Reading) (one : IsOneReading Node) where
     one_form_of flow OpenQuote from = one_is _
     one_form_of flow FlowList from = one_list_form Node one from
     one_form_of flow FlowMap from = one_map_form from
+    one_form_of flow (Header style chomping) from = one_is _
     one_form_of flow (Outside feature) from = one_is _
     one_form_of flow Nothing from = one_is _
 

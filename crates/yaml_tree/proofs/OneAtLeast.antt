@@ -16,7 +16,7 @@ use Rattle.yaml_tree.specs.Flow.{Outcome, Reading, ListTurn, FromNext, ListForm,
 use Rattle.yaml_tree.specs.Blocks.{BlockReading, LineValue, node_in, BelowOf, Below, Item, ItemTurn, BlockList, Value, entry_in, NextEntry, AfterValue, EntryTurn, BlockMap, is_block_key, FirstKey, AfterForm, BlockNode}
 use Rattle.yaml_tree.specs.Texts.{most_levels, before_lines, past_start, TopNode, OfLines, Reads}
 use Rattle.yaml_tree.specs.declared.opening.Opening.{Opening}
-use Rattle.yaml_tree.specs.declared.opening.Opening.TheVariants.{Plain, Quoted, OpenQuote, FlowList, FlowMap, Outside, Nothing}
+use Rattle.yaml_tree.specs.declared.opening.Opening.TheVariants.{Plain, Quoted, OpenQuote, FlowList, FlowMap, Header, Outside, Nothing}
 use Rattle.yaml_tree.specs.declared.tree.Tree.{Tree}
 use Rattle.yaml_tree.specs.declared.tree.Pair.{Pair}
 use Rattle.yaml_tree.specs.declared.tree.YamlEnd.{YamlEnd}
@@ -133,6 +133,7 @@ module _ (Node : Reading) (shortens : Shortens Node) (has : HasOneReading Node) 
     has_form_of flow OpenQuote from = has_is _
     has_form_of flow FlowList from = has_list_form from
     has_form_of flow FlowMap from = has_map_form from
+    has_form_of flow (Header style chomping) from = has_is _
     has_form_of flow (Outside feature) from = has_is _
     has_form_of flow Nothing from = has_is _
 

@@ -28,10 +28,10 @@ with_text-with_text a b (Err e) = refl
 abbrev pub blank_line : Row → Bool
 blank_line row = is_empty row.text
 
-rows-at : (rows : List Row) (n : ℕ) (row : Row) → slice_get rows n ≡ Some row → drop n rows ≡ row ∷ drop (n + 1) rows
+pub rows-at : (rows : List Row) (n : ℕ) (row : Row) → slice_get rows n ≡ Some row → drop n rows ≡ row ∷ drop (n + 1) rows
 rows-at rows n row there = drop_more rows n row (slice_get_within rows n row there) ∙ ap (λ (x : Row). x ∷ drop (n + 1) rows) (get_or_from_slice_get rows n row row there)
 
-rows-end : (rows : List Row) (n : ℕ) → slice_get rows n ≡ None → drop n rows ≡ []
+pub rows-end : (rows : List Row) (n : ℕ) → slice_get rows n ≡ None → drop n rows ≡ []
 rows-end [] zero none = refl
 rows-end [] (suc n) none = refl
 rows-end (row ∷ rows) zero none = absurd cc

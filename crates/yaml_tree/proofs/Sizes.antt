@@ -1,7 +1,7 @@
 -- How much is left of a text, and that reading takes some of it.
 use Rattle.std.proofs.Common.{◌≡◌, ℕ, zero, suc, ◌+◌, ◌-◌, ◌≤◌, ◌<◌, Bool, true, false, not, ◌&&◌, ◌||◌, ◌==◌, if◌then◌else◌, inl, inr, List, [], ◌∷◌, ◌++◌, length, take, drop, get_or, reverse, replicate, Option, None, Some, Result, Ok, Err, refl, sym, ap, ◌∙◌, subst, arith, length-drop, length-append, length-take}
 use Rattle.std.specs.Prelude.{◌⊎◌, MatchBool}
-use Rattle.std.specs.List.{prefix_len, suffix_len}
+use Rattle.std.specs.List.{find, prefix_len, suffix_len}
 use Rattle.std.proofs.lemmas.Bool.{cases_lt}
 use Rattle.std.proofs.lemmas.Bool.Decides.{nat_tests}
 use Rattle.std.proofs.lemmas.List.{length-replicate, get_or-reverse}
@@ -11,13 +11,16 @@ use Rattle.yaml_tree.specs.Rest.{Row, Rest, place, on, skip_blanks, front}
 use Rattle.yaml_tree.specs.Characters.{begins, begins_plain, is_clear, is_item, is_colon}
 use Rattle.yaml_tree.specs.Lines.{is_empty, has_content, from_content, is_marker, flow_below, flow_point, settle, end_line}
 use Rattle.yaml_tree.specs.Scalars.{inner_of, ends_before, run_of, part_of, break_text, goes_on, with_text, lines_added, added, scalar_at, plain, plain_part, quoted_to, quoted, text_within}
-use Rattle.yaml_tree.specs.Openings.{quote_opening, before_blank, opening_with, opening_of, opening}
+use Rattle.yaml_tree.specs.Openings.{quote_opening, before_blank, style_of, chomping_of, is_header, header_opening, opening_with, opening_of, opening}
+use Rattle.yaml_tree.specs.BlockScalars.{content_of, content_indent, is_shallow, block_text, with_content, block_scalar}
+use Rattle.yaml_tree.specs.declared.header.Style.{Style}
+use Rattle.yaml_tree.specs.declared.header.Chomping.{Chomping}
 use Rattle.yaml_tree.specs.Keys.{stands_before, deep_place}
 use Rattle.yaml_tree.specs.Repeats.{Turn, More, Last, Refused, InTurn, EndsWith, Repeats}
-use Rattle.yaml_tree.specs.Flow.{Outcome, Reading, next_turn, item_ends, item_turn, ListTurn, list_made, FromNext, ListForm, entry, empty_at, ends_entry, entry_ends, entry_turn, value_turn, ValueTurn, KeyTurn, AfterKey, MapTurn, map_made, MapForm, FormOf, Form, is_keyed}
+use Rattle.yaml_tree.specs.Flow.{Outcome, Reading, next_turn, item_ends, item_turn, ListTurn, list_made, FromNext, ListForm, header_line, entry, empty_at, ends_entry, entry_ends, entry_turn, value_turn, ValueTurn, KeyTurn, AfterKey, MapTurn, map_made, MapForm, FormOf, Form, is_keyed}
 use Rattle.yaml_tree.specs.Blocks.{BlockReading, begins_below, settled, ended, whole_form, LineValue, empty_scalar, node_in, BelowOf, Below, Item, item_in, item_then, ItemTurn, BlockList, Value, entry_in, key_then, later_key, NextEntry, AfterValue, EntryTurn, BlockMap, is_block_key, FirstKey, AfterForm, BlockNode, block_item_turn}
 use Rattle.yaml_tree.specs.declared.opening.Opening.{Opening}
-use Rattle.yaml_tree.specs.declared.opening.Opening.TheVariants.{Plain, Quoted, OpenQuote, FlowList, FlowMap, Outside, Nothing}
+use Rattle.yaml_tree.specs.declared.opening.Opening.TheVariants.{Plain, Quoted, OpenQuote, FlowList, FlowMap, Header, Outside, Nothing}
 use Rattle.yaml_tree.specs.declared.tree.Tree.{Tree}
 use Rattle.yaml_tree.specs.declared.tree.Tree.TheVariants as trees
 use Rattle.yaml_tree.specs.declared.tree.Pair.{Pair}
@@ -25,11 +28,11 @@ use Rattle.yaml_tree.specs.declared.tree.YamlEnd.{YamlEnd}
 use Rattle.dp_base.specs.declared.place.Place.{Place}
 use Rattle.yaml_tree.specs.declared.tree.Feature.TheVariants.{Anchor, Alias, Tag, QuestionKey, BlockScalar}
 
--- ---- how much is left: the bytes, and one for each line below
+-- ---- how much is left: the bytes, and for each line below one more and its indent
 
 abbrev pub rows_size : List Row → ℕ
 rows_size [] = 0
-rows_size (row ∷ rows) = 1 + length row.text + rows_size rows
+rows_size (row ∷ rows) = 1 + row.indent + length row.text + rows_size rows
 
 abbrev pub size : Rest → ℕ
 size r = length r.here + rows_size r.below
@@ -259,6 +262,10 @@ no_plain_map : (maps : Bool) → (if maps then FlowMap else Nothing) ≡ Plain �
 no_plain_map true is = cc
 no_plain_map false is = cc
 
+no_plain_header : (b : Bool) (style : Style) (chomping : Chomping) → (if b then Header style chomping else Outside BlockScalar) ≡ Plain → ⊥
+no_plain_header true style chomping is = cc
+no_plain_header false style chomping is = cc
+
 no_plain_end : (b : Bool) → (if b then Outside QuestionKey else Nothing) ≡ Plain → ⊥
 no_plain_end true is = cc
 no_plain_end false is = cc
@@ -276,7 +283,7 @@ opening_with-plain flow maps ragged byte bytes is =
     let d = past (byte == 38) (Outside Anchor) _ (λ e. cc) c in
     let f = past (byte == 42) (Outside Alias) _ (λ e. cc) d in
     let g = past (byte == 33) (Outside Tag) _ (λ e. cc) f in
-    let h = past (byte == 124 || byte == 62) (Outside BlockScalar) _ (λ e. cc) g in
+    let h = past (byte == 124 || byte == 62) (header_opening flow maps byte bytes) _ (λ e. no_plain_header (not flow && maps && is_header bytes) (style_of byte) (chomping_of bytes) e) g in
     elim (chosen (begins_plain flow (byte ∷ bytes)) Plain _ Plain h) [
       | inl k ↦ k.0
       | inr k ↦ absurd (no_plain_end (byte == 63 && before_blank ragged bytes) k.1)
@@ -444,6 +451,11 @@ module _ (Node : Reading) (shortens : Shortens Node) where
         rw m.2 (from_next-shortens (MapTurn Node Key) map_turn-shortens from (flow_point (on 1 from)) (behind_bracket from) m.0 (subst (FromNext (MapTurn Node Key) (flow_point (on 1 from))) m.1 is.1))
 
 -- of a form by what begins at its point
+-- the header of a block scalar takes its line
+header_line-shortens : (from : Rest) (x : Tree × Rest) → 0 < length from.here → header_line from ≡ Ok x → size x.1 < size from
+header_line-shortens from x some is =
+    let e : (trees.Scalar (place from) [], record from { here = [] }) ≡ x = cc is in rw (← e) (omega arith)
+
 form_of-shortens : (flow maps : Bool) (Node Key : Reading) → Shortens Node → Shortens Key → (from : Rest) (o : Opening) → opening flow maps from ≡ o → (x : Tree × Rest) → FormOf flow Node Key o from (Ok x) → size x.1 < size from
 form_of-shortens true maps Node Key node key from Plain is x form = plain-shortens true 0 from x (opening-plain true maps from is) (sym form)
 form_of-shortens false maps Node Key node key from Plain is x form = plain_part-shortens from x (opening-plain false maps from is) (sym form)
@@ -451,6 +463,7 @@ form_of-shortens flow maps Node Key node key from (Quoted single inside) is x fo
 form_of-shortens flow maps Node Key node key from OpenQuote is x form = absurd (cc form)
 form_of-shortens flow maps Node Key node key from FlowList is x form = list_form-shortens Node node from x form
 form_of-shortens flow maps Node Key node key from FlowMap is x form = map_form-shortens Node node Key key from x form
+form_of-shortens flow maps Node Key node key from (Header style chomping) is x form = header_line-shortens from x (opening-some flow maps from (Header style chomping) is (λ e. cc e)) (sym form)
 form_of-shortens flow maps Node Key node key from (Outside feature) is x form = absurd (cc form)
 form_of-shortens flow maps Node Key node key from Nothing is x form = absurd (cc form)
 
@@ -474,10 +487,36 @@ ended-shortens n (Ok y) less x is =
     rw s.2 (omega (arith, end_line-size y.1 s.0 s.1, less y refl))
 ended-shortens n (Err e) less x is = absurd (cc is)
 
+drop_rows-size : (n : ℕ) (rows : List Row) → rows_size (drop n rows) ≤ rows_size rows
+drop_rows-size zero rows = omega arith
+drop_rows-size (suc n) [] = omega arith
+drop_rows-size (suc n) (row ∷ rows) = omega (arith, drop_rows-size n rows)
+
+-- the scalar that a content gives, and the lines behind it
+pub with_content-ok : (style : Style) (chomping : Chomping) (at : Place) (r : Rest) (content : List Row) (o : Option Row) (x : Tree × Rest) → with_content style chomping at r content o ≡ Ok x
+    → x ≡ (trees.Scalar at (block_text style chomping (content_indent content) content), settle (record r { below = drop (length content) r.below }))
+with_content-ok style chomping at r content (Some row) x is = absurd (cc is)
+with_content-ok style chomping at r content None x is = cc
+
+pub block_scalar-ok : (style : Style) (chomping : Chomping) (least : ℕ) (at : Place) (r : Rest) (x : Tree × Rest) → block_scalar style chomping least at r ≡ Ok x
+    → x ≡ (trees.Scalar at (block_text style chomping (content_indent (content_of least r.below)) (content_of least r.below)), settle (record r { below = drop (length (content_of least r.below)) r.below }))
+block_scalar-ok style chomping least at r x is =
+    let content : List Row = content_of least r.below in
+    elim (chosen (least == 0) _ _ _ is) [
+      | inl h ↦ absurd (cc h.1)
+      | inr h ↦ with_content-ok style chomping at r content (find (is_shallow (content_indent content)) content) x h.1
+    ]
+
+block_scalar-size : (style : Style) (chomping : Chomping) (least : ℕ) (at : Place) (r : Rest) (x : Tree × Rest) → block_scalar style chomping least at r ≡ Ok x → size x.1 ≤ size r
+block_scalar-size style chomping least at r x is =
+    let n : ℕ = length (content_of least r.below) in
+    rw (block_scalar-ok style chomping least at r x is) (omega (arith, settle-size (record r { below = drop n r.below }), drop_rows-size n r.below))
+
 pub whole_form-shortens : (o : Opening) (least : ℕ) (from : Rest) (begun : Outcome) → opening false true from ≡ o → ((y : Tree × Rest) → begun ≡ Ok y → size y.1 < size from) → (x : Tree × Rest) → whole_form o least from begun ≡ Ok x → size x.1 < size from
 whole_form-shortens o least from (Err e) is less x whole = absurd (cc whole)
 whole_form-shortens Plain least from (Ok z) is less x whole = ended-shortens (size from) (plain false least from) (λ y e. plain-shortens false least from y (opening-plain false true from is) e) x whole
 whole_form-shortens (Quoted single inside) least from (Ok z) is less x whole = ended-shortens (size from) (Ok z) less x whole
+whole_form-shortens (Header style chomping) least from (Ok z) is less x whole = omega (arith, block_scalar-size style chomping least (place from) z.1 x whole, less z refl)
 whole_form-shortens o least from (Ok z) is less x whole = ended-shortens (size from) (Ok z) less x whole
 
 pub line_value-shortens : (levels least : ℕ) → Shortens (LineValue levels least)

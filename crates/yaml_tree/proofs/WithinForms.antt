@@ -10,10 +10,10 @@ use Rattle.yaml_tree.specs.Scalars.{part_of, plain, plain_part, single_text, esc
 use Rattle.yaml_tree.specs.Openings.{opening}
 use Rattle.yaml_tree.specs.Keys.{stands_before}
 use Rattle.yaml_tree.specs.Repeats.{Turn, More, Last, Refused, InTurn, EndsWith, Repeats}
-use Rattle.yaml_tree.specs.Flow.{Outcome, Reading, next_turn, item_ends, item_turn, ListTurn, FromNext, ListForm, entry, empty_at, ends_entry, entry_ends, entry_turn, value_turn, ValueTurn, KeyTurn, AfterKey, MapTurn, MapForm, FormOf, Form, is_keyed}
+use Rattle.yaml_tree.specs.Flow.{Outcome, Reading, next_turn, item_ends, item_turn, ListTurn, FromNext, ListForm, entry, empty_at, ends_entry, entry_ends, entry_turn, value_turn, ValueTurn, KeyTurn, AfterKey, MapTurn, MapForm, header_line, FormOf, Form, is_keyed}
 use Rattle.yaml_tree.specs.Within.{is_within, IsWithin}
 use Rattle.yaml_tree.specs.declared.opening.Opening.{Opening}
-use Rattle.yaml_tree.specs.declared.opening.Opening.TheVariants.{Plain, Quoted, OpenQuote, FlowList, FlowMap, Outside, Nothing}
+use Rattle.yaml_tree.specs.declared.opening.Opening.TheVariants.{Plain, Quoted, OpenQuote, FlowList, FlowMap, Header, Outside, Nothing}
 use Rattle.yaml_tree.specs.declared.tree.Tree.{Tree}
 use Rattle.yaml_tree.specs.declared.tree.Tree.TheVariants as trees
 use Rattle.yaml_tree.specs.declared.tree.Pair.{Pair}
@@ -67,6 +67,10 @@ plain_part_within : (most : ℕ) (from : Rest) (x : Tree × Rest) → size from 
 plain_part_within most from x fits is =
     let e : (trees.Scalar (place from) (part_of false from.here), on (length (part_of false from.here)) from) ≡ x = cc is in
     rw (← e) (scalar_within most (place from) (part_of false from.here) (omega (arith, part_of-length false from.here)))
+
+header_line_within : (most : ℕ) (from : Rest) (x : Tree × Rest) → header_line from ≡ Ok x → IsWithin most x.0
+header_line_within most from x is =
+    let e : (trees.Scalar (place from) [], record from { here = [] }) ≡ x = cc is in rw (← e) (scalar_within most (place from) [] (omega arith))
 
 quoted_within : (most : ℕ) (from : Rest) (single : Bool) (inside : ℕ) (x : Tree × Rest) → size from ≤ most → quoted from single inside ≡ Ok x → IsWithin most x.0
 quoted_within most from single inside x fits is =
@@ -222,6 +226,7 @@ module _ (most : ℕ) (Node : Reading) (shortens : Shortens Node) (bounded : IsB
     form_of_within flow OpenQuote from x fits form = absurd (cc form)
     form_of_within flow FlowList from x fits form = list_form_within from x fits form
     form_of_within flow FlowMap from x fits form = map_form_within from x fits form
+    form_of_within flow (Header style chomping) from x fits form = header_line_within most from x (sym form)
     form_of_within flow (Outside feature) from x fits form = absurd (cc form)
     form_of_within flow Nothing from x fits form = absurd (cc form)
 

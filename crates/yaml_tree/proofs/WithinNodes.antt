@@ -11,13 +11,17 @@ use Rattle.yaml_tree.specs.Keys.{stands_before, deep_place}
 use Rattle.yaml_tree.specs.Repeats.{Turn, More, Last, Refused, Repeats}
 use Rattle.yaml_tree.specs.Flow.{Outcome, entry, empty_at, Form}
 use Rattle.yaml_tree.specs.Blocks.{BlockReading, ended, whole_form, LineValue, empty_scalar, node_in, BelowOf, Below, Item, item_in, item_then, block_item_turn, ItemTurn, BlockList, Value, entry_in, key_then, later_key, NextEntry, AfterValue, EntryTurn, BlockMap, is_block_key, FirstKey, AfterForm, BlockNode}
+use Rattle.yaml_tree.specs.BlockScalars.{content_of, content_indent, block_text, block_scalar}
+use Rattle.yaml_tree.specs.declared.header.Style.{Style}
+use Rattle.yaml_tree.specs.declared.header.Chomping.{Chomping}
 use Rattle.yaml_tree.specs.Within.{is_within, IsWithin}
 use Rattle.yaml_tree.specs.declared.opening.Opening.{Opening}
-use Rattle.yaml_tree.specs.declared.opening.Opening.TheVariants.{Plain, Quoted}
+use Rattle.yaml_tree.specs.declared.opening.Opening.TheVariants.{Plain, Quoted, Header}
 use Rattle.yaml_tree.specs.declared.tree.Tree.{Tree}
 use Rattle.yaml_tree.specs.declared.tree.Pair.{Pair}
-use Rattle.yaml_tree.proofs.Sizes.{size, which, on-size, skip_blanks-size, from_content-size, settled-ok, list_made-ok, map_made-ok, node_in-size, entry_in-size, value-size, BlockShortens, item_turn-shortens, entry_turn-shortens, form-shortens, node-shortens}
-use Rattle.yaml_tree.proofs.WithinTrees.{pair_within, list_within, map_within}
+use Rattle.yaml_tree.proofs.Sizes.{size, which, on-size, skip_blanks-size, from_content-size, settled-ok, block_scalar-ok, list_made-ok, map_made-ok, node_in-size, entry_in-size, value-size, BlockShortens, item_turn-shortens, entry_turn-shortens, form-shortens, node-shortens}
+use Rattle.yaml_tree.proofs.WithinTrees.{pair_within, scalar_within, list_within, map_within}
+use Rattle.yaml_tree.proofs.WithinContents.{content-size, block_text-length}
 use Rattle.yaml_tree.proofs.WithinForms.{plain_within, entry_within, empty_within, one_passes, Passes, repeats_pass, IsBounded, form_within}
 
 abbrev pub IsBoundedBlock : (most : ℕ) → BlockReading → Type 0
@@ -27,15 +31,24 @@ ended_within : (most : ℕ) (o : Outcome) → ((y : Tree × Rest) → o ≡ Ok y
 ended_within most (Ok y) within x is = let s = settled-ok y.0 (end_line y.1) x is in rw s.2 (within y refl)
 ended_within most (Err e) within x is = absurd (cc is)
 
-whole_form_within : (most : ℕ) (o : Opening) (least : ℕ) (from : Rest) (begun : Outcome) → size from ≤ most → ((y : Tree × Rest) → begun ≡ Ok y → IsWithin most y.0) → (x : Tree × Rest) → whole_form o least from begun ≡ Ok x → IsWithin most x.0
-whole_form_within most o least from (Err e) fits within x whole = absurd (cc whole)
-whole_form_within most Plain least from (Ok z) fits within x whole = ended_within most (plain false least from) (λ y e. plain_within most false least from y fits e) x whole
-whole_form_within most (Quoted single inside) least from (Ok z) fits within x whole = ended_within most (Ok z) within x whole
-whole_form_within most o least from (Ok z) fits within x whole = ended_within most (Ok z) within x whole
+block_scalar_within : (most : ℕ) (style : Style) (chomping : Chomping) (least : ℕ) (at : Place) (r : Rest) (x : Tree × Rest) → size r ≤ most → block_scalar style chomping least at r ≡ Ok x → IsWithin most x.0
+block_scalar_within most style chomping least at r x fits is =
+    let content = content_of least r.below in
+    rw (block_scalar-ok style chomping least at r x is)
+    (scalar_within most at (block_text style chomping (content_indent content) content) (omega (arith, block_text-length style chomping (content_indent content) content, content-size least r.below)))
+
+whole_form_within : (most : ℕ) (o : Opening) (least : ℕ) (from : Rest) (begun : Outcome) → size from ≤ most → ((y : Tree × Rest) → begun ≡ Ok y → IsWithin most y.0 × (size y.1 ≤ most)) → (x : Tree × Rest) → whole_form o least from begun ≡ Ok x → IsWithin most x.0
+whole_form_within most o least from (Err e) fits known x whole = absurd (cc whole)
+whole_form_within most Plain least from (Ok z) fits known x whole = ended_within most (plain false least from) (λ y e. plain_within most false least from y fits e) x whole
+whole_form_within most (Quoted single inside) least from (Ok z) fits known x whole = ended_within most (Ok z) (λ y e. (known y e).0) x whole
+whole_form_within most (Header style chomping) least from (Ok z) fits known x whole = block_scalar_within most style chomping least (place from) z.1 x (known z refl).1 whole
+whole_form_within most o least from (Ok z) fits known x whole = ended_within most (Ok z) (λ y e. (known y e).0) x whole
 
 line_value_within : (most levels least : ℕ) → IsBounded most (LineValue levels least)
 line_value_within most levels least from x fits is =
-    whole_form_within most (opening false true from) least from is.0 fits (λ y e. form_within most false true levels from y fits (subst (Form false true levels from) e is.1)) x (sym is.2)
+    whole_form_within most (opening false true from) least from is.0 fits
+    (λ y e. let form : Form false true levels from (Ok y) = subst (Form false true levels from) e is.1 in (form_within most false true levels from y fits form, omega (arith, form-shortens false true levels from y form)))
+    x (sym is.2)
 
 empty_scalar_within : (most levels : ℕ) (at : Rest) (x : Tree × Rest) → empty_scalar levels at ≡ Ok x → IsWithin most x.0
 empty_scalar_within most zero at x is = absurd (cc is)
@@ -149,7 +162,7 @@ module _ (most : ℕ) (Node : BlockReading) (shortens : BlockShortens Node) (bou
   after_form_within least from (Ok y) fits known x is =
       elim (which (is_block_key from y.1) _ _ is) [
         | inl h ↦ first_key_within from y.0 y.1 (deep_place y.0 levels) x (known y refl).0 (known y refl).1 h.1
-        | inr h ↦ whole_form_within most (opening false true from) least from (Ok y) fits (λ z e. (known z e).0) x (sym h.1)
+        | inr h ↦ whole_form_within most (opening false true from) least from (Ok y) fits known x (sym h.1)
       ]
 
 pub node_within : (most levels : ℕ) → IsBoundedBlock most (BlockNode levels)

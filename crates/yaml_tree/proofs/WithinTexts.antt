@@ -1,6 +1,7 @@
 -- The scalars of a text's tree have no more bytes than the text.
 use Rattle.std.proofs.Common.{◌≡◌, ℕ, suc, ◌+◌, ◌-◌, ◌≤◌, Bool, true, false, ◌&&◌, ◌==◌, if◌then◌else◌, nat_lt, codes, bytes_eq, List, [], ◌∷◌, length, map, drop, Option, None, Some, Result, Ok, Err, refl, sym, ap, subst, inl, inr, arith, length-drop, length-take}
 use Rattle.std.specs.List.{suffix_len}
+use Rattle.std.proofs.lemmas.Bool.{cases_eq, ne_eqb}
 use Rattle.dp_base.specs.Bytes.{is_blank}
 use Rattle.yaml_scan.specs.Bytes.{before_first, cut, without_end, indent, content, mark_length}
 use Rattle.yaml_scan.specs.Lines.{line_at, lines_from, lines_of}
@@ -53,14 +54,33 @@ cut-size (byte ∷ bytes) = step (byte == 10) refl (cut-size bytes) where
   step true is less = omega (arith, feed-size byte is)
   step false is less = before_first-size byte (cut bytes) (length bytes) less
 
-content-length : (line : List ℕ) → length (content line) ≤ length (without_end line)
+content-length : (line : List ℕ) → length (content line) ≤ length (without_end line) - indent line
 content-length line =
     let inner : List ℕ = drop (indent line) (without_end line) in
     omega (arith, length-take (length inner - suffix_len is_blank inner) inner, length-drop (indent line) (without_end line))
 
-row-length : (bytes : List ℕ) (number at : ℕ) (line : List ℕ) → length (row_of bytes (line_at number at line)).text ≤ length (without_end line)
+-- the leading spaces are none of a line's end
+indent-length : (line : List ℕ) → indent line ≤ length (without_end line)
+indent-length [] = omega arith
+indent-length (byte ∷ []) =
+    elim (cases_eq byte 32) [
+      | inl space ↦ rw space (omega arith)
+      | inr other ↦ rw (ne_eqb byte 32 other) (omega arith)
+    ]
+indent-length (byte ∷ next ∷ []) =
+    elim (cases_eq byte 32) [
+      | inl space ↦ rw space (omega (arith, indent-length (next ∷ [])))
+      | inr other ↦ rw (ne_eqb byte 32 other) (omega arith)
+    ]
+indent-length (byte ∷ next ∷ third ∷ line) =
+    elim (cases_eq byte 32) [
+      | inl space ↦ rw space (omega (arith, indent-length (next ∷ third ∷ line)))
+      | inr other ↦ rw (ne_eqb byte 32 other) (omega arith)
+    ]
+
+row-length : (bytes : List ℕ) (number at : ℕ) (line : List ℕ) → indent line + length (row_of bytes (line_at number at line)).text ≤ length (without_end line)
 row-length bytes number at line =
-    omega (arith, length-take (at + indent line + length (content line) - (at + indent line)) (drop (at + indent line) bytes), content-length line)
+    omega (arith, indent-length line, length-take (at + indent line + length (content line) - (at + indent line)) (drop (at + indent line) bytes), content-length line)
 
 rows_from-size : (bytes : List ℕ) (number at : ℕ) (lines : List (List ℕ)) → rows_size (map (row_of bytes) (lines_from number at lines)) ≤ lines_size lines
 unfolding lines_from lines_size

@@ -7,10 +7,12 @@ use Rattle.yaml_tree.specs.Scalars.{added, with_text}
 use Rattle.yaml_tree.specs.Repeats.{Turn, More, Last, Repeats}
 use Rattle.yaml_tree.specs.Flow.{Outcome, Reading, entry, map_made}
 use Rattle.yaml_tree.specs.Blocks.{BlockReading, EntryTurn, NextEntry, entry_in, ended, may_be_block_key}
+use Rattle.yaml_tree.specs.BlockScalars.{block_scalar}
+use Rattle.yaml_tree.specs.Fields.{tree_place}
 use Rattle.yaml_tree.specs.Known.{Knows}
 use Rattle.yaml_tree.specs.declared.keys.Keys.{Keys}
 use Rattle.yaml_tree.specs.declared.opening.Opening.{Opening}
-use Rattle.yaml_tree.specs.declared.opening.Opening.TheVariants.{Plain}
+use Rattle.yaml_tree.specs.declared.opening.Opening.TheVariants.{Plain, Header}
 use Rattle.yaml_tree.specs.declared.tree.Tree.{Tree}
 use Rattle.yaml_tree.specs.declared.tree.Tree as trees
 use Rattle.yaml_tree.specs.declared.tree.Tree.TheVariants as variants
@@ -44,6 +46,7 @@ continued least begun to = continued_form least (trees.out-Tree begun) begun to
 -- a whole scalar or flow form of which the beginning in its line was read up to a point
 abbrev pub whole_from : Opening → (least : ℕ) → Tree → Rest → Outcome
 whole_from Plain least begun to = ended (continued least begun to)
+whole_from (Header style chomping) least begun to = block_scalar style chomping least (tree_place begun) to
 whole_from opening least begun to = ended (Ok (begun, to))
 
 -- ---- maps

@@ -8,9 +8,10 @@ use Rattle.yaml_tree.specs.Lines.{is_marker, from_content, settle, end_line}
 use Rattle.yaml_tree.specs.Scalars.{plain}
 use Rattle.yaml_tree.specs.Openings.{opening, deep_end}
 use Rattle.yaml_tree.specs.declared.opening.Opening.{Opening}
-use Rattle.yaml_tree.specs.declared.opening.Opening.TheVariants.{Plain, Quoted, FlowList}
+use Rattle.yaml_tree.specs.declared.opening.Opening.TheVariants.{Plain, Quoted, FlowList, Header}
 use Rattle.yaml_tree.specs.Keys.{stands_before, deep_place}
 use Rattle.yaml_tree.specs.Repeats.{Turn, More, Last, Refused, Repeats}
+use Rattle.yaml_tree.specs.BlockScalars.{block_scalar}
 use Rattle.yaml_tree.specs.Flow.{Outcome, Reading, entry, empty_at, list_made, map_made, Form}
 use Rattle.yaml_tree.specs.declared.tree.Tree.{Tree}
 use Rattle.yaml_tree.specs.declared.tree.Pair.{Pair}
@@ -31,10 +32,12 @@ abbrev pub ended : Outcome → Outcome
 ended (Ok x) = settled x.0 (end_line x.1)
 ended (Err e) = Err e
 
--- A whole scalar or flow form, of which the beginning in its line was read: a plain scalar goes on over lines.
+-- A whole scalar or flow form, of which the beginning in its line was read: a plain scalar goes on over lines, and the
+-- content of a block scalar stands on the lines below.
 abbrev pub whole_form : Opening → (least : ℕ) (from : Rest) → Outcome → Outcome
 whole_form opening least from (Err e) = Err e
 whole_form Plain least from (Ok x) = ended (plain false least from)
+whole_form (Header style chomping) least from (Ok x) = block_scalar style chomping least (place from) x.1
 whole_form opening least from (Ok x) = ended (Ok x)
 
 -- behind a key, a scalar or flow form that begins in its line

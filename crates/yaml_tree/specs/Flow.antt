@@ -8,7 +8,7 @@ use Rattle.yaml_tree.specs.Lines.{flow_point}
 use Rattle.yaml_tree.specs.Scalars.{plain, plain_part, quoted}
 use Rattle.yaml_tree.specs.Openings.{opening, deep_end}
 use Rattle.yaml_tree.specs.declared.opening.Opening.{Opening}
-use Rattle.yaml_tree.specs.declared.opening.Opening.TheVariants.{Plain, Quoted, OpenQuote, FlowList, FlowMap, Outside, Nothing}
+use Rattle.yaml_tree.specs.declared.opening.Opening.TheVariants.{Plain, Quoted, OpenQuote, FlowList, FlowMap, Header, Outside, Nothing}
 use Rattle.yaml_tree.specs.Keys.{stands_before}
 use Rattle.yaml_tree.specs.Repeats.{Turn, More, Last, Refused, Repeats}
 use Rattle.yaml_tree.specs.declared.tree.Feature.TheVariants.{SinglePair}
@@ -149,6 +149,10 @@ abbrev pub plain_scalar : (flow : Bool) → Rest → Outcome
 plain_scalar true from = plain true 0 from
 plain_scalar false from = plain_part from
 
+-- of a block scalar the line of its header, which it fills
+abbrev pub header_line : Rest → Outcome
+header_line from = Ok (trees.Scalar (place from) [], record from { here = [] })
+
 -- a form by what begins at its point
 abbrev pub FormOf : (flow : Bool) → (Node Key : Reading) → Opening → Reading
 FormOf flow Node Key Plain from outcome = outcome ≡ plain_scalar flow from
@@ -156,6 +160,7 @@ FormOf flow Node Key (Quoted single inside) from outcome = outcome ≡ quoted fr
 FormOf flow Node Key OpenQuote from outcome = outcome ≡ Err (BadQuote (place from))
 FormOf flow Node Key FlowList from outcome = ListForm Node from outcome
 FormOf flow Node Key FlowMap from outcome = MapForm Node Key from outcome
+FormOf flow Node Key (Header style chomping) from outcome = outcome ≡ header_line from
 FormOf flow Node Key (Outside feature) from outcome = outcome ≡ Err (OutOfProfile (place from) feature)
 FormOf flow Node Key Nothing from outcome = outcome ≡ Err (Unread (place from))
 

@@ -6,6 +6,7 @@ pub mod Openings
 pub mod Keys
 pub mod Repeats
 pub mod Flow
+pub mod BlockScalars
 pub mod Blocks
 pub mod Texts
 pub mod Results

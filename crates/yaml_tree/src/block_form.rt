@@ -8,6 +8,7 @@ ghost use Rattle.yaml_tree.specs.Blocks.{settled, may_be_block_key, LineValue};
 ghost use Rattle.yaml_tree.specs.BlockSteps.{is_key_here, continued, whole_from};
 ghost use Rattle.yaml_tree.specs.Results.{MemoryOr};
 
+use crate::block_scalar::block_scalar;
 use crate::flow::form;
 use crate::opening::{Opening, what_begins};
 use crate::plain::go_on;
@@ -84,7 +85,8 @@ fn ended(reader: &mut Reader<'_>, tree: Tree) -> Result<Tree, YamlEnd>
     Ok(tree)
 }
 
-/// The whole scalar or flow form that was begun: a plain scalar goes on over lines.
+/// The whole scalar or flow form that was begun: a plain scalar goes on over lines, and the content of a block scalar
+/// stands on the lines below.
 pub(crate) fn whole_form(
     alloc: Global,
     reader: &mut Reader<'_>,
@@ -101,6 +103,9 @@ pub(crate) fn whole_form(
         Opening::Plain => {
             let whole = continued(alloc, reader, least, begun)?;
             ended(reader, whole)
+        }
+        Opening::Header(style, chomping) => {
+            block_scalar(alloc, reader, style, chomping, least, begun.place())
         }
         _ => ended(reader, begun),
     }

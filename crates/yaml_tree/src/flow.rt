@@ -4,7 +4,7 @@ ghost use Rattle.std.specs.Prelude.{◌≡◌, true, false, List, [], IfOk, IfEr
 ghost use Rattle.yaml_tree.specs.Characters.{begins};
 ghost use Rattle.yaml_tree.specs.Lines.{flow_point};
 ghost use Rattle.yaml_tree.specs.Repeats.{Refused, Repeats};
-ghost use Rattle.yaml_tree.specs.Flow.{plain_scalar, ListTurn, MapTurn, ListForm, MapForm, Form};
+ghost use Rattle.yaml_tree.specs.Flow.{header_line, plain_scalar, ListTurn, MapTurn, ListForm, MapForm, Form};
 ghost use Rattle.yaml_tree.specs.FlowSteps.{KnowsNext, ColonValue, KeyValue};
 ghost use Rattle.yaml_tree.specs.Known.{Knows};
 ghost use Rattle.yaml_tree.specs.Results.{MemoryOr, turn_of};
@@ -19,7 +19,7 @@ use crate::quoted::quoted;
 use crate::reader::Reader;
 use crate::tree::{Feature, Pair, Tree, YamlEnd};
 use crate::turns::{Step, fitted};
-use dp_base::Seq;
+use dp_base::{Seq, Text};
 use std::alloc::Global;
 
 fn plain_scalar(alloc: Global, reader: &mut Reader<'_>, flow: bool) -> Result<Tree, YamlEnd>
@@ -31,6 +31,15 @@ fn plain_scalar(alloc: Global, reader: &mut Reader<'_>, flow: bool) -> Result<Tr
     } else {
         plain_part(alloc, reader)
     }
+}
+
+/// The line of a block scalar's header.
+fn header_line(alloc: Global, reader: &mut Reader<'_>) -> Tree
+    ensures { header_line reader.old ≡ Ok (result, reader.new) }
+{
+    let place = reader.place();
+    reader.close_line();
+    Tree::Scalar(place, Text::of(String::new(alloc)))
 }
 
 /// The scalar or flow form of at most so many levels that begins at the point. `flow` says whether it stands inside a
@@ -59,6 +68,7 @@ pub(crate) fn form(
         Opening::OpenQuote => Err(YamlEnd::BadQuote(place)),
         Opening::FlowList => list(alloc, reader, levels - 1),
         Opening::FlowMap => map(alloc, reader, levels - 1),
+        Opening::Header(_, _) => Ok(header_line(alloc, reader)),
         Opening::Outside(feature) => Err(YamlEnd::OutOfProfile(place, feature)),
         Opening::Nothing => Err(YamlEnd::Unread(place)),
     }

@@ -2,6 +2,7 @@
 
 ghost use Rattle.std.specs.Prelude.{◌≡◌, ◌+◌};
 ghost use Rattle.yaml_tree.specs.Rest.{IsSpan, row_of};
+ghost use Rattle.yaml_tree.specs.BlockScalars.{is_blank_row};
 ghost use Rattle.yaml_tree.specs.Texts.{place_in};
 
 use dp_base::{Place, is_blank};
@@ -13,7 +14,7 @@ use yaml_scan::Line;
 pub(crate) struct LineBelow<'a> {
     number: u32,
     indent: u32,
-    text: &'a [u8],
+    text: &'a str,
     ragged: bool,
 }
 
@@ -36,11 +37,12 @@ impl<'a> LineBelow<'a> {
         ensures { result ≡ row_of text.now line }
     {
         let bytes = text.as_bytes();
+        let start = line.start as usize;
         let end = line.end as usize;
         LineBelow {
             number: line.number,
             indent: line.indent,
-            text: &bytes[line.start as usize..end],
+            text: &text[start..end],
             ragged: end < bytes.len() && is_blank(bytes[end]),
         }
     }
@@ -74,7 +76,21 @@ impl<'a> LineBelow<'a> {
     pub(crate) fn text(&self) -> &'a [u8]
         ensures { result.now ≡ self.now.text }
     {
+        self.text.as_bytes()
+    }
+
+    /// The same.
+    pub(crate) fn as_text(&self) -> &'a str
+        ensures { result.now ≡ self.now.text }
+    {
         self.text
+    }
+
+    /// Whether nothing but blanks stands in the line.
+    pub(crate) fn is_blank(&self) -> bool
+        ensures { result ≡ is_blank_row self.now }
+    {
+        self.text.is_empty()
     }
 
     /// Whether blanks stand at its end.

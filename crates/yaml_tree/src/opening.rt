@@ -1,8 +1,9 @@
 //! What begins at a point.
 
 ghost use Rattle.std.specs.Prelude.{◌≡◌};
-ghost use Rattle.yaml_tree.specs.Openings.{before_blank, opening, deep_end};
+ghost use Rattle.yaml_tree.specs.Openings.{before_blank, header_opening, opening, deep_end};
 
+use crate::header::{Chomping, Style, chomping_of, is_header, style_of};
 use crate::plain::begins_plain;
 use crate::quoted::inside;
 use crate::reader::Reader;
@@ -19,6 +20,8 @@ pub(crate) enum Opening {
     OpenQuote,
     FlowList,
     FlowMap,
+    /// The header of a block scalar.
+    Header(Style, Chomping),
     Outside(Feature),
     Nothing,
 }
@@ -32,6 +35,16 @@ fn before_blank(ragged: bool, bytes: &[u8]) -> bool
     } else {
         is_blank(bytes[0])
     }
+}
+
+/// What `|` or `>` begins, with these bytes behind it: a block scalar in block style, where more than a key may stand.
+fn header(flow: bool, maps: bool, byte: u8, bytes: &[u8]) -> Opening
+    ensures { result ≡ header_opening flow maps byte bytes.now }
+{
+    if !flow && maps && is_header(bytes) {
+        return Opening::Header(style_of(byte), chomping_of(bytes));
+    }
+    Opening::Outside(Feature::BlockScalar)
 }
 
 /// What begins at the point. `flow` says whether the point is inside a flow form, and `maps` whether a flow map may
@@ -54,7 +67,7 @@ pub(crate) fn what_begins(reader: &Reader<'_>, flow: bool, maps: bool) -> Openin
         b'&' => Opening::Outside(Feature::Anchor),
         b'*' => Opening::Outside(Feature::Alias),
         b'!' => Opening::Outside(Feature::Tag),
-        b'|' | b'>' => Opening::Outside(Feature::BlockScalar),
+        byte @ (b'|' | b'>') => header(flow, maps, byte, &here[1..]),
         _ if begins_plain(flow, here) => Opening::Plain,
         b'?' if before_blank(reader.is_ragged(), &here[1..]) => {
             Opening::Outside(Feature::QuestionKey)

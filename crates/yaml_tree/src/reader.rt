@@ -4,6 +4,7 @@ ghost use Rattle.std.specs.Prelude.{◌≡◌, ◌≤◌, ◌<◌, ◌+◌, ℕ,
 ghost use Rattle.std.specs.Str.{IsUtf8};
 ghost use Rattle.yaml_tree.specs.Rest.{Row, IsSpan, rest_of, place, on, front};
 
+use crate::content::Content;
 use crate::line_below::LineBelow;
 use dp_base::Place;
 use std::marker::Model;
@@ -130,6 +131,13 @@ impl<'a> Reader<'a> {
             return None;
         }
         Some(LineBelow::of(self.text, self.lines[self.next + index]))
+    }
+
+    /// The lines below.
+    pub(crate) fn below(&self) -> Content<'a>
+        ensures { result ≡ self.now.below }
+    {
+        Content::of(self.text, &self.lines[self.next..])
     }
 
     /// Passes lines below.

@@ -15,7 +15,7 @@ use yaml_scan::ScanEnd;
 #[cycle(tree)]
 #[derive(Debug, Drop)]
 pub enum Tree {
-    /// A plain or a quoted scalar, with its folded text.
+    /// A plain, quoted or block scalar, with its text.
     Scalar(Place, Text),
     List(Place, Seq<Tree>),
     Map(Place, Seq<Pair>),
@@ -109,7 +109,8 @@ pub enum Feature {
     Documents,
     /// `?` before a blank.
     QuestionKey,
-    /// A scalar that begins with `|` or `>`.
+    /// The header of a block scalar with more than one sign, blanks and a comment, and a `|` or `>` that begins a scalar in
+    /// a flow form, as a key or as the whole file.
     BlockScalar,
     /// A key with its `:` in a flow list.
     SinglePair,

@@ -1,4 +1,4 @@
-use Rattle.std.proofs.Common.{◌≡◌, ◌-◌, true, false, List, [], ◌∷◌, ◌++◌, Err, is_ok, sym, ap, ◌∙◌, subst, arith}
+use Rattle.std.proofs.Common.{◌≡◌, ◌-◌, true, false, List, [], ◌∷◌, ◌++◌, Ok, Err, is_ok, sym, ap, ◌∙◌, subst, arith}
 use Rattle.std.proofs.ResultArms.{chosen}
 use Rattle.std.proofs.lemmas.Result.{IfOk-weaker}
 use Rattle.yaml_tree.specs.Characters.{begins}
@@ -10,7 +10,7 @@ use Rattle.yaml_tree.specs.FlowSteps.{goes_on, KnowsNext, KeyValue}
 use Rattle.yaml_tree.specs.Keys.{stands_before}
 use Rattle.yaml_tree.specs.Known.{Knows}
 use Rattle.yaml_tree.specs.Results.{turn_of}
-use Rattle.yaml_tree.specs.declared.opening.Opening.TheVariants.{Plain, Quoted, FlowList, FlowMap}
+use Rattle.yaml_tree.specs.declared.opening.Opening.TheVariants.{Plain, Quoted, FlowList, FlowMap, Header}
 use Rattle.yaml_tree.specs.declared.tree.Tree.{Tree}
 use Rattle.yaml_tree.specs.declared.tree.Pair.{Pair}
 use Rattle.yaml_tree.specs.declared.tree.YamlEnd.TheVariants.{Unread}
@@ -58,6 +58,10 @@ pub form-returns-in-FlowMap-clause-refused : goal.form-returns-in-FlowMap-clause
 form-returns-in-FlowMap-clause-refused t c =
     refused_as (λ e. MapForm (Form true true (c.args.levels - 1)) (Form true false (c.args.levels - 1)) c.args.reader.now (Err e)) (λ e. Form c.args.flow c.args.maps c.args.levels c.args.reader.now (Err e))
     (λ e is. form_at c.args.flow c.args.maps c.args.levels c.args.reader.now FlowMap (Err e) (omega arith) (sym c.in-FlowMap.ensures) is) c.map.result c.map.ensures.refused
+
+pub form-returns-in-Header-clause-read : goal.form-returns-in-Header-clause-read
+form-returns-in-Header-clause-read t c =
+    form_at c.args.flow c.args.maps c.args.levels c.args.reader.now (Header c.in-Header.field-0 c.in-Header.field-1) (Ok (c.header_line.result, c.header_line.new.reader)) (omega arith) (sym c.in-Header.ensures) (sym c.header_line.ensures)
 
 -- ---- lists
 
