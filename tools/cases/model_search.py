@@ -20,7 +20,7 @@ class Search:
     def word(self, cost):
         """A number for a cost so far: the lesser, the better. No cost yet stands for the operator's unit."""
         if cost is None:
-            return 0 if self.problem.operator == "+" else -math.inf
+            cost = {"+": 0, "max": -math.inf, "min": math.inf}[self.problem.operator]
         return -cost if self.problem.maximize else cost
 
     def floor(self, state, cost):

@@ -254,6 +254,83 @@ one
 (union none a (add 1 a))
 (intersection (~ none) a (add 0 none))
 (intersection a (~ none) (add 3 a) (add -1 a))
+|(~ low)|
+|(~ steps)|
+|edges|
+edges
+(ladder 1)
+(ladder 3)
+(ladder -1)
+(union edges (ladder 1))
+(intersection edges steps)
+(difference edges steps)
+(add 1 edges)
+(add 4095 low)
+(add 4096 low)
+(add -1 low)
+(remove 4095 edges)
+(remove 4096 edges)
+(intersection (~ steps) edges)
+|(union steps (~ steps))|
+|(difference (~ low) (ladder 0))|
+(if (is_in 4095 edges) (ladder 2) edges)
+(is_in 4095 edges)
+(is_in 4094 edges)
+(is_in 4096 edges)
+(is_in 64 (intersection edges steps))
+(is_subset (intersection edges steps) steps)
+(is_subset steps edges)
+(is_subset low edges)
+(= edges (union edges low))
+(= edges (remove 63 edges))
+(!= edges (remove 62 edges))
+(is_empty low)
+(is_empty (difference steps (ladder 0)))
+(is_empty (~ low))
+(tops 0)
+(tops 2)
+(tops 3)
+(union (tops 0) (tops 1))
+|(~ (tops 2))|
+(difference all64 (~ (tops 1)))
+(add 63 (tops 1))
+(remove 63 (tops 0))
+(is_in 63 (tops 0))
+(is_in 62 (~ (tops 0)))
+(is_in 64 (tops 0))
+(is_in 64 (tops 3))
+(is_subset (tops 0) all64)
+(is_subset all64 (tops 0))
+(= (tops 1) (add 1 (add 0 (difference all64 all64))))
+(is_empty (intersection (tops 0) (tops 1)))
+(wells 1)
+(union ends (wells 1))
+(intersection (~ ends) (wells 1))
+(difference ends (wells 0))
+(is_in 64 (wells 0))
+(is_in 63 (wells 0))
+(is_subset (wells 0) ends)
+(is_subset ends (wells 1))
+(= (wells 0) (intersection ends (wells 0)))
+|(~ (wells 1))|
+(sum squares (wells 1))
+(sum squares (difference (~ ends) (wells 2)))
+(sum squares (wells 3))
+(sum squares (add 65 (wells 3)))
+(grid 5 (/ 1 0))
+(grid 5 -1)
+(grid -1 5)
+(grid (/ 1 0) 5)
+(grid 2 1)
+(sum grid 5 (add 3 a))
+(sum grid (add 3 a) 5)
+(sum grid (sets 1) 3)
+(is_in 3 (add -1 a))
+(add 3 (sets 3))
+(= (add 3 a) (add -1 a))
+(is_subset (tops 3) (add -1 (tops 0)))
+(union (wells 3) (add -1 ends))
+(if (is_empty (tops 3)) 1 2)
 """
 
 # Variables with what they range over, and a condition that must hold for each choice of them.
@@ -286,6 +363,14 @@ FOR_ALLS = [
     ([("j", "o3")], "(if (< j 1) (<= (/ 10 (- j 1)) 0) (>= (/ 10 j) 0))"),
     ([("j", "o3")], "(if (= j 0) (= (/ 10 j) 0) true)"),
     ([("j", "o1024")], "(if (is_in j even) (= (% j 2) 0) (= (% j 2) 1))"),
+    ([("j", "edges")], "(is_in j (union edges steps))"),
+    ([("j", "edges")], "(< j 4095)"),
+    ([("j", "o4096")], "(or (is_in j steps) (> (% j 64) 0))"),
+    ([("j", "ends")], "(!= (squares j) 4095)"),
+    ([("j", "ends")], "(is_in (+ j 1) ends)"),
+    ([("j", "all64")], "(is_in j (~ (tops 2)))"),
+    ([("j", "a"), ("k", "ends")], "(<= (+ (tens j) (squares k)) 4126)"),
+    ([("j", "a"), ("k", "ends")], "(<= (+ (tens j) (squares k)) 4125)"),
 ]
 
 # Where an expression stands, its text, and why it is not typed, by hand: the refusal at the byte where its form begins.

@@ -3,7 +3,7 @@
 GREATEST = 2**62 - 1
 
 # How many members each object type has.
-COUNTS = {"o3": 3, "o0": 0, "o1": 1, "o63": 63, "o64": 64, "o65": 65, "o1024": 1024}
+COUNTS = {"o3": 3, "o0": 0, "o1": 1, "o63": 63, "o64": 64, "o65": 65, "o1024": 1024, "o4096": 4096}
 
 # The parameters in force.
 ARGS = {"p": 1, "q": 2}
@@ -29,9 +29,15 @@ SETS = {
     "full": ("o1024", multiples(1, 1024)),
     "even": ("o1024", multiples(2, 1024)),
     "no": ("o1024", multiples(1, 0)),
+    "edges": ("o4096", frozenset([0, 63, 64, 4095])),
+    "steps": ("o4096", multiples(64, 4096)),
+    "low": ("o4096", multiples(1, 0)),
 }
 
 SMALL_SETS = [frozenset([0, 1]), frozenset(), frozenset([2])]
+LADDER = [multiples(64, 4096), frozenset([4095]), frozenset()]
+TOPS = [frozenset([63]), frozenset([0, 1]), multiples(3, 64)]
+WELLS = [frozenset([64]), frozenset([63, 64]), frozenset()]
 ROWS = [0, 1, 2, 100, 101, 102, 200, 201, 202]
 COLUMNS = [0, -1, -2, 7, 6, 5, 14, 13, 12]
 BELOW = [False, True, True, False, False, True, False, False, False]
@@ -55,6 +61,9 @@ TABLES = {
     "below": ("bool", None, ["o3", "o3"], lambda i, j: BELOW[3 * i + j]),
     "next": ("element", None, ["o3"], lambda i: [2, 0, 1][i]),
     "digits": ("integer", None, ["o1024", "o1"], lambda i, j: i % 10),
+    "ladder": ("set", "o4096", ["o3"], lambda i: LADDER[i]),
+    "tops": ("set", "o64", ["o3"], lambda i: TOPS[i]),
+    "wells": ("set", "o65", ["o3"], lambda i: WELLS[i]),
 }
 
 

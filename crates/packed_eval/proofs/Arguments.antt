@@ -1,11 +1,12 @@
 -- The arguments of a table's cell, evaluated in order.
-use Rattle.std.proofs.Common.{◌≡◌, ℕ, zero, suc, ◌+◌, ◌<◌, true, List, [], ◌∷◌, length, get_or, drop, drop-cons, add-one, min, Result, Ok, Err, ℤ, refl, sym, ◌∙◌, arith}
+use Rattle.std.proofs.Common.{◌≡◌, ℕ, zero, suc, ◌+◌, ◌*◌, ◌<◌, ◌≤◌, ◌&&◌, true, ap, List, [], ◌∷◌, length, get_or, drop, drop-cons, add-one, min, Result, Ok, Err, ℤ, refl, sym, ◌∙◌, arith}
 use Rattle.std.proofs.lemmas.Bool.{and_parts}
 use Rattle.dp_base.specs.Results.{◌>>=◌}
-use Rattle.packed_words.specs.Places.{most, placed_at}
+use Rattle.std.proofs.lemmas.Nat.{mul-le}
+use Rattle.packed_words.specs.Places.{most, advanced, placed, placed_at}
 use Rattle.packed_words.specs.Sets.{IsClean}
 use Rattle.packed_words.proofs.OnePass.{placed-is}
-use Rattle.dp_model.specs.Evaluation.{count_of, cells_object, members_of, place_from, table_counts, cells_of, set_cell, num_value, set_value, ArgValue, CondValue, NumValue, SetValue, arg_step, cond_step, num_step, set_step}
+use Rattle.dp_model.specs.Evaluation.{count_of, cells_object, member_of, members_of, place_from, table_counts, cells_of, set_cell, num_value, set_value, ArgValue, CondValue, NumValue, SetValue, arg_step, cond_step, num_step, set_step}
 use Rattle.dp_model.specs.declared.answers.FaultKind.{FaultKind}
 use Rattle.dp_model.specs.declared.trees.Num as nums
 use Rattle.dp_model.specs.declared.trees.SetEx as sets
@@ -21,7 +22,29 @@ module _ (m : Model) (given room : ℕ) where
   fit_at (n ∷ ns) zero d p h = (and_parts (num_fits m n given room) (all_fit m ns given room) h).0
   fit_at (n ∷ ns) (suc i) d p h = fit_at ns i d (omega arith) (and_parts (num_fits m n given room) (all_fit m ns given room) h).1
 
+  pub fit_one : (ns : List nums.Num) (n : nums.Num) → ns ≡ n ∷ [] → all_fit m ns given room ≡ true → num_fits m n given room ≡ true
+  fit_one ns n p h = (and_parts (num_fits m n given room) true (rw p at h)).0
+
+  pub fit_two : (ns : List nums.Num) (n o : nums.Num) → ns ≡ n ∷ o ∷ [] → all_fit m ns given room ≡ true → (num_fits m n given room ≡ true) × (num_fits m o given room ≡ true)
+  fit_two ns n o p h =
+      let f = and_parts (num_fits m n given room) (num_fits m o given room && true) (rw p at h) in
+      (f.0, (and_parts (num_fits m o given room) true f.1).0)
+
 module _ (m : Model) (s : PlainState) (given : List ℕ) where
+  -- cells with one argument and with two
+
+  pub one_value : (ns : List nums.Num) (n : nums.Num) (z : ℤ) → ns ≡ n ∷ [] → num_value m s n given ≡ Ok z → num_values m s ns given ≡ Ok (z ∷ [])
+  one_value ns n z p e = rw (p, e) refl
+
+  pub one_fault : (ns : List nums.Num) (n : nums.Num) (more : List nums.Num) (kind : FaultKind) → ns ≡ n ∷ more → num_value m s n given ≡ Err kind → num_values m s ns given ≡ Err kind
+  one_fault ns n more kind p e = rw (p, e) refl
+
+  pub two_values : (ns : List nums.Num) (n o : nums.Num) (y z : ℤ) → ns ≡ n ∷ o ∷ [] → num_value m s n given ≡ Ok y → num_value m s o given ≡ Ok z → num_values m s ns given ≡ Ok (y ∷ z ∷ [])
+  two_values ns n o y z p e f = rw (p, e, f) refl
+
+  pub second_fault : (ns : List nums.Num) (n o : nums.Num) (y : ℤ) (kind : FaultKind) → ns ≡ n ∷ o ∷ [] → num_value m s n given ≡ Ok y → num_value m s o given ≡ Err kind → num_values m s ns given ≡ Err kind
+  second_fault ns n o y kind p e f = rw (p, e, f) refl
+
   one_more : (counts : List ℕ) (led : Result ℕ FaultKind) (z : ℤ) (r : Result (List ℤ) FaultKind) → placed_from counts (r >>= λ zs. Ok (z ∷ zs)) led ≡ placed_from (drop 1 counts) r (member_on counts led z)
   one_more counts led z (Ok zs) = refl
   one_more counts led z (Err kind) = refl
@@ -46,3 +69,24 @@ clean_placed m t (Ok zs) at words e h = of_members (members_of (table_counts m t
     of_members : (r : Result (List ℕ) FaultKind) → Ok at ≡ (r >>= λ members. Ok (min most (place_from 0 (table_counts m t) members))) → IsClean (count_of m (cells_object (cells_of m t))) words
     of_members (Ok members) e = h (place_from 0 (table_counts m t) members) (let q : at ≡ min most (place_from 0 (table_counts m t) members) = cc in q)
     of_members (Err kind) e = absurd (cc)
+
+-- the place of one member, and of two
+
+first_place : (count k : ℕ) → k < 4294967296 → advanced 0 count k ≡ k
+first_place count k h = let none : 0 * count ≡ 0 = omega arith in rw none (omega (arith, h))
+
+next_place : (i count k : ℕ) → i < 4294967296 → count < 4294967296 → k < 4294967296 → advanced i count k ≡ i * count + k
+next_place i count k h c l =
+    let few : i * count ≤ 4294967295 * 4294967295 = mul-le i count 4294967295 4294967295 (omega (arith, h)) (omega (arith, c)) in
+    omega (arith, few, l)
+
+pub row_fits : (i count k : ℕ) → i < 4294967296 → count < 4294967296 → k < 4294967296 → i * count + k < 18446744073709551616
+row_fits i count k h c l =
+    let few : i * count ≤ 4294967295 * 4294967295 = mul-le i count 4294967295 4294967295 (omega (arith, h)) (omega (arith, c)) in
+    omega (arith, few, l)
+
+pub one_at : (counts rest : List ℕ) (count k : ℕ) (z : ℤ) → counts ≡ count ∷ rest → member_of count z ≡ Ok k → k < 4294967296 → Ok k ≡ placed counts (z ∷ []) (Ok 0)
+one_at counts rest count k z p e h = rw (p, e, first_place count k h) refl
+
+pub two_at : (counts rest : List ℕ) (count last i k : ℕ) (y z : ℤ) → counts ≡ count ∷ last ∷ rest → member_of count y ≡ Ok i → member_of last z ≡ Ok k → i < 4294967296 → last < 4294967296 → k < 4294967296 → Ok (i * last + k) ≡ placed counts (y ∷ z ∷ []) (Ok 0)
+two_at counts rest count last i k y z p e f h l j = rw (p, e, f, first_place count i h, next_place i last k h l j) refl

@@ -4,3 +4,4 @@ pub mod Arguments
 pub mod Foralls
 pub mod Ways
 pub mod Terms
+pub mod Held

@@ -17,7 +17,7 @@ use Rattle.dp_model.specs.declared.trees.SetOp.{SetOp}
 use Rattle.dp_model.specs.declared.trees.Compare.{Compare}
 use Rattle.dp_model.specs.declared.parts.PlainState.{PlainState}
 use Rattle.dp_model.specs.declared.whole.Model.{Model}
-use Rattle.eval_room.specs.Fits.{RoomTest, SetRoom, ArgRoom, arg_room, cond_room, num_room, set_room, num_fits, set_fits, cond_fits, more_fits, operand_fits, both_fit}
+use Rattle.eval_room.specs.Fits.{RoomTest, SetRoom, ArgRoom, arg_room, cond_room, num_room, set_room, num_fits, set_fits, cond_fits, all_fit, more_fits, operand_fits, both_fit}
 use Rattle.packed_words.specs.Operands.{Tells, operated_by, complement_of, with_in, without_in, is_member_in}
 use Rattle.packed_eval.proofs.Objects.{same_object}
 
@@ -72,6 +72,9 @@ module _ (m : Model) (given room : ℕ) where
 
   pub set_cell_object : (e : sets.SetEx) (t : ℕ) (ns : List nums.Num) → sets.out-SetEx e ≡ sets.SetEx-F.SetEx::Cell t ns → (set_fits m e).0 ≡ cells_object (cells_of m t)
   set_cell_object e t ns p = rw (set_out e, p) refl
+
+  pub set_cell_fit : (e : sets.SetEx) (t : ℕ) (ns : List nums.Num) → sets.out-SetEx e ≡ sets.SetEx-F.SetEx::Cell t ns → (set_fits m e).1 given room ≡ true → all_fit m ns given room ≡ true
+  set_cell_fit e t ns p h = rw (set_out e, p) at h
 
   pub over_all_fit : (e : conds.Cond) (over : Over) (c : conds.Cond) → conds.out-Cond e ≡ conds.Cond-F.All over c → cond_fits m e given room ≡ true → (over_fits m over ≡ true) × (more_fits (cond_fits m c) given room ≡ true)
   over_all_fit e over c p h = and_parts (over_fits m over) (more_fits (cond_fits m c) given room) (rw (cond_out e, p) at h)

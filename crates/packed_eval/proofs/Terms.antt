@@ -1,5 +1,5 @@
 -- The arguments of a sum, evaluated in order.
-use Rattle.std.proofs.Common.{◌≡◌, ℕ, zero, suc, ◌+◌, ◌-◌, ◌<◌, ◌≤◌, true, ◌&&◌, eqb, List, [], ◌∷◌, ◌++◌, length, get_or, map, take, drop, drop-cons, add-one, append-nil, Result, Ok, Err, ℤ, ◌⊎◌, inl, inr, refl, sym, ap, subst, ◌∙◌, arith}
+use Rattle.std.proofs.Common.{◌≡◌, ℕ, zero, suc, ◌+◌, ◌-◌, ◌<◌, ◌≤◌, true, false, ◌&&◌, eqb, List, [], ◌∷◌, ◌++◌, length, get_or, map, take, drop, drop-cons, add-one, append-nil, Result, Ok, Err, ℤ, ◌⊎◌, inl, inr, refl, sym, ap, subst, ◌∙◌, arith}
 use Rattle.std.specs.Prelude.{Option, Some, None, nat_le, slice_index}
 use Rattle.std.proofs.lemmas.Bool.{and_parts, eqb-true, leb-true}
 use Rattle.std.proofs.lemmas.List.{drop_all, take_all, length-drop, length-take-le}
@@ -32,6 +32,20 @@ module _ (m : Model) (given room : ℕ) where
       let a = and_parts (nat_le (word_count count) room) (term_room m (arg_fits m e) count given (room - word_count count) && terms_fit m rest more given (room - word_count count)) h in
       let b = and_parts (term_room m (arg_fits m e) count given (room - word_count count)) (terms_fit m rest more given (room - word_count count)) a.1 in
       (refl, leb-true (word_count count) room a.0, b.0, b.1)
+
+  -- a table of one argument has one count
+  pub only_term : (counts : List ℕ) (terms : List args.Arg) (d e : args.Arg) → length terms ≡ 1 → e ≡ get_or terms 0 d → terms_fit m counts terms given room ≡ true → (terms ≡ e ∷ []) × (counts ≡ slice_index counts 0 ∷ []) × (word_count (slice_index counts 0) ≤ room) × (term_room m (arg_fits m e) (slice_index counts 0) given (room - word_count (slice_index counts 0)) ≡ true)
+  only_term counts [] d e n p h = absurd (omega (arith, n))
+  only_term counts (x ∷ y ∷ ys) d e n p h = absurd (omega (arith, n))
+  only_term [] (x ∷ []) d e n p h = absurd cc
+  only_term (c ∷ k ∷ ks) (x ∷ []) d e n p h =
+      let a = and_parts (nat_le (word_count c) room) (term_room m (arg_fits m x) c given (room - word_count c) && false) h in
+      let b = and_parts (term_room m (arg_fits m x) c given (room - word_count c)) false a.1 in
+      absurd (let none = b.1 in cc)
+  only_term (c ∷ []) (x ∷ []) d e n p h =
+      let a = and_parts (nat_le (word_count c) room) (term_room m (arg_fits m x) c given (room - word_count c) && true) h in
+      let b = and_parts (term_room m (arg_fits m x) c given (room - word_count c)) true a.1 in
+      (ap (λ (y : args.Arg). y ∷ []) (sym p), refl, leb-true (word_count c) room a.0, rw p b.0)
 
   pub term_at : (left : List ℕ) (terms : List args.Arg) (i : ℕ) (d e : args.Arg) → i < length terms → e ≡ get_or terms i d → terms_fit m left (drop i terms) given room ≡ true → (left ≡ slice_index left 0 ∷ drop 1 left) × (word_count (slice_index left 0) ≤ room) × (term_room m (arg_fits m e) (slice_index left 0) given (room - word_count (slice_index left 0)) ≡ true) × (terms_fit m (drop 1 left) (drop (i + 1) terms) given (room - word_count (slice_index left 0)) ≡ true)
   term_at left terms i d e h p f =

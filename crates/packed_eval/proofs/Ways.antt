@@ -4,6 +4,7 @@ use Rattle.std.specs.Prelude.{Option, Some, None, option_and_then, unwrap_or, sl
 use Rattle.std.specs.List.{flat_map, filter, list_all, range_with_len}
 use Rattle.std.proofs.lemmas.Int.{ints, fits_signed_from_abs}
 use Rattle.std.specs.Int.{w128}
+use Rattle.std.proofs.Common.{w64}
 use Rattle.std.proofs.Math.Nat.{mul-le-mul_right}
 use Rattle.std.proofs.lemmas.List.{take_all, drop_all, take-append-le, drop-append-le, length-drop, length-take-le}
 use Rattle.std.proofs.lemmas.Bool.{and_parts, cases_eq, eq-eqb, ne_eqb, leb-true}
@@ -22,7 +23,7 @@ use Rattle.dp_model.specs.declared.whole.Model.{Model}
 use Rattle.bit_sets.specs.Sets.{members_of, has_bit, bound_of}
 use Rattle.state_layout.specs.Signatures.{word_count}
 use Rattle.packed_words.specs.Totals.{total_by}
-use Rattle.packed_eval.specs.Sums.{words_of, sets_in, place_after, total_over, cell_at, AreFew, bound_for, IsWithin, fault_in, waits_on, Chooses, unless, sum_after}
+use Rattle.packed_eval.specs.Sums.{sum_of_one, words_of, sets_in, place_after, total_over, cell_at, AreFew, bound_for, IsWithin, fault_in, waits_on, Chooses, unless, sum_after}
 
 -- ---- one argument more
 
@@ -257,3 +258,23 @@ same_front (x ∷ xs) [] h f = absurd (omega (arith, h))
 same_front (x ∷ xs) (y ∷ ys) h f =
     let first : y ≡ x = f 0 (omega arith) in
     rw first (ap (λ (zs : List ℕ). x ∷ zs) (same_front xs ys (omega (arith, h)) (λ k l. f (suc k) (omega (arith, l)))))
+
+-- ---- sums over one set
+
+-- the total over the set of a table's only argument
+pub one_told : (m : Model) (t : ℕ) (cells : List ℤ) (count : ℕ) (set : List ℕ) (total : ℤ) → table_counts m t ≡ count ∷ [] → ((p : ℕ) → number_cell (cells_of m t) p ≡ cell_at cells p) → total ≡ total_by (cell_at cells) set → total ≡ total_of m t (ways (set ∷ []))
+one_told m t cells count set total c h e =
+    e
+    ∙ total_same (cell_at cells) (λ k. number_cell (cells_of m t) (0 * count + k)) (λ k. let none : 0 * count + k ≡ k = omega arith in rw none (sym (h k))) set
+    ∙ whole (table_counts m t) c
+    ∙ sym (total_is m t (set ∷ []))
+  where
+    whole : (counts : List ℕ) → counts ≡ count ∷ [] → total_by (λ k. number_cell (cells_of m t) (0 * count + k)) set ≡ total_over (number_cell (cells_of m t)) 0 counts (set ∷ [])
+    whole counts p = rw p refl
+
+-- what a number of 64 bits has at most
+pub cell_within : (z : ℤ) → FitsSigned w64 z → IsWithin 9223372036854775808 z
+cell_within z small = record { low = omega (arith, ints); high = omega (arith, ints) }
+
+pub at_member : (m : Model) (t count : ℕ) (z : ℤ) (k : ℕ) (set : List ℕ) (r : Result ℤ FaultKind) → member_of count z ≡ Ok k → set ≡ k ∷ [] → r ≡ ranged (total_of m t (ways (set ∷ []))) → r ≡ sum_of_one m t count z
+at_member m t count z k set r p e h = h ∙ rw (p, e) refl

@@ -75,3 +75,7 @@ sum_after m t chosen waits left rest = rest >>= λ xs. unless waits (choices_of 
 abbrev pub Termed : ℕ → Option FaultKind → List ℕ → Result (Option FaultKind) FaultKind → Result (ℤ ⊎ List ℕ) FaultKind → Type 0
 Termed count waits choice (Err kind) value = value ≡ Err kind
 Termed count waits choice (Ok now) value = (x : ℤ ⊎ List ℕ) × (value ≡ Ok x) × (now ≡ waits_on count waits x) × (now ≡ None → Chooses count x choice)
+
+-- the sum of a table of one argument over the one member that a number is
+abbrev pub sum_of_one : Model → ℕ → (count : ℕ) → ℤ → Result ℤ FaultKind
+sum_of_one m t count z = member_of count z >>= λ k. ranged (total_of m t (ways ((k ∷ []) ∷ [])))

@@ -1,18 +1,21 @@
 //! Sums of a table's cells over sets that lie in words, one behind another.
 
-ghost use Rattle.std.specs.Prelude.{◌≡◌, ◌≤◌, ◌<◌, ℕ, ◌∷◌, [], length, slice_index, IfSome, None, min};
+ghost use Rattle.std.specs.Prelude.{◌≡◌, ◌≤◌, ◌<◌, ◌+◌, ◌*◌, ℕ, ◌∷◌, [], length, slice_index, IfSome, None, min};
 ghost use Rattle.std.proofs.Common.{inl};
 ghost use Rattle.bit_sets.specs.Sets.{members_of};
 ghost use Rattle.dp_model.specs.Costs.{ranged};
 ghost use Rattle.dp_model.specs.Evaluation.{member_of, table_counts, ways, total_of};
 ghost use Rattle.state_layout.specs.Signatures.{word_count};
 ghost use Rattle.packed_words.specs.Places.{most, advanced};
-ghost use Rattle.packed_words.specs.Sets.{IsClean, IsNext};
-ghost use Rattle.packed_eval.specs.Sums.{words_of, sets_in, total_over, cell_at, fault_in, waits_on, Chooses, AreFew, bound_for, IsWithin};
+ghost use Rattle.packed_words.specs.Sets.{IsClean, IsNext, one_word};
+ghost use Rattle.packed_words.specs.Totals.{total_by};
+ghost use Rattle.packed_eval.specs.Sums.{sum_of_one, words_of, sets_in, total_over, cell_at, fault_in, waits_on, Chooses, AreFew, bound_for, IsWithin};
 
 use bit_sets::next_member;
 use dp_model::{FaultKind, Model};
-use packed_words::{after_first, member_of, number_at, numbers_in, ranged, with, words_for};
+use packed_words::{
+    after_first, first_bit, member_of, number_at, numbers_in, ranged, with, word_with, words_for,
+};
 
 /// The first of some counts, or 0 where there is none.
 pub fn first_of(counts: &[u32]) -> u32
@@ -90,6 +93,22 @@ fn next_held(set: &[u64], from: u32) -> Option<u32>
     next_member(set, from)
 }
 
+/// The total of the cells behind a place, over the set of the last argument, which lies in words.
+fn total_last(cells: &[i64], at: usize, count: u32, set: &[u64]) -> i128
+    requires { length set.now ≤ 64 }
+    ensures value { (place : ℕ) → at ≡ min most place
+        → result ≡ total_by (λ k. cell_at cells.now (place * count + k)) (members_of set.now) }
+    ensures within { IsWithin (bound_for 1) result }
+{
+    let mut total = 0;
+    let mut from = 0;
+    while let Some(member) = next_held(set, from) {
+        total += i128::from(number_at(cells, next_place(at, count, member)));
+        from = member + 1;
+    }
+    total
+}
+
 /// The total of the cells behind a place, over sets that lie in words one behind another.
 fn total_from(cells: &[i64], at: usize, counts: &[u32], held: &[u64]) -> i128
     requires few { AreFew counts.now }
@@ -104,6 +123,9 @@ fn total_from(cells: &[i64], at: usize, counts: &[u32], held: &[u64]) -> i128
     let count = first_of(counts);
     let rest = after_first(counts);
     let (set, behind) = held.split_at(words_for(count));
+    if rest.is_empty() {
+        return total_last(cells, at, count, set);
+    }
     let mut total = 0;
     let mut from = 0;
     while let Some(member) = next_held(set, from) {
@@ -120,4 +142,44 @@ pub fn sum_held(model: &Model, t: u32, counts: &[u32], held: &[u64]) -> Result<i
     ensures { result ≡ ranged (total_of model.now t (ways (sets_in counts.now held.now))) }
 {
     ranged(total_from(numbers_in(model, t), 0, counts, held))
+}
+
+/// The first member of a set in one word that is not below a number.
+fn next_one(word: u64, from: u32) -> Option<u32>
+    ensures value { IsNext result from (members_of (one_word word)) }
+    ensures below { IfSome result (λ k. (from ≤ k) × (k < 8192)) }
+{
+    first_bit(word, from)
+}
+
+/// The total of the cells of a set's members, which lie in one word.
+fn total_in(cells: &[i64], word: u64) -> i128
+    ensures value { result ≡ total_by (cell_at cells.now) (members_of (one_word word)) }
+    ensures within { IsWithin (bound_for 1) result }
+{
+    let mut total = 0;
+    let mut from = 0;
+    while let Some(member) = next_one(word, from) {
+        total += i128::from(number_at(cells, member as usize));
+        from = member + 1;
+    }
+    total
+}
+
+/// The sum of a table of one argument over a set in one word.
+pub fn sum_word(model: &Model, t: u32, word: u64) -> Result<i64, FaultKind>
+    requires { (count : ℕ) × (table_counts model.now t ≡ count ∷ []) }
+    ensures { result ≡ ranged (total_of model.now t (ways (members_of (one_word word) ∷ []))) }
+{
+    ranged(total_in(numbers_in(model, t), word))
+}
+
+/// The sum of a table of one argument over the one member that a number is.
+pub fn sum_at(model: &Model, t: u32, count: u32, z: i64) -> Result<i64, FaultKind>
+    requires counts { table_counts model.now t ≡ count ∷ [] }
+    requires few { count ≤ 64 }
+    ensures { result ≡ sum_of_one model.now t count z }
+{
+    let member = member_of(count, z)?;
+    sum_word(model, t, word_with(count, 0, member))
 }

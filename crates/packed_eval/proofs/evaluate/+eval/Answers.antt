@@ -1,14 +1,15 @@
 use Rattle.std.proofs.Common.{rules, arith, refl, ◌-◌, ◌+◌, ◌≤◌, take, ◌≡◌, ◌∙◌, ◌++◌, ◌∷◌, [], sym, ap, subst, true, length, drop, Ok, Err, List, ℕ, FitsSigned, w64}
+use Rattle.std.specs.Prelude.{slice_index}
 use Rattle.std.proofs.lemmas.Int.{to_z-of_z}
-use Rattle.dp_model.specs.Evaluation.{num_value, cond_value, count_of, table_counts, each_holds}
+use Rattle.dp_model.specs.Evaluation.{cells_of, cells_object, num_value, cond_value, count_of, table_counts, each_holds}
 use Rattle.dp_model.specs.declared.trees.Arg as args
 use Rattle.dp_model.specs.declared.trees.Cond as conds
 use Rattle.dp_model.specs.declared.trees.Num as nums
 use Rattle.dp_model.specs.declared.trees.SetEx as sets
 use Rattle.state_layout.specs.Packing.{state_in}
-use Rattle.packed_eval.proofs.Parts.{var_fit, param_fit, set_var_fit, set_var_object, set_var_is, set_cell_object, over_all_fit, operand_parts, var_member, numbers_fit, is_in_fit, and_fit, or_fit, operands_fit, if_fit, choice_fit, choice_object, is_in_is, op_answers, not_answers, with_answers, without_answers, both_parts, subset_fit, same_fit, other_fit}
+use Rattle.packed_eval.proofs.Parts.{var_fit, param_fit, set_var_fit, set_var_object, set_var_is, set_cell_object, set_cell_fit, over_all_fit, operand_parts, var_member, numbers_fit, is_in_fit, and_fit, or_fit, operands_fit, if_fit, choice_fit, choice_object, is_in_is, op_answers, not_answers, with_answers, without_answers, both_parts, subset_fit, same_fit, other_fit}
 use Rattle.state_layout.specs.Signatures.{word_count}
-use Rattle.eval_room.specs.Fits.{num_fits, set_fits, operand_fits, terms_fit, term_room, arg_fits}
+use Rattle.eval_room.specs.Fits.{all_fit, num_fits, set_fits, operand_fits, terms_fit, term_room, arg_fits}
 use Rattle.packed_words.specs.Places.{member_on}
 use Rattle.packed_words.specs.Ranges.{range_members}
 use Rattle.packed_words.specs.Sets.{members_from}
@@ -19,7 +20,7 @@ use Rattle.packed_words.specs.Operands.{num_values}
 use Rattle.bit_sets.specs.Sets.{members_of}
 use Rattle.packed_eval.specs.Sums.{sets_in, Termed}
 use Rattle.packed_eval.proofs.Ways.{between}
-use Rattle.packed_eval.proofs.Terms.{term_at, term_fault, sum_next, sum_told, fault_told, none_left, drop_next, used_next, fits_next, held_long, number_term, set_term, number_termed, set_termed}
+use Rattle.packed_eval.proofs.Terms.{only_term, term_at, term_fault, sum_next, sum_told, fault_told, none_left, drop_next, used_next, fits_next, held_long, number_term, set_term, number_termed, set_termed}
 use Rattle.packed_eval.proofs.evaluate.+eval.Goals as goal
 
 pub holds-number-requires-in-Numbers : goal.holds-number-requires-in-Numbers
@@ -88,16 +89,16 @@ composed-number-requires-else-branch t c =
     let f = if_fit c.args.at.now.model.now (length c.args.at.now.args.now) (length c.args.stack.now) c.args.e.now c.in-If.c c.in-If.a c.in-If.b p c.requires in
     (search (rules, args.the_lemmas, conds.the_lemmas, nums.the_lemmas, sets.the_lemmas), search (rules, f.0, f.1.0, f.1.1))
 
-pub set_into-set_into-requires-then-branch : goal.set_into-set_into-requires-then-branch
-set_into-set_into-requires-then-branch t c =
+pub set_wide-set_wide-requires-then-branch : goal.set_wide-set_wide-requires-then-branch
+set_wide-set_wide-requires-then-branch t c =
     let p : sets.out-SetEx c.args.e.now ≡ sets.SetEx-F.SetEx::If c.in-If.c c.in-If.a c.in-If.b = search (rules, sets.the_lemmas) in
     let f = choice_fit c.args.at.now.model.now (length c.args.at.now.args.now) (length c.args.stack.now) c.args.e.now c.in-If.c c.in-If.a c.in-If.b p c.requires.fits in
     let o = choice_object c.args.at.now.model.now (length c.args.at.now.args.now) (length c.args.stack.now) c.args.e.now c.in-If.c c.in-If.a c.in-If.b p in
     let k = c.requires.count ∙ ap (count_of c.args.at.now.model.now) o in
     (search (rules, args.the_lemmas, conds.the_lemmas, nums.the_lemmas, sets.the_lemmas), search (rules, f.1.0, f.1.1.1, k))
 
-pub set_into-set_into-requires-else-branch : goal.set_into-set_into-requires-else-branch
-set_into-set_into-requires-else-branch t c =
+pub set_wide-set_wide-requires-else-branch : goal.set_wide-set_wide-requires-else-branch
+set_wide-set_wide-requires-else-branch t c =
     let p : sets.out-SetEx c.args.e.now ≡ sets.SetEx-F.SetEx::If c.in-If.c c.in-If.a c.in-If.b = search (rules, sets.the_lemmas) in
     let f = choice_fit c.args.at.now.model.now (length c.args.at.now.args.now) (length c.args.stack.now) c.args.e.now c.in-If.c c.in-If.a c.in-If.b p c.requires.fits in
     let o = choice_object c.args.at.now.model.now (length c.args.at.now.args.now) (length c.args.stack.now) c.args.e.now c.in-If.c c.in-If.a c.in-If.b p in
@@ -110,34 +111,34 @@ holds-returns-in_ok-z-in-IsIn t c =
     let fits : FitsSigned w64 c.in_ok-z-in-IsIn.z = search rules in
     (rw (to_z-of_z w64 c.in_ok-z-in-IsIn.z fits) at c.is_in.ensures) ∙ sym (is_in_is c.args.at.now.model.now (state_in c.args.at.now.words.now) c.args.at.now.args.now c.args.e.now c.in-IsIn.n c.in-IsIn.a c.in_ok-z-in-IsIn.z p (search rules))
 
-pub set_into-returns-in_ok-set_into-in-Op-clause-members : goal.set_into-returns-in_ok-set_into-in-Op-clause-members
-set_into-returns-in_ok-set_into-in-Op-clause-members t c =
+pub set_wide-returns-in_ok-set_wide-in-Op-clause-members : goal.set_wide-returns-in_ok-set_wide-in-Op-clause-members
+set_wide-returns-in_ok-set_wide-in-Op-clause-members t c =
     let p : sets.out-SetEx c.args.e.now ≡ sets.SetEx-F.SetEx::Op c.in-Op.op c.get.result.now c.get-in-Op.result.now = search (rules, sets.the_lemmas) in
-    op_answers c.args.at.now.model.now (state_in c.args.at.now.words.now) c.args.at.now.args.now _ c.operated.result c.args.count c.args.e.now c.in-Op.op c.get.result.now c.get-in-Op.result.now _ p c.requires.count c.in_ok-set_into-in-Op.ensures.members c.operated.ensures.members
+    op_answers c.args.at.now.model.now (state_in c.args.at.now.words.now) c.args.at.now.args.now _ c.operated.result c.args.count c.args.e.now c.in-Op.op c.get.result.now c.get-in-Op.result.now _ p c.requires.count c.in_ok-set_wide-in-Op.ensures.members c.operated.ensures.members
 
-pub set_into-returns-in_ok-set_into-in-Not-clause-members : goal.set_into-returns-in_ok-set_into-in-Not-clause-members
-set_into-returns-in_ok-set_into-in-Not-clause-members t c =
+pub set_wide-returns-in_ok-set_wide-in-Not-clause-members : goal.set_wide-returns-in_ok-set_wide-in-Not-clause-members
+set_wide-returns-in_ok-set_wide-in-Not-clause-members t c =
     let p : sets.out-SetEx c.args.e.now ≡ sets.SetEx-F.SetEx::Not c.get-in-Not.result.now = search (rules, sets.the_lemmas) in
-    not_answers c.args.at.now.model.now (state_in c.args.at.now.words.now) c.args.at.now.args.now c.args.count c.args.e.now c.get-in-Not.result.now _ _ p c.requires.count c.in_ok-set_into-in-Not.ensures.members c.others.ensures.members
+    not_answers c.args.at.now.model.now (state_in c.args.at.now.words.now) c.args.at.now.args.now c.args.count c.args.e.now c.get-in-Not.result.now _ _ p c.requires.count c.in_ok-set_wide-in-Not.ensures.members c.others.ensures.members
 
 -- cells
 
-pub place_of-number-requires : goal.place_of-number-requires
-place_of-number-requires t c =
+pub place_of_all-number-requires : goal.place_of_all-number-requires
+place_of_all-number-requires t c =
     let items : c.deref-n-items.result.now ≡ c.args.ns.now = search rules in
     let there = fit_at c.args.at.now.model.now (length c.args.at.now.args.now) (length c.args.stack.now) c.deref-n-items.result.now c.loop-n.n-index _ c.loop-n-test.true (rw items c.requires) in
     let fit : num_fits c.args.at.now.model.now c.n-item.result (length c.args.at.now.args.now) (length c.args.stack.now) ≡ true = rw c.n-item.is there in
     (search (rules, args.the_lemmas, conds.the_lemmas, nums.the_lemmas, sets.the_lemmas), search (rules, fit))
 
-pub place_of-returns-in_err-z : goal.place_of-returns-in_err-z
-place_of-returns-in_err-z t c =
+pub place_of_all-returns-in_err-z : goal.place_of_all-returns-in_err-z
+place_of_all-returns-in_err-z t c =
     let items : c.deref-n-items.result.now ≡ c.args.ns.now = search rules in
     let value : num_value c.args.at.now.model.now (state_in c.args.at.now.words.now) c.n-item.result c.args.at.now.args.now ≡ Err c.in_err-z.field-0.0 = search rules in
     let r : c.from_residual.result ≡ Err c.in_err-z.field-0.0 = search rules in
     rw (← items) (r ∙ sym (place_fault c.args.at.now.model.now (state_in c.args.at.now.words.now) c.args.at.now.args.now (c.loop-n.left.now) c.deref-n-items.result.now c.loop-n.led c.loop-n.n-index _ c.n-item.result c.in_err-z.field-0.0 c.loop-n-test.true c.n-item.is value) ∙ c.loop-n.invariant)
 
-pub place_of-loop-n-preserved : goal.place_of-loop-n-preserved
-place_of-loop-n-preserved t c =
+pub place_of_all-loop-n-preserved : goal.place_of_all-loop-n-preserved
+place_of_all-loop-n-preserved t c =
     let value : num_value c.args.at.now.model.now (state_in c.args.at.now.words.now) c.n-item.result c.args.at.now.args.now ≡ Ok c.in_ok-z.z = search rules in
     let step = place_step c.args.at.now.model.now (state_in c.args.at.now.words.now) c.args.at.now.args.now (c.loop-n.left.now) c.deref-n-items.result.now c.loop-n.led c.loop-n.n-index _ c.n-item.result c.in_ok-z.z c.loop-n-test.true c.n-item.is value in
     let fits : FitsSigned w64 c.in_ok-z.z = search rules in
@@ -162,60 +163,17 @@ all_hold-loop-member-preserved t c =
 
 -- one member more or less
 
-pub set_into-returns-in_ok-z-in-With-clause-members : goal.set_into-returns-in_ok-z-in-With-clause-members
-set_into-returns-in_ok-z-in-With-clause-members t c =
+pub set_wide-returns-in_ok-z-in-With-clause-members : goal.set_wide-returns-in_ok-z-in-With-clause-members
+set_wide-returns-in_ok-z-in-With-clause-members t c =
     let p : sets.out-SetEx c.args.e.now ≡ sets.SetEx-F.With c.get-in-With.result.now c.get-in-With-2.result.now = search (rules, sets.the_lemmas) in
     let fits : FitsSigned w64 c.in_ok-z-in-With.z = search rules in
     with_answers c.args.at.now.model.now (state_in c.args.at.now.words.now) c.args.at.now.args.now _ c.with_member.result c.args.count c.args.e.now c.get-in-With.result.now c.get-in-With-2.result.now c.in_ok-z-in-With.z p c.requires.count (search rules) (rw (to_z-of_z w64 c.in_ok-z-in-With.z fits) at c.with_member.ensures.members)
 
-pub set_into-returns-in_ok-z-in-Without-clause-members : goal.set_into-returns-in_ok-z-in-Without-clause-members
-set_into-returns-in_ok-z-in-Without-clause-members t c =
+pub set_wide-returns-in_ok-z-in-Without-clause-members : goal.set_wide-returns-in_ok-z-in-Without-clause-members
+set_wide-returns-in_ok-z-in-Without-clause-members t c =
     let p : sets.out-SetEx c.args.e.now ≡ sets.SetEx-F.Without c.get-in-Without.result.now c.get-in-Without-2.result.now = search (rules, sets.the_lemmas) in
     let fits : FitsSigned w64 c.in_ok-z-in-Without.z = search rules in
     without_answers c.args.at.now.model.now (state_in c.args.at.now.words.now) c.args.at.now.args.now _ c.without_member.result c.args.count c.args.e.now c.get-in-Without.result.now c.get-in-Without-2.result.now c.in_ok-z-in-Without.z p c.requires.count (search rules) (rw (to_z-of_z w64 c.in_ok-z-in-Without.z fits) at c.without_member.ensures.members)
-
--- two sets
-
-pub holds-is_same_of-requires : goal.holds-is_same_of-requires
-holds-is_same_of-requires t c =
-    let p : conds.out-Cond c.args.e.now ≡ conds.Cond-F.SameSet c.in-SameSet.a c.in-SameSet.b = search (rules, conds.the_lemmas) in
-    let h = same_fit c.args.at.now.model.now (length c.args.at.now.args.now) (length c.args.stack.now) c.args.e.now c.in-SameSet.a c.in-SameSet.b p c.requires in
-    let f = both_parts c.args.at.now.model.now (length c.args.at.now.args.now) (length c.args.stack.now) (set_fits c.args.at.now.model.now c.in-SameSet.a) (set_fits c.args.at.now.model.now c.in-SameSet.b) h in
-    let k = c.set_count-count.ensures.value ∙ ap (count_of c.args.at.now.model.now) f.1.0 in
-    let g : operand_fits c.args.at.now.model.now (set_fits c.args.at.now.model.now c.in-SameSet.b) (length c.args.at.now.args.now) (length c.args.stack.now - word_count c.set_count-count.result) ≡ true = rw c.set_count-count.ensures.value f.1.1 in
-    (search (rules, args.the_lemmas, conds.the_lemmas, nums.the_lemmas, sets.the_lemmas), search (rules, g, k))
-
-pub holds-set_into-requires-in-OtherSet : goal.holds-set_into-requires-in-OtherSet
-holds-set_into-requires-in-OtherSet t c =
-    let p : conds.out-Cond c.args.e.now ≡ conds.Cond-F.OtherSet c.in-OtherSet.a c.in-OtherSet.b = search (rules, conds.the_lemmas) in
-    let h = other_fit c.args.at.now.model.now (length c.args.at.now.args.now) (length c.args.stack.now) c.args.e.now c.in-OtherSet.a c.in-OtherSet.b p c.requires in
-    let f = both_parts c.args.at.now.model.now (length c.args.at.now.args.now) (length c.args.stack.now) (set_fits c.args.at.now.model.now c.in-OtherSet.a) (set_fits c.args.at.now.model.now c.in-OtherSet.b) h in
-    (search (rules, args.the_lemmas, conds.the_lemmas, nums.the_lemmas, sets.the_lemmas), search (rules, f.0))
-
-pub holds-is_same_of-requires-in-OtherSet : goal.holds-is_same_of-requires-in-OtherSet
-holds-is_same_of-requires-in-OtherSet t c =
-    let p : conds.out-Cond c.args.e.now ≡ conds.Cond-F.OtherSet c.in-OtherSet.a c.in-OtherSet.b = search (rules, conds.the_lemmas) in
-    let h = other_fit c.args.at.now.model.now (length c.args.at.now.args.now) (length c.args.stack.now) c.args.e.now c.in-OtherSet.a c.in-OtherSet.b p c.requires in
-    let f = both_parts c.args.at.now.model.now (length c.args.at.now.args.now) (length c.args.stack.now) (set_fits c.args.at.now.model.now c.in-OtherSet.a) (set_fits c.args.at.now.model.now c.in-OtherSet.b) h in
-    let k = c.set_count-count-in-OtherSet.ensures.value ∙ ap (count_of c.args.at.now.model.now) f.1.0 in
-    let g : operand_fits c.args.at.now.model.now (set_fits c.args.at.now.model.now c.in-OtherSet.b) (length c.args.at.now.args.now) (length c.args.stack.now - word_count c.set_count-count-in-OtherSet.result) ≡ true = rw c.set_count-count-in-OtherSet.ensures.value f.1.1 in
-    (search (rules, args.the_lemmas, conds.the_lemmas, nums.the_lemmas, sets.the_lemmas), search (rules, g, k))
-
-pub holds-set_into-requires-in-Subset : goal.holds-set_into-requires-in-Subset
-holds-set_into-requires-in-Subset t c =
-    let p : conds.out-Cond c.args.e.now ≡ conds.Cond-F.Subset c.in-Subset.a c.in-Subset.b = search (rules, conds.the_lemmas) in
-    let h = subset_fit c.args.at.now.model.now (length c.args.at.now.args.now) (length c.args.stack.now) c.args.e.now c.in-Subset.a c.in-Subset.b p c.requires in
-    let f = both_parts c.args.at.now.model.now (length c.args.at.now.args.now) (length c.args.stack.now) (set_fits c.args.at.now.model.now c.in-Subset.a) (set_fits c.args.at.now.model.now c.in-Subset.b) h in
-    (search (rules, args.the_lemmas, conds.the_lemmas, nums.the_lemmas, sets.the_lemmas), search (rules, f.0))
-
-pub holds-is_within_of-requires : goal.holds-is_within_of-requires
-holds-is_within_of-requires t c =
-    let p : conds.out-Cond c.args.e.now ≡ conds.Cond-F.Subset c.in-Subset.a c.in-Subset.b = search (rules, conds.the_lemmas) in
-    let h = subset_fit c.args.at.now.model.now (length c.args.at.now.args.now) (length c.args.stack.now) c.args.e.now c.in-Subset.a c.in-Subset.b p c.requires in
-    let f = both_parts c.args.at.now.model.now (length c.args.at.now.args.now) (length c.args.stack.now) (set_fits c.args.at.now.model.now c.in-Subset.a) (set_fits c.args.at.now.model.now c.in-Subset.b) h in
-    let k = c.set_count-count-in-Subset.ensures.value ∙ ap (count_of c.args.at.now.model.now) f.1.0 in
-    let g : operand_fits c.args.at.now.model.now (set_fits c.args.at.now.model.now c.in-Subset.b) (length c.args.at.now.args.now) (length c.args.stack.now - word_count c.set_count-count-in-Subset.result) ≡ true = rw c.set_count-count-in-Subset.ensures.value f.1.1 in
-    (search (rules, args.the_lemmas, conds.the_lemmas, nums.the_lemmas, sets.the_lemmas), search (rules, g, k))
 
 pub all_hold-loop-member-init : goal.all_hold-loop-member-init
 all_hold-loop-member-init t c = record {
@@ -226,8 +184,8 @@ all_hold-loop-member-init t c = record {
 
 -- cells of sets
 
-pub set_into-returns-in-Cell-clause-members : goal.set_into-returns-in-Cell-clause-members
-set_into-returns-in-Cell-clause-members t c =
+pub set_wide-returns-in-Cell-clause-members : goal.set_wide-returns-in-Cell-clause-members
+set_wide-returns-in-Cell-clause-members t c =
     let p : sets.out-SetEx c.args.e.now ≡ sets.SetEx-F.SetEx::Cell c.in-Cell.t c.in-Cell.ns = search (rules, sets.the_lemmas) in
     set_cell_tells c.args.at.now.model.now (state_in c.args.at.now.words.now) c.args.at.now.args.now _ c.set_placed.result c.args.e.now c.in-Cell.t c.in-Cell.ns p (c.set_placed.ensures.members _ c.place_of.ensures)
 
@@ -253,33 +211,33 @@ composed-parameter-requires t c =
     let p : nums.out-Num c.args.e.now ≡ nums.Num-F.Param c.in-Param.p = search (rules, nums.the_lemmas) in
     param_fit c.args.at.now.model.now (length c.args.at.now.args.now) (length c.args.stack.now) c.args.e.now c.in-Param.p p c.requires
 
-pub set_into-copy_set-requires-clause-kind : goal.set_into-copy_set-requires-clause-kind
-set_into-copy_set-requires-clause-kind t c =
+pub set_wide-copy_set-requires-clause-kind : goal.set_wide-copy_set-requires-clause-kind
+set_wide-copy_set-requires-clause-kind t c =
     let p : sets.out-SetEx c.args.e.now ≡ sets.SetEx-F.SetEx::Var c.in-Var.v = search (rules, sets.the_lemmas) in
     set_var_fit c.args.at.now.model.now (length c.args.at.now.args.now) (length c.args.stack.now) c.args.e.now c.in-Var.v p c.requires.fits
 
-pub set_into-copy_set-requires-clause-len : goal.set_into-copy_set-requires-clause-len
-set_into-copy_set-requires-clause-len t c =
+pub set_wide-copy_set-requires-clause-len : goal.set_wide-copy_set-requires-clause-len
+set_wide-copy_set-requires-clause-len t c =
     let p : sets.out-SetEx c.args.e.now ≡ sets.SetEx-F.SetEx::Var c.in-Var.v = search (rules, sets.the_lemmas) in
     c.requires.length ∙ ap word_count (c.requires.count ∙ ap (count_of c.args.at.now.model.now) (set_var_object c.args.at.now.model.now (length c.args.at.now.args.now) (length c.args.stack.now) c.args.e.now c.in-Var.v p))
 
-pub set_into-returns-in-Var-clause-members : goal.set_into-returns-in-Var-clause-members
-set_into-returns-in-Var-clause-members t c =
+pub set_wide-returns-in-Var-clause-members : goal.set_wide-returns-in-Var-clause-members
+set_wide-returns-in-Var-clause-members t c =
     let p : sets.out-SetEx c.args.e.now ≡ sets.SetEx-F.SetEx::Var c.in-Var.v = search (rules, sets.the_lemmas) in
     set_var_is c.args.at.now.model.now (state_in c.args.at.now.words.now) c.args.at.now.args.now c.args.e.now c.in-Var.v p ∙ ap Ok (sym c.copy_set.ensures.members)
 
-pub set_into-returns-in-Var-clause-clean : goal.set_into-returns-in-Var-clause-clean
-set_into-returns-in-Var-clause-clean t c =
+pub set_wide-returns-in-Var-clause-clean : goal.set_wide-returns-in-Var-clause-clean
+set_wide-returns-in-Var-clause-clean t c =
     let p : sets.out-SetEx c.args.e.now ≡ sets.SetEx-F.SetEx::Var c.in-Var.v = search (rules, sets.the_lemmas) in
     rw (c.requires.count ∙ ap (count_of c.args.at.now.model.now) (set_var_object c.args.at.now.model.now (length c.args.at.now.args.now) (length c.args.stack.now) c.args.e.now c.in-Var.v p)) c.copy_set.ensures.clean
 
-pub set_into-set_placed-requires : goal.set_into-set_placed-requires
-set_into-set_placed-requires t c =
+pub set_wide-set_placed-requires : goal.set_wide-set_placed-requires
+set_wide-set_placed-requires t c =
     let p : sets.out-SetEx c.args.e.now ≡ sets.SetEx-F.SetEx::Cell c.in-Cell.t c.in-Cell.ns = search (rules, sets.the_lemmas) in
     c.requires.length ∙ ap word_count (c.requires.count ∙ ap (count_of c.args.at.now.model.now) (set_cell_object c.args.at.now.model.now (length c.args.at.now.args.now) (length c.args.stack.now) c.args.e.now c.in-Cell.t c.in-Cell.ns p))
 
-pub set_into-returns-in-Cell-clause-clean : goal.set_into-returns-in-Cell-clause-clean
-set_into-returns-in-Cell-clause-clean t c =
+pub set_wide-returns-in-Cell-clause-clean : goal.set_wide-returns-in-Cell-clause-clean
+set_wide-returns-in-Cell-clause-clean t c =
     let p : sets.out-SetEx c.args.e.now ≡ sets.SetEx-F.SetEx::Cell c.in-Cell.t c.in-Cell.ns = search (rules, sets.the_lemmas) in
     rw (c.requires.count ∙ ap (count_of c.args.at.now.model.now) (set_cell_object c.args.at.now.model.now (length c.args.at.now.args.now) (length c.args.stack.now) c.args.e.now c.in-Cell.t c.in-Cell.ns p)) (c.set_placed.ensures.clean (num_values c.args.at.now.model.now (state_in c.args.at.now.words.now) c.in-Cell.ns c.args.at.now.args.now) c.place_of.ensures)
 
@@ -288,22 +246,10 @@ holds-range_of-requires t c =
     let p : conds.out-Cond c.args.e.now ≡ conds.Cond-F.All c.in-All.over c.in-All.c = search (rules, conds.the_lemmas) in
     (over_all_fit c.args.at.now.model.now (length c.args.at.now.args.now) (length c.args.stack.now) c.args.e.now c.in-All.over c.in-All.c p c.requires).0
 
-pub is_in-member_at-requires : goal.is_in-member_at-requires
-is_in-member_at-requires t c =
-    let p : sets.out-SetEx c.args.a.now ≡ sets.SetEx-F.SetEx::Var c.in-Var.v = search (rules, sets.the_lemmas) in
-    let f = operand_parts c.args.at.now.model.now (length c.args.at.now.args.now) (length c.args.stack.now) (set_fits c.args.at.now.model.now c.args.a.now) c.requires in
-    set_var_fit c.args.at.now.model.now (length c.args.at.now.args.now) (length c.args.stack.now - word_count (count_of c.args.at.now.model.now (set_fits c.args.at.now.model.now c.args.a.now).0)) c.args.a.now c.in-Var.v p f.1
-
-pub is_in-returns-in-Var : goal.is_in-returns-in-Var
-is_in-returns-in-Var t c =
-    let p : sets.out-SetEx c.args.a.now ≡ sets.SetEx-F.SetEx::Var c.in-Var.v = search (rules, sets.the_lemmas) in
-    let fits : FitsSigned w64 c.args.z = search rules in
-    var_member c.args.at.now.model.now (state_in c.args.at.now.words.now) c.args.at.now.args.now c.args.a.now c.in-Var.v c.set_count-count.result c.args.z c.member_at.result p c.set_count-count.ensures.value (rw (to_z-of_z w64 c.args.z fits) at c.member_at.ensures)
-
 -- sums
 
-pub sum-term_into-requires : goal.sum-term_into-requires
-sum-term_into-requires t c =
+pub sum_all-term_into-requires : goal.sum_all-term_into-requires
+sum_all-term_into-requires t c =
     let v = c.loop-e.invariant in
     let there = term_at c.args.at.now.model.now (length c.args.at.now.args.now) (length c.loop-e.stack - c.loop-e.used) c.loop-e.left.now c.deref-e-items.result.now c.loop-e.e-index _ c.e-item.result c.loop-e-test.true c.e-item.is v.fits in
     let first = c.first_of-count.ensures in
@@ -311,8 +257,8 @@ sum-term_into-requires t c =
     let fits : term_room c.args.at.now.model.now (arg_fits c.args.at.now.model.now c.e-item.result) c.first_of-count.result (length c.args.at.now.args.now) (length c.loop-e.stack - c.loop-e.used - word_count c.first_of-count.result) ≡ true = rw first there.2 in
     (search (rules, args.the_lemmas, conds.the_lemmas, nums.the_lemmas, sets.the_lemmas), search (rules, room, fits))
 
-pub sum-returns-in_err-waits : goal.sum-returns-in_err-waits
-sum-returns-in_err-waits t c =
+pub sum_all-returns-in_err-waits : goal.sum_all-returns-in_err-waits
+sum_all-returns-in_err-waits t c =
     let items : c.deref-e-items.result.now ≡ c.args.terms.now = search rules in
     let v = c.loop-e.invariant in
     let r : c.from_residual.result ≡ Err c.in_err-waits.field-0.0 = search rules in
@@ -320,8 +266,8 @@ sum-returns-in_err-waits t c =
     let whole : sum_value c.args.at.now.model.now (state_in c.args.at.now.words.now) c.args.t c.deref-e-items.result.now c.args.at.now.args.now ≡ Err c.in_err-waits.field-0.0 = term_fault c.args.at.now.model.now (state_in c.args.at.now.words.now) c.args.at.now.args.now c.args.t c.deref-e-items.result.now c.loop-e.e-index _ c.e-item.result c.in_err-waits.field-0.0 (sets_in (take c.loop-e.e-index (table_counts c.args.at.now.model.now c.args.t)) (take c.loop-e.used c.loop-e.stack)) c.loop-e.waits c.loop-e.left.now _ c.loop-e-test.true c.e-item.is fault v.value in
     rw (← items) (r ∙ sym whole)
 
-pub sum-loop-e-init : goal.sum-loop-e-init
-sum-loop-e-init t c =
+pub sum_all-loop-e-init : goal.sum_all-loop-e-init
+sum_all-loop-e-init t c =
     let items : c.deref-e-items.result.now ≡ c.args.terms.now = search rules in
     let all : length c.args.stack.now - 0 ≡ length c.args.stack.now = omega arith in
     record {
@@ -332,8 +278,8 @@ sum-loop-e-init t c =
       value = rw c.counts-left.ensures refl;
     }
 
-pub sum-loop-e-preserved : goal.sum-loop-e-preserved
-sum-loop-e-preserved t c =
+pub sum_all-loop-e-preserved : goal.sum_all-loop-e-preserved
+sum_all-loop-e-preserved t c =
     let v = c.loop-e.invariant in
     let there = term_at c.args.at.now.model.now (length c.args.at.now.args.now) (length c.loop-e.stack - c.loop-e.used) c.loop-e.left.now c.deref-e-items.result.now c.loop-e.e-index _ c.e-item.result c.loop-e-test.true c.e-item.is v.fits in
     let counts = table_counts c.args.at.now.model.now c.args.t in
@@ -354,19 +300,19 @@ sum-loop-e-preserved t c =
       value = rw (left, words) next;
     }
 
-pub sum-sum_held-requires-clause-len : goal.sum-sum_held-requires-clause-len
-sum-sum_held-requires-clause-len t c =
+pub sum_all-sum_held-requires-clause-len : goal.sum_all-sum_held-requires-clause-len
+sum_all-sum_held-requires-clause-len t c =
     let v = c.loop-e.invariant in
     let none : c.loop-e.left.now ≡ [] = none_left c.args.at.now.model.now (length c.args.at.now.args.now) (length c.loop-e.stack - c.loop-e.used) c.loop-e.left.now c.deref-e-items.result.now c.loop-e.e-index (omega arith) v.fits in
     rw c.counts.ensures (held_long c.args.at.now.model.now (state_in c.args.at.now.words.now) c.args.at.now.args.now (table_counts c.args.at.now.model.now c.args.t) c.loop-e.left.now c.loop-e.e-index c.loop-e.used c.loop-e.stack v.left none v.used v.within)
 
-pub sum-returns-in-Some : goal.sum-returns-in-Some
-sum-returns-in-Some t c =
+pub sum_all-returns-in-Some : goal.sum_all-returns-in-Some
+sum_all-returns-in-Some t c =
     let items : c.deref-e-items.result.now ≡ c.args.terms.now = search rules in
     rw (← items) (fault_told c.args.at.now.model.now (state_in c.args.at.now.words.now) c.args.at.now.args.now c.args.t c.deref-e-items.result.now c.loop-e.e-index c.in-Some.kind (sets_in (take c.loop-e.e-index (table_counts c.args.at.now.model.now c.args.t)) (take c.loop-e.used c.loop-e.stack)) c.loop-e.left.now _ (omega arith) (rw c.in-Some.is at c.loop-e.invariant.value))
 
-pub sum-returns-in-None : goal.sum-returns-in-None
-sum-returns-in-None t c =
+pub sum_all-returns-in-None : goal.sum_all-returns-in-None
+sum_all-returns-in-None t c =
     let items : c.deref-e-items.result.now ≡ c.args.terms.now = search rules in
     let v = c.loop-e.invariant in
     let none : c.loop-e.left.now ≡ [] = none_left c.args.at.now.model.now (length c.args.at.now.args.now) (length c.loop-e.stack - c.loop-e.used) c.loop-e.left.now c.deref-e-items.result.now c.loop-e.e-index (omega arith) v.fits in
@@ -405,3 +351,155 @@ term_into-returns-in_ok-set_into-in-Many-clause-value t c =
     subst (λ (ws : List ℕ). Termed c.args.count c.args.waits (members_of ws) (Ok c.args.waits) (arg_value c.args.at.now.model.now (state_in c.args.at.now.words.now) c.args.e.now c.args.at.now.args.now))
     (sym (between c.args.used (word_count c.args.count) c.split_at_mut-behind.result.0.now c.set_into.new.out c.set_into.new.stack front mine))
     (set_termed c.args.at.now.model.now (state_in c.args.at.now.words.now) c.args.at.now.args.now c.args.e.now c.in-Many.set c.args.count c.args.waits (members_of c.set_into.new.out) p c.in_ok-set_into-in-Many.ensures.members)
+
+-- in one word
+
+pub composed_word-set_word-requires-then-branch : goal.composed_word-set_word-requires-then-branch
+composed_word-set_word-requires-then-branch t c =
+    let p : sets.out-SetEx c.args.e.now ≡ sets.SetEx-F.SetEx::If c.in-If.c c.in-If.a c.in-If.b = search (rules, sets.the_lemmas) in
+    let f = choice_fit c.args.at.now.model.now (length c.args.at.now.args.now) (length c.args.stack.now) c.args.e.now c.in-If.c c.in-If.a c.in-If.b p c.requires.fits in
+    let o = choice_object c.args.at.now.model.now (length c.args.at.now.args.now) (length c.args.stack.now) c.args.e.now c.in-If.c c.in-If.a c.in-If.b p in
+    let k = c.requires.count ∙ ap (count_of c.args.at.now.model.now) o in
+    (search (rules, args.the_lemmas, conds.the_lemmas, nums.the_lemmas, sets.the_lemmas), search (rules, f.1.0, f.1.1.1, k))
+
+pub composed_word-set_word-requires-else-branch : goal.composed_word-set_word-requires-else-branch
+composed_word-set_word-requires-else-branch t c =
+    let p : sets.out-SetEx c.args.e.now ≡ sets.SetEx-F.SetEx::If c.in-If.c c.in-If.a c.in-If.b = search (rules, sets.the_lemmas) in
+    let f = choice_fit c.args.at.now.model.now (length c.args.at.now.args.now) (length c.args.stack.now) c.args.e.now c.in-If.c c.in-If.a c.in-If.b p c.requires.fits in
+    let o = choice_object c.args.at.now.model.now (length c.args.at.now.args.now) (length c.args.stack.now) c.args.e.now c.in-If.c c.in-If.a c.in-If.b p in
+    let k = c.requires.count ∙ ap (count_of c.args.at.now.model.now) (o ∙ f.1.1.0) in
+    (search (rules, args.the_lemmas, conds.the_lemmas, nums.the_lemmas, sets.the_lemmas), search (rules, f.1.0, f.1.1.1, k))
+
+pub composed_word-returns-in_ok-word-in-Op-clause-members : goal.composed_word-returns-in_ok-word-in-Op-clause-members
+composed_word-returns-in_ok-word-in-Op-clause-members t c =
+    let p : sets.out-SetEx c.args.e.now ≡ sets.SetEx-F.SetEx::Op c.in-Op.op c.get.result.now c.get-in-Op.result.now = search (rules, sets.the_lemmas) in
+    op_answers c.args.at.now.model.now (state_in c.args.at.now.words.now) c.args.at.now.args.now _ c.operated_word.result c.args.count c.args.e.now c.in-Op.op c.get.result.now c.get-in-Op.result.now _ p c.requires.count c.in_ok-word-in-Op.ensures.members c.operated_word.ensures.members
+
+pub composed_word-returns-in_ok-word-in-Not-clause-members : goal.composed_word-returns-in_ok-word-in-Not-clause-members
+composed_word-returns-in_ok-word-in-Not-clause-members t c =
+    let p : sets.out-SetEx c.args.e.now ≡ sets.SetEx-F.SetEx::Not c.get-in-Not.result.now = search (rules, sets.the_lemmas) in
+    not_answers c.args.at.now.model.now (state_in c.args.at.now.words.now) c.args.at.now.args.now c.args.count c.args.e.now c.get-in-Not.result.now _ _ p c.requires.count c.in_ok-word-in-Not.ensures.members c.other_word.ensures.members
+
+pub composed_word-returns-in_ok-z-in-With-clause-members : goal.composed_word-returns-in_ok-z-in-With-clause-members
+composed_word-returns-in_ok-z-in-With-clause-members t c =
+    let p : sets.out-SetEx c.args.e.now ≡ sets.SetEx-F.With c.get-in-With.result.now c.get-in-With-2.result.now = search (rules, sets.the_lemmas) in
+    let fits : FitsSigned w64 c.in_ok-z-in-With.z = search rules in
+    with_answers c.args.at.now.model.now (state_in c.args.at.now.words.now) c.args.at.now.args.now _ c.word_with_member.result c.args.count c.args.e.now c.get-in-With.result.now c.get-in-With-2.result.now c.in_ok-z-in-With.z p c.requires.count (search rules) (rw (to_z-of_z w64 c.in_ok-z-in-With.z fits) at c.word_with_member.ensures.members)
+
+pub composed_word-returns-in_ok-z-in-Without-clause-members : goal.composed_word-returns-in_ok-z-in-Without-clause-members
+composed_word-returns-in_ok-z-in-Without-clause-members t c =
+    let p : sets.out-SetEx c.args.e.now ≡ sets.SetEx-F.Without c.get-in-Without.result.now c.get-in-Without-2.result.now = search (rules, sets.the_lemmas) in
+    let fits : FitsSigned w64 c.in_ok-z-in-Without.z = search rules in
+    without_answers c.args.at.now.model.now (state_in c.args.at.now.words.now) c.args.at.now.args.now _ c.word_without_member.result c.args.count c.args.e.now c.get-in-Without.result.now c.get-in-Without-2.result.now c.in_ok-z-in-Without.z p c.requires.count (search rules) (rw (to_z-of_z w64 c.in_ok-z-in-Without.z fits) at c.word_without_member.ensures.members)
+
+pub composed_word-returns-in-Cell-clause-members : goal.composed_word-returns-in-Cell-clause-members
+composed_word-returns-in-Cell-clause-members t c =
+    let p : sets.out-SetEx c.args.e.now ≡ sets.SetEx-F.SetEx::Cell c.in-Cell.t c.in-Cell.ns = search (rules, sets.the_lemmas) in
+    set_cell_tells c.args.at.now.model.now (state_in c.args.at.now.words.now) c.args.at.now.args.now _ c.cell_in_word.result c.args.e.now c.in-Cell.t c.in-Cell.ns p c.cell_in_word.ensures.members
+
+pub composed_word-word_of-requires-clause-kind : goal.composed_word-word_of-requires-clause-kind
+composed_word-word_of-requires-clause-kind t c =
+    let p : sets.out-SetEx c.args.e.now ≡ sets.SetEx-F.SetEx::Var c.in-Var.v = search (rules, sets.the_lemmas) in
+    set_var_fit c.args.at.now.model.now (length c.args.at.now.args.now) (length c.args.stack.now) c.args.e.now c.in-Var.v p c.requires.fits
+
+pub composed_word-returns-in-Var-clause-members : goal.composed_word-returns-in-Var-clause-members
+composed_word-returns-in-Var-clause-members t c =
+    let p : sets.out-SetEx c.args.e.now ≡ sets.SetEx-F.SetEx::Var c.in-Var.v = search (rules, sets.the_lemmas) in
+    set_var_is c.args.at.now.model.now (state_in c.args.at.now.words.now) c.args.at.now.args.now c.args.e.now c.in-Var.v p ∙ ap Ok (sym c.word_of.ensures.members)
+
+pub composed_word-returns-in-Var-clause-clean : goal.composed_word-returns-in-Var-clause-clean
+composed_word-returns-in-Var-clause-clean t c =
+    let p : sets.out-SetEx c.args.e.now ≡ sets.SetEx-F.SetEx::Var c.in-Var.v = search (rules, sets.the_lemmas) in
+    rw (c.requires.count ∙ ap (count_of c.args.at.now.model.now) (set_var_object c.args.at.now.model.now (length c.args.at.now.args.now) (length c.args.stack.now) c.args.e.now c.in-Var.v p)) c.word_of.ensures.clean
+
+pub composed_word-returns-in-Cell-clause-clean : goal.composed_word-returns-in-Cell-clause-clean
+composed_word-returns-in-Cell-clause-clean t c =
+    let p : sets.out-SetEx c.args.e.now ≡ sets.SetEx-F.SetEx::Cell c.in-Cell.t c.in-Cell.ns = search (rules, sets.the_lemmas) in
+    rw (c.requires.count ∙ ap (count_of c.args.at.now.model.now) (set_cell_object c.args.at.now.model.now (length c.args.at.now.args.now) (length c.args.stack.now) c.args.e.now c.in-Cell.t c.in-Cell.ns p)) c.cell_in_word.ensures.clean
+
+pub composed_word-cell_in_word-requires : goal.composed_word-cell_in_word-requires
+composed_word-cell_in_word-requires t c =
+    let p : sets.out-SetEx c.args.e.now ≡ sets.SetEx-F.SetEx::Cell c.in-Cell.t c.in-Cell.ns = search (rules, sets.the_lemmas) in
+    let k = c.requires.count ∙ ap (count_of c.args.at.now.model.now) (set_cell_object c.args.at.now.model.now (length c.args.at.now.args.now) (length c.args.stack.now) c.args.e.now c.in-Cell.t c.in-Cell.ns p) in
+    let few : count_of c.args.at.now.model.now (cells_object (cells_of c.args.at.now.model.now c.in-Cell.t)) ≤ 64 = rw (← k) c.requires.few in
+    let fits : all_fit c.args.at.now.model.now c.in-Cell.ns (length c.args.at.now.args.now) (length c.args.stack.now) ≡ true = set_cell_fit c.args.at.now.model.now (length c.args.at.now.args.now) (length c.args.stack.now) c.args.e.now c.in-Cell.t c.in-Cell.ns p c.requires.fits in
+    (search (rules, args.the_lemmas, conds.the_lemmas, nums.the_lemmas, sets.the_lemmas), search (rules, few, fits))
+
+-- two sets
+
+pub holds-is_same_of-requires : goal.holds-is_same_of-requires
+holds-is_same_of-requires t c =
+    let p : conds.out-Cond c.args.e.now ≡ conds.Cond-F.SameSet c.in-SameSet.a c.in-SameSet.b = search (rules, conds.the_lemmas) in
+    let h = same_fit c.args.at.now.model.now (length c.args.at.now.args.now) (length c.args.stack.now) c.args.e.now c.in-SameSet.a c.in-SameSet.b p c.requires in
+    let f = both_parts c.args.at.now.model.now (length c.args.at.now.args.now) (length c.args.stack.now) (set_fits c.args.at.now.model.now c.in-SameSet.a) (set_fits c.args.at.now.model.now c.in-SameSet.b) h in
+    let o = operand_parts c.args.at.now.model.now (length c.args.at.now.args.now) (length c.args.stack.now) (set_fits c.args.at.now.model.now c.in-SameSet.a) f.0 in
+    let value = c.count_in-count.ensures.value in
+    let k = value ∙ ap (count_of c.args.at.now.model.now) f.1.0 in
+    let long : length c.first_set.new.stack ≡ length c.args.stack.now = search rules in
+    let room : word_count c.count_in-count.result ≤ length c.first_set.new.stack = rw (long, value) o.0 in
+    let g : operand_fits c.args.at.now.model.now (set_fits c.args.at.now.model.now c.in-SameSet.b) (length c.args.at.now.args.now) (length c.first_set.new.stack - word_count c.count_in-count.result) ≡ true = rw (long, value) f.1.1 in
+    (search (rules, args.the_lemmas, conds.the_lemmas, nums.the_lemmas, sets.the_lemmas), search (rules, room, g, k))
+
+pub holds-is_same_of-requires-in-OtherSet : goal.holds-is_same_of-requires-in-OtherSet
+holds-is_same_of-requires-in-OtherSet t c =
+    let p : conds.out-Cond c.args.e.now ≡ conds.Cond-F.OtherSet c.in-OtherSet.a c.in-OtherSet.b = search (rules, conds.the_lemmas) in
+    let h = other_fit c.args.at.now.model.now (length c.args.at.now.args.now) (length c.args.stack.now) c.args.e.now c.in-OtherSet.a c.in-OtherSet.b p c.requires in
+    let f = both_parts c.args.at.now.model.now (length c.args.at.now.args.now) (length c.args.stack.now) (set_fits c.args.at.now.model.now c.in-OtherSet.a) (set_fits c.args.at.now.model.now c.in-OtherSet.b) h in
+    let o = operand_parts c.args.at.now.model.now (length c.args.at.now.args.now) (length c.args.stack.now) (set_fits c.args.at.now.model.now c.in-OtherSet.a) f.0 in
+    let value = c.count_in-count-in-OtherSet.ensures.value in
+    let k = value ∙ ap (count_of c.args.at.now.model.now) f.1.0 in
+    let long : length c.first_set-in-OtherSet.new.stack ≡ length c.args.stack.now = search rules in
+    let room : word_count c.count_in-count-in-OtherSet.result ≤ length c.first_set-in-OtherSet.new.stack = rw (long, value) o.0 in
+    let g : operand_fits c.args.at.now.model.now (set_fits c.args.at.now.model.now c.in-OtherSet.b) (length c.args.at.now.args.now) (length c.first_set-in-OtherSet.new.stack - word_count c.count_in-count-in-OtherSet.result) ≡ true = rw (long, value) f.1.1 in
+    (search (rules, args.the_lemmas, conds.the_lemmas, nums.the_lemmas, sets.the_lemmas), search (rules, room, g, k))
+
+pub holds-is_within_of-requires : goal.holds-is_within_of-requires
+holds-is_within_of-requires t c =
+    let p : conds.out-Cond c.args.e.now ≡ conds.Cond-F.Subset c.in-Subset.a c.in-Subset.b = search (rules, conds.the_lemmas) in
+    let h = subset_fit c.args.at.now.model.now (length c.args.at.now.args.now) (length c.args.stack.now) c.args.e.now c.in-Subset.a c.in-Subset.b p c.requires in
+    let f = both_parts c.args.at.now.model.now (length c.args.at.now.args.now) (length c.args.stack.now) (set_fits c.args.at.now.model.now c.in-Subset.a) (set_fits c.args.at.now.model.now c.in-Subset.b) h in
+    let o = operand_parts c.args.at.now.model.now (length c.args.at.now.args.now) (length c.args.stack.now) (set_fits c.args.at.now.model.now c.in-Subset.a) f.0 in
+    let value = c.count_in-count-in-Subset.ensures.value in
+    let k = value ∙ ap (count_of c.args.at.now.model.now) f.1.0 in
+    let long : length c.first_set-in-Subset.new.stack ≡ length c.args.stack.now = search rules in
+    let room : word_count c.count_in-count-in-Subset.result ≤ length c.first_set-in-Subset.new.stack = rw (long, value) o.0 in
+    let g : operand_fits c.args.at.now.model.now (set_fits c.args.at.now.model.now c.in-Subset.b) (length c.args.at.now.args.now) (length c.first_set-in-Subset.new.stack - word_count c.count_in-count-in-Subset.result) ≡ true = rw (long, value) f.1.1 in
+    (search (rules, args.the_lemmas, conds.the_lemmas, nums.the_lemmas, sets.the_lemmas), search (rules, room, g, k))
+
+-- sums of one argument
+
+pub sum-sum_one-requires : goal.sum-sum_one-requires
+sum-sum_one-requires t c =
+    let items : c.as_slice.result.now ≡ c.args.terms.now = search rules in
+    let counts = table_counts c.args.at.now.model.now c.args.t in
+    let f = only_term c.args.at.now.model.now (length c.args.at.now.args.now) (length c.args.stack.now) counts c.as_slice.result.now _ c.e-item.result (omega (arith, c.in-len1.len_at_least, c.in-len1.len_below)) c.e-item.is (rw items c.requires) in
+    let first : c.first_of-count.result ≡ slice_index counts 0 = rw (← c.counts.ensures) c.first_of-count.ensures in
+    let alone : counts ≡ c.first_of-count.result ∷ [] = rw first f.1 in
+    let room : word_count c.first_of-count.result ≤ length c.args.stack.now = rw first f.2 in
+    let fits : term_room c.args.at.now.model.now (arg_fits c.args.at.now.model.now c.e-item.result) c.first_of-count.result (length c.args.at.now.args.now) (length c.args.stack.now - word_count c.first_of-count.result) ≡ true = rw first f.3 in
+    (search (rules, args.the_lemmas, conds.the_lemmas, nums.the_lemmas, sets.the_lemmas), search (rules, alone, room, fits))
+
+pub sum-returns-in-len1 : goal.sum-returns-in-len1
+sum-returns-in-len1 t c =
+    let items : c.as_slice.result.now ≡ c.args.terms.now = search rules in
+    let counts = table_counts c.args.at.now.model.now c.args.t in
+    let f = only_term c.args.at.now.model.now (length c.args.at.now.args.now) (length c.args.stack.now) counts c.as_slice.result.now _ c.e-item.result (omega (arith, c.in-len1.len_at_least, c.in-len1.len_below)) c.e-item.is (rw items c.requires) in
+    rw (← items, f.0) c.sum_one.ensures
+
+pub set_word-returns-in-Cell-clause-members : goal.set_word-returns-in-Cell-clause-members
+set_word-returns-in-Cell-clause-members t c =
+    let p : sets.out-SetEx c.args.e.now ≡ sets.SetEx-F.SetEx::Cell c.in-Cell.t c.in-Cell.ns = search (rules, sets.the_lemmas) in
+    set_cell_tells c.args.at.now.model.now (state_in c.args.at.now.words.now) c.args.at.now.args.now _ c.cell_in_word.result c.args.e.now c.in-Cell.t c.in-Cell.ns p c.cell_in_word.ensures.members
+
+pub set_word-returns-in-Cell-clause-clean : goal.set_word-returns-in-Cell-clause-clean
+set_word-returns-in-Cell-clause-clean t c =
+    let p : sets.out-SetEx c.args.e.now ≡ sets.SetEx-F.SetEx::Cell c.in-Cell.t c.in-Cell.ns = search (rules, sets.the_lemmas) in
+    rw (c.requires.count ∙ ap (count_of c.args.at.now.model.now) (set_cell_object c.args.at.now.model.now (length c.args.at.now.args.now) (length c.args.stack.now) c.args.e.now c.in-Cell.t c.in-Cell.ns p)) c.cell_in_word.ensures.clean
+
+pub set_word-cell_in_word-requires : goal.set_word-cell_in_word-requires
+set_word-cell_in_word-requires t c =
+    let p : sets.out-SetEx c.args.e.now ≡ sets.SetEx-F.SetEx::Cell c.in-Cell.t c.in-Cell.ns = search (rules, sets.the_lemmas) in
+    let k = c.requires.count ∙ ap (count_of c.args.at.now.model.now) (set_cell_object c.args.at.now.model.now (length c.args.at.now.args.now) (length c.args.stack.now) c.args.e.now c.in-Cell.t c.in-Cell.ns p) in
+    let few : count_of c.args.at.now.model.now (cells_object (cells_of c.args.at.now.model.now c.in-Cell.t)) ≤ 64 = rw (← k) c.requires.few in
+    let fits : all_fit c.args.at.now.model.now c.in-Cell.ns (length c.args.at.now.args.now) (length c.args.stack.now) ≡ true = set_cell_fit c.args.at.now.model.now (length c.args.at.now.args.now) (length c.args.stack.now) c.args.e.now c.in-Cell.t c.in-Cell.ns p c.requires.fits in
+    (search (rules, args.the_lemmas, conds.the_lemmas, nums.the_lemmas, sets.the_lemmas), search (rules, few, fits))

@@ -11,8 +11,8 @@ use Rattle.packed_words.specs.Ranges.{range_members}
 use Rattle.packed_words.specs.Sets.{members_from}
 use Rattle.packed_eval.proofs.evaluate.+eval.Given as goal
 
-abbrev pub invariant-place_of-loop-n : goal.invariant-place_of-loop-n
-invariant-place_of-loop-n l =
+abbrev pub invariant-place_of_all-loop-n : goal.invariant-place_of_all-loop-n
+invariant-place_of_all-loop-n l =
     placed_from l.left (num_values l.at.model.now (state_in l.at.words.now) (drop l.n-index l.n-items) l.at.args.now) l.led
     ≡ placed_at (table_counts l.at.model.now l.t) (num_values l.at.model.now (state_in l.at.words.now) l.n-items l.at.args.now)
 
@@ -28,8 +28,8 @@ abbrev pub decreases-all_hold-loop-member : goal.decreases-all_hold-loop-member
 decreases-all_hold-loop-member l = 8192 - l.from
 
 -- the sets so far lie one behind another, and give the sum with what is left
-abbrev pub invariant-sum-loop-e : goal.invariant-sum-loop-e
-invariant-sum-loop-e l = record {
+abbrev pub invariant-sum_all-loop-e : goal.invariant-sum_all-loop-e
+invariant-sum_all-loop-e l = record {
   left : l.left ≡ drop l.e-index (table_counts l.at.model.now l.t);
   used : l.used ≡ words_of (take l.e-index (table_counts l.at.model.now l.t));
   within : l.used ≤ length l.stack;
