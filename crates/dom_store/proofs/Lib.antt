@@ -7,6 +7,7 @@ pub mod Adding
 pub mod Promises
 pub mod Ranks
 pub mod Sorting
+pub mod Ranking
 pub mod Sharing
 pub mod Sweeping
 pub mod Remembering

@@ -1,11 +1,10 @@
 -- Nodes are moved out of their places one by one, up to the share to one list and then to another.
-use Rattle.std.proofs.Common.{◌≡◌, ℕ, zero, suc, ◌+◌, ◌<◌, ◌≤◌, ◌⊎◌, inl, inr, List, [], ◌∷◌, ◌++◌, length, get_or, set, take, drop, min, Option, Some, None, refl, sym, ap, ◌∙◌, arith, length-take, length-append}
+use Rattle.std.proofs.Common.{◌≡◌, ℕ, zero, suc, ◌+◌, ◌<◌, ◌≤◌, ◌⊎◌, inl, inr, List, [], ◌∷◌, ◌++◌, length, take, drop, min, Option, Some, None, refl, sym, ap, ◌∙◌, arith, length-take, length-append}
 use Rattle.std.specs.List.{slice_get}
 use Rattle.std.specs.Prelude.{ℤ, ◌≤ℤ◌, int_lt, IfSome, if◌then◌else◌}
 use Rattle.std.proofs.Math.Seq.{take-length}
 use Rattle.cost_laws.specs.Orders.{InWideRange}
 use Rattle.std.proofs.lemmas.Int.{ints}
-use Rattle.std.proofs.lemmas.Option.{slice_get-get_or}
 use Rattle.dp_claims.specs.Enough.{Has}
 use Rattle.dp_model.specs.Costs.{order_word}
 use Rattle.dp_model.specs.declared.parts.JoinOp.{JoinOp}
@@ -31,11 +30,6 @@ taken_some (Some m ∷ xs) zero n h = let e : m ≡ n = cc in ap (λ (x : Node).
 taken_some (None ∷ xs) (suc i) n h = taken_some xs i n h
 taken_some (Some m ∷ xs) (suc i) n h = ap (λ (ns : List Node). m ∷ ns) (taken_some xs i n h)
 
-pub taken_all : (xs : List (Option Node)) → nodes_of (take (length xs) xs) ≡ nodes_of xs
-taken_all [] = refl
-taken_all (None ∷ xs) = taken_all xs
-taken_all (Some n ∷ xs) = ap (λ (ns : List Node). n ∷ ns) (taken_all xs)
-
 taken_few : (xs : List (Option Node)) (i : ℕ) → length (nodes_of (take i xs)) ≤ length (nodes_of xs)
 taken_few xs zero = omega arith
 taken_few [] (suc i) = omega arith
@@ -44,36 +38,6 @@ taken_few (Some n ∷ xs) (suc i) = omega (arith, taken_few xs i)
 
 pub one_more : (xs : List (Option Node)) (i : ℕ) (n : Node) → slice_get xs i ≡ Some (Some n) → length (nodes_of (take i xs)) + 1 ≤ length (nodes_of xs)
 one_more xs i n h = omega (arith, taken_few xs (suc i), ap length (taken_some xs i n h), length-append (nodes_of (take i xs)) (n ∷ []))
-
--- ---- the places that are left
-
-none_left : (k : ℕ) → drop {A = Option Node} k [] ≡ []
-none_left zero = refl
-none_left (suc k) = refl
-
-pub rest_get : (xs ys : List (Option Node)) (i : ℕ) → drop i ys ≡ drop i xs → slice_get ys i ≡ slice_get xs i
-rest_get xs ys zero h = ap (λ (zs : List (Option Node)). slice_get zs 0) h
-rest_get [] [] (suc i) h = refl
-rest_get [] (y ∷ ys) (suc i) h = rest_get [] ys i (h ∙ sym (none_left i))
-rest_get (x ∷ xs) [] (suc i) h = rest_get xs [] i (none_left i ∙ h)
-rest_get (x ∷ xs) (y ∷ ys) (suc i) h = rest_get xs ys i h
-
--- what is read of a place that is left
-pub stood : (xs ys : List (Option Node)) (i : ℕ) (d r : Option Node) → drop i ys ≡ drop i xs → i < length ys → d ≡ get_or ys i d → r ≡ d → slice_get xs i ≡ Some r
-stood xs ys i d r rest within read is = sym (rest_get xs ys i rest) ∙ slice_get-get_or ys i d within ∙ ap Some (sym read ∙ sym is)
-
-drop_set : (ys : List (Option Node)) (i : ℕ) (v : Option Node) → drop (suc i) (set ys i v) ≡ drop (suc i) ys
-drop_set [] i v = refl
-drop_set (y ∷ ys) zero v = refl
-drop_set (y ∷ ys) (suc i) v = drop_set ys i v
-
-drop_next : (ys : List (Option Node)) (i : ℕ) → drop (suc i) ys ≡ drop 1 (drop i ys)
-drop_next ys zero = refl
-drop_next [] (suc i) = refl
-drop_next (y ∷ ys) (suc i) = drop_next ys i
-
-pub rest_next : (xs ys : List (Option Node)) (i : ℕ) (v : Option Node) → drop i ys ≡ drop i xs → drop (suc i) (set ys i v) ≡ drop (suc i) xs
-rest_next xs ys i v h = drop_set ys i v ∙ drop_next ys i ∙ ap (λ (zs : List (Option Node)). drop 1 zs) h ∙ sym (drop_next xs i)
 
 -- ---- up to the share, and beyond it
 

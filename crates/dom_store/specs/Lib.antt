@@ -5,5 +5,6 @@ pub mod Laws
 pub mod Contents
 pub mod Places
 pub mod Order
+pub mod Ranking
 pub mod Past
 pub mod Stairs

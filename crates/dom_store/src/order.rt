@@ -1,25 +1,57 @@
 //! The order in which the nodes of a layer are kept and visited.
 
-ghost use Rattle.std.specs.Prelude.{◌≡◌, OnOk, OnErr};
+ghost use Rattle.std.specs.Prelude.{◌≡◌, ◌<◌, ℕ, length, IfOk};
 ghost use Rattle.std.specs.List.Sorted.{IsPermutation, IsSortedByKey, IsStableByKey};
 ghost use Rattle.dom_store.specs.Order.{is_wide, word_or_last, rank_of, rank_cmp};
+ghost use Rattle.dom_store.specs.Ranking.{ranked_at, ranks_of};
 
 use cost_laws::CostLaw;
 use state_layout::Node;
-use std::alloc::AllocError;
+use std::alloc::{AllocError, Global};
 
 // the greatest number that has an order word under each law; its negative is the least
 const WIDEST: i64 = i64::MAX - 1;
 
-/// Sorts places by the words of their nodes, the lesser first. Places of the same words stay in their order.
-pub(crate) fn sort_places<L: CostLaw>(places: &mut Vec<Option<Node>>) -> Result<(), AllocError>
-    ensures permutation { IsPermutation places.old.items places.new.items }
-    ensures sorted { OnOk result (IsSortedByKey (rank_of L.minimize L.operator) rank_cmp places.new.items) }
-    ensures stable { OnOk result (IsStableByKey (rank_of L.minimize L.operator) rank_cmp places.old.items places.new.items) }
-    ensures err { OnErr result (places.new.items ≡ places.old.items) }
+/// A place, and the words by which its node is ordered.
+#[derive(Clone, Copy)]
+pub(crate) struct Ranked {
+    pub(crate) words: (u64, u64),
+    pub(crate) place: usize,
+}
+
+/// All places, sorted by the words of their nodes, the lesser first. Places of the same words stay in their order.
+pub(crate) fn sorted_places<L: CostLaw>(
+    alloc: Global,
+    places: &[Option<Node>],
+) -> Result<Vec<Ranked>, AllocError>
+    ensures permutation { IfOk result (λ ranked. IsPermutation (ranks_of L.minimize L.operator places.now) ranked.items) }
+    ensures sorted { IfOk result (λ ranked. IsSortedByKey (λ (r : Ranked). r.words) rank_cmp ranked.items) }
+    ensures stable { IfOk result (λ ranked. IsStableByKey (λ (r : Ranked). r.words) rank_cmp (ranks_of L.minimize L.operator places.now) ranked.items) }
 {
-    places.sort_by_key(|place| rank::<L>(place))?;
-    Ok(())
+    let mut ranked = ranks::<L>(alloc, places)?;
+    ranked.sort_by_key(|ranked| ranked.words)?;
+    Ok(ranked)
+}
+
+// all places in their order
+fn ranks<L: CostLaw>(alloc: Global, places: &[Option<Node>]) -> Result<Vec<Ranked>, AllocError>
+    ensures { IfOk result (λ ranked. ranked.items ≡ ranks_of L.minimize L.operator places.now) }
+{
+    let mut ranked = Vec::with_capacity(alloc, places.len())?;
+    for place in 0..places.len() {
+        ranked.push(ranked_at::<L>(places, place))?;
+    }
+    Ok(ranked)
+}
+
+fn ranked_at<L: CostLaw>(places: &[Option<Node>], place: usize) -> Ranked
+    requires { place < length places.now }
+    ensures { result ≡ ranked_at L.minimize L.operator places.now place }
+{
+    Ranked {
+        words: rank::<L>(&places[place]),
+        place,
+    }
 }
 
 fn rank<L: CostLaw>(place: &Option<Node>) -> (u64, u64)

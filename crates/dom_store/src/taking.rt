@@ -1,14 +1,17 @@
 //! The nodes of a layer are shared out: the best are kept, and the others dropped.
 
 ghost use Rattle.std.specs.Prelude.{◌≡◌, ℕ, ◌+◌, ◌-◌, ◌<◌, ◌≤◌, ◌++◌, ◌∷◌, [], length, take, drop, min, vec_len, vec_capacity, IfSome, IfOk, OnOk, OnErr, Bool};
+ghost use Rattle.std.specs.List.{All, IsDistinct};
 ghost use Rattle.dp_claims.specs.Enough.{Has};
 ghost use Rattle.cost_laws.specs.Orders.{InWideRange};
 ghost use Rattle.state_layout.specs.declared.node.Node.{Node};
 ghost use Rattle.dom_store.specs.Contents.{AreApart};
 ghost use Rattle.dom_store.specs.Places.{nodes_of};
 ghost use Rattle.dom_store.specs.Order.{HasWords, IsOrdering, IsLeastFloor, better_floor};
+ghost use Rattle.dom_store.specs.Ranking.{ordered, same_place};
+ghost use Rattle.dom_store.specs.declared.order.Ranked.{Ranked};
 
-use crate::order::sort_places;
+use crate::order::{Ranked, sorted_places};
 use cost_laws::CostLaw;
 use dp_base::Seq;
 use state_layout::Node;
@@ -43,8 +46,9 @@ pub(crate) fn take_nodes<L: CostLaw>(
     let kept_count = share.min(count as u64) as usize;
     let mut kept = Vec::with_capacity(alloc, kept_count)?;
     let mut dropped = Vec::with_capacity(alloc, count - kept_count)?;
-    sort_places::<L>(places)?;
-    share_out(places, share, &mut kept, &mut dropped);
+    let order = sorted_places::<L>(alloc, places)?;
+    share_out(places, &order, share, &mut kept, &mut dropped);
+    places.clear();
     let least_floor = least_floor::<L>(&dropped);
     Ok(Taken {
         kept: Seq::of(kept),
@@ -53,27 +57,29 @@ pub(crate) fn take_nodes<L: CostLaw>(
     })
 }
 
-// moves the nodes out of their places: the first ones, up to the share, and the others; there is room for them
+// moves the nodes out of their places, in the order given, each place once: the first ones, up to the share, and the others;
+// there is room for them
 fn share_out(
     places: &mut Vec<Option<Node>>,
+    order: &[Ranked],
     share: u64,
     kept: &mut Vec<Node>,
     dropped: &mut Vec<Node>,
 )
     requires kept { kept.old.items ≡ [] }
     requires dropped { dropped.old.items ≡ [] }
-    requires kept_room { min share (length (nodes_of places.old.items)) ≤ vec_capacity kept.old }
-    requires dropped_room { length (nodes_of places.old.items) - min share (length (nodes_of places.old.items)) ≤ vec_capacity dropped.old }
-    ensures places { places.new.items ≡ [] }
-    ensures kept { kept.new.items ≡ take share (nodes_of places.old.items) }
-    ensures dropped { dropped.new.items ≡ drop share (nodes_of places.old.items) }
+    requires within { All (λ (r : Ranked). r.place < length places.old.items) order.now }
+    requires once { IsDistinct same_place order.now }
+    requires kept_room { min share (length (nodes_of (ordered places.old.items order.now))) ≤ vec_capacity kept.old }
+    requires dropped_room { length (nodes_of (ordered places.old.items order.now)) - min share (length (nodes_of (ordered places.old.items order.now))) ≤ vec_capacity dropped.old }
+    ensures kept { kept.new.items ≡ take share (nodes_of (ordered places.old.items order.now)) }
+    ensures dropped { dropped.new.items ≡ drop share (nodes_of (ordered places.old.items order.now)) }
 {
-    for place in 0..places.len() {
-        if let Some(node) = places[place].take() {
+    for ranked in order {
+        if let Some(node) = places[ranked.place].take() {
             put_out(node, share, kept, dropped);
         }
     }
-    places.clear();
 }
 
 // puts a node among the kept ones while these are fewer than the share, and else among the dropped ones

@@ -211,8 +211,8 @@ module _ {A B : Type 0} where
       → (sent' : Vec ℕ Global) → length sent'.items ≡ s.shards → ((j : ℕ) → get_or sent'.items j 0 ≡ get_or s.sent.items j 0 + count_to j (letters_of s.layout s.shards batch.letters))
       → (total' : ℕ) → total' ≡ s.total + length batch.letters → (log' : PathLog) → log'.shard ≡ s.log.shard → log'.entries ≡ s.log.entries ++ record { parent = n.parent; transition = n.transition } ∷ [] → (visited' : ℕ) → visited' ≡ s.visited + 1
       → (held' : Option Held) → held' ≡ best_held p.model.minimize p.model.join (step_id s.me s.visited) s.held batch.offers → (offer : Option ℕ) → IsOffer p r.held held' offer
-      → IsVisit p s.me best r offer (record s { waiting = waiting'; letters = letters'; sent = sent'; total = total'; log = log'; visited = visited'; held = held' })
-  visits p s r st n rest head best batch fits found waiting' wis letters' lis sent' long counts total' tis log' shard entries visited' vis held' his offer offered =
+      → (batch' : Batch) → IsVisit p s.me best r offer (record s { waiting = waiting'; batch = batch'; letters = letters'; sent = sent'; total = total'; log = log'; visited = visited'; held = held' })
+  visits p s r st n rest head best batch fits found waiting' wis letters' lis sent' long counts total' tis log' shard entries visited' vis held' his offer offered batch' =
       record {
         layer = s.layer - 1;
         node = n;
@@ -273,8 +273,8 @@ module _ {A B : Type 0} where
   pub faulted : (p : Pass) (s : Shard A B) (r : ShardRecord) → Stands p s r → (n : Node) (rest : List Node) → s.waiting.items ≡ n ∷ rest → (best : ℕ) (met : Met) → expansion p.model (visit_in p s.me s.visited n best) ≡ Err met
       → (waiting' : VecDeque Node Global) (log' : PathLog) → log'.shard ≡ s.log.shard → log'.entries ≡ s.log.entries ++ record { parent = n.parent; transition = n.transition } ∷ [] → (visited' : ℕ) → visited' ≡ s.visited + 1
       → (fault : SpotFault) → fault.spot ≡ met.spot → fault.kind ≡ met.kind → (here : FaultHere) → here ≡ record { at = step_id s.me s.visited; last = met.last; spot = met.spot; kind = met.kind }
-      → IsFaulted p s.me r fault (record s { waiting = waiting'; log = log'; visited = visited'; fault = Some here })
-  faulted p s r st n rest head best met found waiting' log' shard entries visited' vis fault spot kind here his =
+      → (batch' : Batch) → IsFaulted p s.me r fault (record s { waiting = waiting'; batch = batch'; log = log'; visited = visited'; fault = Some here })
+  faulted p s r st n rest head best met found waiting' log' shard entries visited' vis fault spot kind here his batch' =
       record {
         layer = s.layer - 1;
         node = n;
@@ -341,16 +341,16 @@ module _ {A B : Type 0} where
   pub took : (p : Pass) (minimize : Bool) (operator : JoinOp) → IsLawOf p.model minimize operator → (s : Shard A B) (r : ShardRecord) → Stands p s r → (n : Node) (rest : List Node) → s.waiting.items ≡ n ∷ rest → (best : ℕ) (batch : Batch)
       → BatchFits s.expander.model batch → expansion s.expander.model (record { prune = s.expander.prune; state = n.state; cost = n.cost; id = step_id s.me s.visited; best = best }) ≡ Ok batch
       → (waiting' : VecDeque Node Global) → waiting'.items ≡ rest → (expander' : searches.Search) → expander' ≡ s.expander → (new : Shard A B)
-      → new ≡ record s { waiting = waiting'; expander = expander'; letters = new.letters; sent = new.sent; total = new.total; log = new.log; visited = new.visited; held = new.held }
+      → new ≡ record s { waiting = waiting'; expander = expander'; batch = new.batch; letters = new.letters; sent = new.sent; total = new.total; log = new.log; visited = new.visited; held = new.held }
       → new.letters.items ≡ s.letters.items ++ letters_of s.layout s.shards batch.letters
       → ((j : ℕ) → get_or new.sent.items j 0 ≡ get_or s.sent.items j 0 + count_to j (letters_of s.layout s.shards batch.letters)) → length new.sent.items ≡ s.shards
       → new.total ≡ s.total + length batch.letters → new.log ≡ with_step s.log (entry n.parent n.transition) → new.visited ≡ s.visited + 1 → new.held ≡ best_held minimize operator (step_id s.me s.visited) s.held batch.offers
       → (offer : Option ℕ) → is_some offer ≡ is_news minimize operator s.held new.held → IfSome offer (IsWordOf minimize operator new.held) → IsVisit p s.me best r offer new
   took p minimize operator law s r st n rest head best batch fits found waiting' wis expander' xis new frame letters sent long total log visited' held offer news word =
       subst (λ (q : Shard A B). IsVisit p s.me best r offer q) (sym frame)
-      (subst (λ (x : searches.Search). IsVisit p s.me best r offer (record s { waiting = waiting'; expander = x; letters = new.letters; sent = new.sent; total = new.total; log = new.log; visited = new.visited; held = new.held })) (sym xis)
+      (subst (λ (x : searches.Search). IsVisit p s.me best r offer (record s { waiting = waiting'; expander = x; batch = new.batch; letters = new.letters; sent = new.sent; total = new.total; log = new.log; visited = new.visited; held = new.held })) (sym xis)
       (visits p s r st n rest head best batch (subst (λ (m : Model). BatchFits m batch) st.belongs.model fits) (expands_in p s.expander st.belongs.model st.belongs.prune s.me s.visited n best (Ok batch) found)
-      waiting' wis new.letters letters new.sent long sent new.total total new.log (ap (λ (l : PathLog). l.shard) log) (ap (λ (l : PathLog). l.entries) log) new.visited visited' new.held held_is offer offer_is))
+      waiting' wis new.letters letters new.sent long sent new.total total new.log (ap (λ (l : PathLog). l.shard) log) (ap (λ (l : PathLog). l.entries) log) new.visited visited' new.held held_is offer offer_is new.batch))
     where
       held_is : new.held ≡ best_held p.model.minimize p.model.join (step_id s.me s.visited) s.held batch.offers
       held_is = by_law p.model minimize operator (λ b o. new.held ≡ best_held b o (step_id s.me s.visited) s.held batch.offers) law held
@@ -362,14 +362,14 @@ module _ {A B : Type 0} where
 
   pub met_fault : (p : Pass) (s : Shard A B) (r : ShardRecord) → Stands p s r → (n : Node) (rest : List Node) → s.waiting.items ≡ n ∷ rest → (best : ℕ) (spot : Spot) (kind : FaultKind) (last : Option ℕ)
       → expansion s.expander.model (record { prune = s.expander.prune; state = n.state; cost = n.cost; id = step_id s.me s.visited; best = best }) ≡ Err (record { spot = spot; kind = kind; last = last })
-      → (waiting' : VecDeque Node Global) (expander' : searches.Search) → expander' ≡ s.expander → (new : Shard A B)
-      → new ≡ record s { waiting = waiting'; expander = expander'; log = with_step s.log (entry n.parent n.transition); visited = s.visited + 1; fault = Some (record { at = step_id s.me s.visited; last = last; spot = spot; kind = kind }) }
+      → (waiting' : VecDeque Node Global) (expander' : searches.Search) → expander' ≡ s.expander → (batch' : Batch) (new : Shard A B)
+      → new ≡ record s { waiting = waiting'; expander = expander'; batch = batch'; log = with_step s.log (entry n.parent n.transition); visited = s.visited + 1; fault = Some (record { at = step_id s.me s.visited; last = last; spot = spot; kind = kind }) }
       → IsFaulted p s.me r (record { spot = spot; kind = kind }) new
-  met_fault p s r st n rest head best spot kind last found waiting' expander' xis new kept =
+  met_fault p s r st n rest head best spot kind last found waiting' expander' xis batch' new kept =
       subst (λ (q : Shard A B). IsFaulted p s.me r (record { spot = spot; kind = kind }) q) (sym kept)
-      (subst (λ (x : searches.Search). IsFaulted p s.me r (record { spot = spot; kind = kind }) (record s { waiting = waiting'; expander = x; log = with_step s.log (entry n.parent n.transition); visited = s.visited + 1; fault = Some here })) (sym xis)
+      (subst (λ (x : searches.Search). IsFaulted p s.me r (record { spot = spot; kind = kind }) (record s { waiting = waiting'; expander = x; batch = batch'; log = with_step s.log (entry n.parent n.transition); visited = s.visited + 1; fault = Some here })) (sym xis)
       (faulted p s r st n rest head best met (expands_in p s.expander st.belongs.model st.belongs.prune s.me s.visited n best (Err met) found) waiting' (with_step s.log (entry n.parent n.transition)) refl refl (s.visited + 1) refl
-      (record { spot = spot; kind = kind }) refl refl here refl))
+      (record { spot = spot; kind = kind }) refl refl here refl batch'))
     where
       met : Met
       met = record { spot = spot; kind = kind; last = last }
@@ -379,7 +379,7 @@ module _ {A B : Type 0} where
 
   -- where memory ran out, what is handed back at the end is as before
   pub ends_kept : (p : Pass) (s : Shard A B) (r : ShardRecord) → EndsAs p s r → (waiting' : VecDeque Node Global) (expander' : searches.Search) (new : Shard A B)
-      → new ≡ record s { waiting = waiting'; expander = expander'; letters = new.letters; sent = new.sent; total = new.total; log = new.log; visited = new.visited; held = new.held }
+      → new ≡ record s { waiting = waiting'; expander = expander'; batch = new.batch; letters = new.letters; sent = new.sent; total = new.total; log = new.log; visited = new.visited; held = new.held }
       → new.log ≡ s.log → new.visited ≡ s.visited → new.held ≡ s.held → EndsAs p new r
   ends_kept p s r e waiting' expander' new frame log vis held =
       subst (λ (q : Shard A B). EndsAs p q r) (sym frame) (

@@ -31,13 +31,14 @@ use crate::outbox::send_all;
 use crate::past::remember;
 use cost_laws::CostLaw;
 use dom_store::{Covers, PastStore};
-use dp_model::{Keep, Model as DpModel, Options};
+use dp_model::{Keep, Model as DpModel, Options, Seq};
 use pass_ledger::{FaultHere, Held, Letter, Unsent};
 use path_log::{PathLog, StepId};
 use spot_eval::SpotFault;
 use state_layout::{Layout, Node};
 use std::alloc::{AllocError, Global};
 use std::collections::VecDeque;
+use std::mem;
 use successors::{Batch, ExpandEnd, Expander};
 
 /// A shard of a pass. `K` says which nodes cover others.
@@ -67,6 +68,8 @@ pub struct Shard<'m, L: CostLaw, K: Covers> {
     pub waiting: VecDeque<Node>,
     /// The states that were made and not handed out.
     pub letters: VecDeque<Unsent>,
+    /// Room for what a visit makes of a node. Between two visits it says nothing.
+    pub batch: Batch,
     /// To how many shards the mark of this layer was handed out.
     pub told: u32,
     /// How many states of this layer were made for each shard.
@@ -149,6 +152,7 @@ impl<'m, L: CostLaw, K: Covers> Shard<'m, L, K> {
             past,
             waiting: VecDeque::new(alloc),
             letters: VecDeque::new(alloc),
+            batch: Batch::new(alloc),
             told: shards,
             sent,
             total: 0,
@@ -313,12 +317,11 @@ impl<'m, L: CostLaw, K: Covers> Shard<'m, L, K> {
             shard: self.me,
             place: self.visited,
         };
-        let mut batch = Batch::new(self.alloc);
         match self
             .expander
-            .expand(self.alloc, &node, id, best, &mut batch)
+            .expand(self.alloc, &node, id, best, &mut self.batch)
         {
-            Ok(()) => match self.take_batch(&node, id, batch) {
+            Ok(()) => match self.take_batch(&node, id) {
                 Ok(offer) => Visited::Done { offer },
                 Err(_) => Visited::Memory,
             },
@@ -341,46 +344,36 @@ impl<'m, L: CostLaw, K: Covers> Shard<'m, L, K> {
     // What a visit made goes to the letters, the visit is logged, and the best of its solutions is held. The answer is the word
     // of this one, where it is better than what was held. On `Err` memory ran out, and the log, the count of visits and what is
     // held are as before.
-    fn take_batch(
-        &mut self,
-        node: &Node,
-        id: StepId,
-        batch: Batch,
-    ) -> Result<Option<u64>, AllocError>
-        requires letters { (n : Node) → Has batch.letters n → IsNodeFor self.old.layout n }
-        requires offers { All (λ (offer : Offer). InRange offer.cost) batch.offers }
+    fn take_batch(&mut self, node: &Node, id: StepId) -> Result<Option<u64>, AllocError>
+        requires letters { (n : Node) → Has self.old.batch.letters n → IsNodeFor self.old.layout n }
+        requires offers { All (λ (offer : Offer). InRange offer.cost) self.old.batch.offers }
         requires held { IfSome self.old.held (λ h. InRange h.cost) }
         requires some { 1 ≤ self.old.shards }
         requires long { length self.old.sent.items ≡ self.old.shards }
-        ensures frame { self.new ≡ record self.old { letters = self.new.letters; sent = self.new.sent; total = self.new.total; log = self.new.log; visited = self.new.visited; held = self.new.held } }
-        ensures letters { OnOk result (self.new.letters.items ≡ self.old.letters.items ++ letters_of self.old.layout self.old.shards batch.letters) }
-        ensures sent { OnOk result ((j : ℕ) → get_or self.new.sent.items j 0 ≡ get_or self.old.sent.items j 0 + count_to j (letters_of self.old.layout self.old.shards batch.letters)) }
+        ensures frame { self.new ≡ record self.old { batch = self.new.batch; letters = self.new.letters; sent = self.new.sent; total = self.new.total; log = self.new.log; visited = self.new.visited; held = self.new.held } }
+        ensures letters { OnOk result (self.new.letters.items ≡ self.old.letters.items ++ letters_of self.old.layout self.old.shards self.old.batch.letters) }
+        ensures sent { OnOk result ((j : ℕ) → get_or self.new.sent.items j 0 ≡ get_or self.old.sent.items j 0 + count_to j (letters_of self.old.layout self.old.shards self.old.batch.letters)) }
         ensures long { OnOk result (length self.new.sent.items ≡ self.old.shards) }
-        ensures total { OnOk result (self.new.total ≡ self.old.total + length batch.letters) }
+        ensures total { OnOk result (self.new.total ≡ self.old.total + length self.old.batch.letters) }
         ensures log { OnOk result (self.new.log ≡ with_step self.old.log (entry node.now.parent node.now.transition)) }
         ensures visited { OnOk result (self.new.visited ≡ self.old.visited + 1) }
-        ensures held { OnOk result (self.new.held ≡ best_held L.minimize L.operator id self.old.held batch.offers) }
+        ensures held { OnOk result (self.new.held ≡ best_held L.minimize L.operator id self.old.held self.old.batch.offers) }
         ensures news { IfOk result (λ offer. is_some offer ≡ is_news L.minimize L.operator self.old.held self.new.held) }
         ensures word { IfOk result (λ offer. IfSome offer (λ word. (h : Held) × (self.new.held ≡ Some h) × (pos word ≡ order_word L.minimize L.operator (Some h.cost)))) }
         ensures same { OnErr result ((self.new.log ≡ self.old.log) × (self.new.visited ≡ self.old.visited) × (self.new.held ≡ self.old.held)) }
     {
-        let Batch {
-            letters,
-            offers,
-            pruned: _,
-            not_allowed: _,
-        } = batch;
-        let total = sum(self.total, letters.list().len() as u64)?;
-        send_all(
+        let total = sum(self.total, self.batch.letters.list().len() as u64)?;
+        let nodes = mem::replace(&mut self.batch.letters, Seq::of(Vec::new(self.alloc)));
+        self.batch.letters = send_all(
             &self.layout,
             self.shards,
             &mut self.letters,
             &mut self.sent,
-            letters,
+            nodes,
         )?;
         log_visit(&mut self.log, &mut self.visited, node)?;
         self.total = total;
-        Ok(hold_best::<L>(&mut self.held, id, offers.list()))
+        Ok(hold_best::<L>(&mut self.held, id, self.batch.offers.list()))
     }
 
     // The visit is logged, and its fault is kept. On `Err` memory ran out, and nothing changes.

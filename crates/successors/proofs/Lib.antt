@@ -1,3 +1,4 @@
 pub mod Batches
+pub mod Skips
 pub mod Limits
 pub mod Stops

@@ -16,6 +16,7 @@ ghost use Rattle.successors.specs.Starts.{start_at, StartFits};
 ghost use Rattle.successors.specs.Visits.{expansion};
 
 use crate::batch::Batch;
+use crate::candidates::{Candidate, candidates_of};
 use crate::ends::ExpandEnd;
 use crate::starts::Start;
 use crate::visits::{Visitor, words_of};
@@ -43,7 +44,7 @@ macro_rules! scene_of {
     };
 }
 
-/// What looks at the states of a model and makes their successors. It lists the forced transitions once, keeps what
+/// What looks at the states of a model and makes their successors. It lists the transitions once, keeps what
 /// evaluation needs of tables and the words that it holds, and reads packed states. A call changes neither the model nor
 /// whether dual bounds are used.
 #[derive(Drop)]
@@ -53,7 +54,7 @@ pub struct Expander<'m, L: CostLaw> {
     layout: Layout,
     tables: Tables,
     forced: Vec<u32>,
-    others: Vec<u32>,
+    others: Vec<Candidate>,
     stack: Vec<u64>,
     law: PhantomData<L>,
 }
@@ -62,10 +63,11 @@ impl<'m, L: CostLaw> Model for Expander<'m, L> {
     ghost use Rattle.std.specs.Prelude.{◌≡◌};
     ghost use Rattle.cost_laws.specs.Orders.{IsLawOf};
     ghost use Rattle.state_layout.specs.Conditions.{IsLayoutOf};
-    ghost use Rattle.std.specs.Prelude.{length};
+    ghost use Rattle.std.specs.Prelude.{length, map};
     ghost use Rattle.spot_eval.specs.Moves.{forced_of, others_of};
     ghost use Rattle.packed_words.specs.Tables.{AreTablesOf};
     ghost use Rattle.eval_room.specs.Needs.{ServesModel};
+    ghost use Rattle.successors.specs.Candidates.{candidate_of};
     ghost use Rattle.successors.specs.Searches.{Search, search_code};
 
     ghost Value = { Search };
@@ -74,7 +76,7 @@ impl<'m, L: CostLaw> Model for Expander<'m, L> {
 
     ghost view = { λ e. record { model = e.model.now; prune = e.prune } };
 
-    ghost invariant = { λ e. IsLawOf e.model.now L.minimize L.operator × IsLayoutOf e.model.now e.layout × (e.forced.items ≡ forced_of e.model.now) × (e.others.items ≡ others_of e.model.now) × AreTablesOf e.model.now e.tables × ServesModel e.model.now (length e.stack.items) };
+    ghost invariant = { λ e. IsLawOf e.model.now L.minimize L.operator × IsLayoutOf e.model.now e.layout × (e.forced.items ≡ forced_of e.model.now) × (e.others.items ≡ map (candidate_of e.model.now) (others_of e.model.now)) × AreTablesOf e.model.now e.tables × ServesModel e.model.now (length e.stack.items) };
 }
 
 impl<'m, L: CostLaw> Expander<'m, L> {
@@ -93,7 +95,7 @@ impl<'m, L: CostLaw> Expander<'m, L> {
             layout: Layout::of(alloc, model)?,
             tables: Tables::of(alloc, model)?,
             forced: spot_eval::forced_of(alloc, model)?,
-            others: spot_eval::others_of(alloc, model)?,
+            others: candidates_of(alloc, model)?,
             stack: stack_for(alloc, model)?,
             law: PhantomData,
         })

@@ -3,12 +3,14 @@
 #![tactic(auto)]
 
 mod batch;
+mod candidates;
 mod ends;
 mod expander;
 mod starts;
 mod visits;
 
 pub use batch::{Batch, Offer};
+pub use candidates::{Candidate, Membership};
 pub use ends::ExpandEnd;
 pub use expander::Expander;
 pub use starts::Start;

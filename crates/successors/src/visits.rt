@@ -1,6 +1,6 @@
 //! One visit: the successors of a state go into a batch, in order of definition.
 
-ghost use Rattle.std.specs.Prelude.{◌≡◌, ◌<◌, ◌≤◌, ◌+◌, Some, Result, length, IfOk, IfSome, OnOk};
+ghost use Rattle.std.specs.Prelude.{◌≡◌, ◌<◌, ◌≤◌, ◌+◌, true, false, Some, Result, Ok, length, map, IfOk, IfSome, OnOk};
 ghost use Rattle.dp_base.specs.Results.{each};
 ghost use Rattle.dp_model.specs.Costs.{InRange};
 ghost use Rattle.dp_model.specs.StepTexts.{ground_of};
@@ -11,17 +11,19 @@ ghost use Rattle.eval_room.specs.Needs.{ServesModel};
 ghost use Rattle.packed_words.specs.Scenes.{AreSmall, Shows};
 ghost use Rattle.packed_words.specs.Tables.{AreTablesOf};
 ghost use Rattle.spot_eval.specs.Answers.{AnswersBy as Evaluates};
-ghost use Rattle.spot_eval.specs.Moves.{forced_of, others_of};
+ghost use Rattle.spot_eval.specs.Moves.{forced_of, number_enabled, others_of};
 ghost use Rattle.successors.specs.Answers.{AnswersBy, after};
 ghost use Rattle.successors.specs.Batches.{BatchFits, empty_batch};
+ghost use Rattle.successors.specs.Candidates.{candidate_of};
 ghost use Rattle.successors.specs.Visits.{expansion, is_pruned, with_next, with_node, with_number, with_successor, with_tested};
 
 use crate::batch::{Batch, Offer};
+use crate::candidates::Candidate;
 use crate::ends::ExpandEnd;
 use cost_laws::CostLaw;
 use dp_model::{Model as DpModel, Spot, Transition};
 use packed_spots::in_words;
-use packed_words::{Scene, Tables};
+use packed_words::{Scene, Tables, has_in};
 use path_log::StepId;
 use spot_eval::{Look, SpotEnd};
 use state_layout::{Layout, Node, Packed};
@@ -50,6 +52,17 @@ pub(crate) fn words_of<'p>(model: &DpModel, layout: &Layout, p: &'p Packed) -> &
     ensures state { state_in result.now ≡ p.now }
 {
     packed_eval::words_of(model, layout, p)
+}
+
+/// Whether the membership that is tested first of a candidate fails in the state of a scene, so that it is not enabled.
+fn is_out(at: &Scene<'_>, candidate: Candidate) -> bool
+    requires { candidate ≡ candidate_of at.now.model.now candidate.number }
+    ensures { result ≡ true → number_enabled at.now.model.now (state_in at.now.words.now) candidate.number ≡ Ok false }
+{
+    match candidate.first {
+        Some(first) => !has_in(at, first.variable, first.member),
+        None => false,
+    }
 }
 
 /// A state of the model, with values of parameters.
@@ -288,41 +301,72 @@ impl<'a, L: CostLaw> Visitor<'a, L> {
         }
     }
 
-    /// Adds the successors that these ground transitions make, where none is forced.
+    /// Adds the successor that a candidate makes, if it is enabled. Where the membership that is tested first fails, nothing
+    /// else of it is looked up.
+    #[tactic(auto, using(crate::proofs::Skips::passed_over))]
+    fn push_candidate(
+        &self,
+        alloc: Global,
+        at: &Scene<'_>,
+        candidate: Candidate,
+        batch: &mut Batch,
+        stack: &mut [u64],
+    ) -> Result<(), ExpandEnd>
+        requires model { at.now.model.now ≡ self.now.model }
+        requires state { state_in at.now.words.now ≡ self.now.visit.state }
+        requires candidate { candidate ≡ candidate_of self.now.model candidate.number }
+        requires room { ServesModel self.now.model (length stack.old) }
+        requires fits { BatchFits self.now.model batch.old }
+        requires few { batch.old.not_allowed < 65536 }
+        ensures batch { AnswersBy (λ _. batch.new) result (with_tested self.now.model self.now.visit batch.old candidate.number) }
+        ensures fits { OnOk result (BatchFits self.now.model batch.new) }
+        ensures few { OnOk result (batch.new.not_allowed ≤ batch.old.not_allowed + 1) }
+    {
+        if is_out(at, candidate) {
+            return Ok(());
+        }
+        self.push_tested(alloc, candidate.number, batch, stack)
+    }
+
+    /// Adds the successors that these candidates make, where no forced transition is enabled.
     #[tactic(auto, using(crate::proofs::Batches::empty_fits))]
     fn push_each(
         &self,
         alloc: Global,
-        numbers: &[u32],
+        at: &Scene<'_>,
+        candidates: &[Candidate],
         batch: &mut Batch,
         stack: &mut [u64],
     ) -> Result<(), ExpandEnd>
         requires room { ServesModel self.now.model (length stack.old) }
-        requires few { length numbers.now ≤ 65536 }
+        requires model { at.now.model.now ≡ self.now.model }
+        requires state { state_in at.now.words.now ≡ self.now.visit.state }
+        requires candidates { candidates.now ≡ map (candidate_of self.now.model) (others_of self.now.model) }
+        requires few { length candidates.now ≤ 65536 }
         requires empty { batch.old ≡ empty_batch }
-        ensures batch { AnswersBy (λ _. batch.new) result (each (with_tested self.now.model self.now.visit) empty_batch numbers.now) }
+        ensures batch { AnswersBy (λ _. batch.new) result (each (with_tested self.now.model self.now.visit) empty_batch (others_of self.now.model)) }
         ensures fits { OnOk result (BatchFits self.now.model batch.new) }
     {
-        for number in numbers {
-            self.push_tested(alloc, *number, batch, stack)?;
+        for candidate in candidates {
+            self.push_candidate(alloc, at, *candidate, batch, stack)?;
         }
         Ok(())
     }
 
     /// Fills an empty batch: with the successor by the first enabled forced transition, which is then the only one
     /// considered, or with those by the others.
-    #[tactic(auto, using(crate::proofs::Limits::few_others))]
+    #[tactic(auto, using(crate::proofs::Limits::few_candidates))]
     pub(crate) fn fill(
         &self,
         alloc: Global,
         forced: &[u32],
-        others: &[u32],
+        others: &[Candidate],
         batch: &mut Batch,
         stack: &mut [u64],
     ) -> Result<(), ExpandEnd>
         requires room { ServesModel self.now.model (length stack.old) }
         requires forced { forced.now ≡ forced_of self.now.model }
-        requires others { others.now ≡ others_of self.now.model }
+        requires others { others.now ≡ map (candidate_of self.now.model) (others_of self.now.model) }
         requires empty { batch.old ≡ empty_batch }
         ensures batch { AnswersBy (λ _. batch.new) result (expansion self.now.model self.now.visit) }
         ensures fits { OnOk result (BatchFits self.now.model batch.new) }
@@ -330,7 +374,7 @@ impl<'a, L: CostLaw> Visitor<'a, L> {
         let at = scene(self.model, self.tables, self.layout, self.state, &[]);
         match packed_spots::first_enabled(&at, forced, stack)? {
             Some(number) => self.push_number(alloc, number, batch, stack),
-            None => self.push_each(alloc, others, batch, stack),
+            None => self.push_each(alloc, &at, others, batch, stack),
         }
     }
 }

@@ -37,7 +37,7 @@ returns-in-Ok-keep_fault g c =
     let found = rw c.in-Err-Fault.field-0-is at c.in-Err-Fault.ensures.batch in
     record {
       visited = λ p r suited st _. met_fault p s r st c.in-Some.node c.pop_front.new.self.items c.in-Some.ensures.items c.args.best c.in-Err-Fault.spot c.in-Err-Fault.kind c.in-Err-Fault.last found
-          c.pop_front.new.self c.expand.new.self c.expand.ensures.same c.keep_fault.new.self c.in-Ok-keep_fault.ensures.kept;
+          c.pop_front.new.self c.expand.new.self c.expand.ensures.same c.expand.new.batch c.keep_fault.new.self c.in-Ok-keep_fault.ensures.kept;
       found = λ p r st. finds_fault p s r st c.in-Some.node c.pop_front.new.self.items c.in-Some.ensures.items c.args.best c.in-Err-Fault.spot c.in-Err-Fault.kind c.in-Err-Fault.last found;
       me = search rules;
     }
