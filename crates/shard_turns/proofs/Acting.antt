@@ -1,8 +1,9 @@
 -- A shard that goes on after a step of its turn, and one that has ended.
-use Rattle.std.proofs.Common.{◌≡◌, ℕ, ◌+◌, ◌≤◌, ◌<◌, ◌⊎◌, min, inl, inr, List, [], ◌∷◌, ◌++◌, length, get_or, slice_get, Option, Some, None, refl, sym, ap, subst, ◌∙◌, arith}
+use Rattle.std.proofs.Common.{◌≡◌, ℕ, ◌+◌, ◌≤◌, ◌<◌, ◌⊎◌, min, inl, inr, suc, true, false, List, [], ◌∷◌, ◌++◌, length, get_or, slice_get, Option, Some, None, refl, sym, ap, subst, ◌∙◌, arith}
 use Rattle.std.proofs.lemmas.Bool.{cases_eq}
+use Rattle.std.proofs.lemmas.List.{length_push}
 use Rattle.std.proofs.lemmas.Option.{slice_get_read}
-use Rattle.std.specs.Prelude.{Result, Ok, Err, OnOk, IfErr}
+use Rattle.std.specs.Prelude.{Result, Ok, Err, OnOk, IfOk, IfErr}
 use Rattle.std.specs.Global.{Vec}
 use Rattle.std.specs.Vec.{with_item}
 use Rattle.board_words.specs.Causes.{halt_number}
@@ -20,10 +21,11 @@ use Rattle.pass_ledger.specs.Letters.{of}
 use Rattle.pass_ledger.specs.Passes.{Pass}
 use Rattle.pass_ledger.specs.Records.{Own, Done}
 use Rattle.pass_ledger.specs.declared.mail.Letter.{Letter}
+use Rattle.pass_ledger.specs.declared.records.LedgerRow.{LedgerRow}
 use Rattle.pass_ledger.specs.declared.records.ShardRecord.{ShardRecord}
 use Rattle.pass_ledger.proofs.Appends.{append_same}
 use Rattle.pass_ledger.proofs.Lists.{has_last}
-use Rattle.shard_core.specs.Calls.{IsClosed, IsPruning, IsVisit, IsFaulted, IsPosting}
+use Rattle.shard_core.specs.Calls.{IsReady, IsClosed, IsPruning, IsVisit, IsFaulted, IsPosting, IsQuiet}
 use Rattle.shard_core.specs.Stands.{Stands, EndsAs}
 use Rattle.shard_core.specs.declared.shard.Closed.{Closed}
 use Rattle.shard_core.specs.declared.shard.Shard.{Shard}
@@ -31,6 +33,7 @@ use Rattle.shard_mail.specs.Ends.{MailboxFacts, PosterFacts, TakerFacts, IsPoste
 use Rattle.shard_mail.specs.Mails.{LawfulUnder}
 use Rattle.shard_turns.specs.Envelopes.{sender_of, are_lawful}
 use Rattle.shard_turns.specs.Turners.{IsOfferOf, Sits, Sat, IsTakerFor, ArePostersFor, HasAllMail, HasSomeMail, Acts, Leaves}
+use Rattle.shard_turns.specs.Works.{HasTaken, HasClosed, HasHandled, HasPostedNext}
 use Rattle.shard_turns.specs.declared.envelope.Envelope.{Envelope}
 use Rattle.shard_turns.specs.declared.turner.Ended.{Ended}
 use Rattle.shard_turns.specs.declared.turner.Ended.TheVariants as ends
@@ -72,6 +75,25 @@ none_waits waiting lt e = none (length waiting) lt (ap (λ (ns : List Node). len
     none : (a : ℕ) → 0 < a → a ≡ 0 → ⊥
     none a lt e = absurd (omega arith)
 
+some_wait : (waiting : List Node) (n : Node) (rest : List Node) → waiting ≡ n ∷ rest → 0 < length waiting
+some_wait waiting n rest e = subst (λ (ns : List Node). 0 < length ns) (sym e) (some (length rest))
+  where
+    some : (a : ℕ) → 0 < suc a
+    some a = omega arith
+
+same_rest : (m n : Node) (ms ns : List Node) → m ∷ ms ≡ n ∷ ns → ms ≡ ns
+same_rest m n ms ns e = cc
+
+not_false : true ≡ false → ⊥
+not_false e = cc
+
+pub not_true : false ≡ true → ⊥
+not_true e = cc
+
+closed_by : (p : Pass) (i : ℕ) (r : ShardRecord) (new : LedgerRow) → r.waiting ≡ [] → (Done p i r → ⊥) → HasClosed p i r (close r new)
+closed_by p i r new idle going =
+    record { not_done = going; closed = λ _. length_push r.rows new; waiting = λ n rest e. absurd (none_waits r.waiting (some_wait r.waiting n rest e) idle) }
+
 module _ {A B : Type 0} where
   waits_kept : (p : Pass) (s : Shard A B) (r : ShardRecord) → Stands p s r → 0 < length r.waiting → length r.visits + 1 ≤ length (row_pairs 0 r.rows)
   waits_kept p s r st waits =
@@ -88,11 +110,21 @@ module _ {A B : Type 0} where
   -- ---- where the ways of a step join again
 
   module _ (p : Pass) (board : BoardFacts) (boxes : List MailboxFacts) (t : Turner A B) (joined seat : SeatFacts) (is : joined ≡ seat) {T : Type 0} (result : Result T Ended) where
-    pub on_acts : (x : T) → result ≡ Ok x → Acts p board boxes t seat → OnOk result (Acts p board boxes t joined)
-    on_acts x e acts = subst (λ (r : Result T Ended). OnOk r (Acts p board boxes t joined)) (sym e) (subst (λ (s : SeatFacts). Acts p board boxes t s) (sym is) acts)
+    pub on_acts : (Rel : ShardRecord → Type 0) (x : T) → result ≡ Ok x → (b : Acts p board boxes t seat) × Rel b.shard_record → OnOk result ((b : Acts p board boxes t joined) × Rel b.shard_record)
+    on_acts Rel x e acts =
+        subst (λ (r : Result T Ended). OnOk r ((b : Acts p board boxes t joined) × Rel b.shard_record)) (sym e)
+        (subst (λ (s : SeatFacts). (b : Acts p board boxes t s) × Rel b.shard_record) (sym is) acts)
 
-    pub on_none : (end : Ended) → result ≡ Err end → OnOk result (Acts p board boxes t joined)
-    on_none end e = subst (λ (r : Result T Ended). OnOk r (Acts p board boxes t joined)) (sym e) tt
+    pub if_acts : (Rel : T → ShardRecord → Type 0) (x : T) → result ≡ Ok x → (b : Acts p board boxes t seat) × Rel x b.shard_record → IfOk result (λ y. (b : Acts p board boxes t joined) × Rel y b.shard_record)
+    if_acts Rel x e acts =
+        subst (λ (r : Result T Ended). IfOk r (λ y. (b : Acts p board boxes t joined) × Rel y b.shard_record)) (sym e)
+        (subst (λ (s : SeatFacts). (b : Acts p board boxes t s) × Rel x b.shard_record) (sym is) acts)
+
+    pub on_none : (Rel : ShardRecord → Type 0) (end : Ended) → result ≡ Err end → OnOk result ((b : Acts p board boxes t joined) × Rel b.shard_record)
+    on_none Rel end e = subst (λ (r : Result T Ended). OnOk r ((b : Acts p board boxes t joined) × Rel b.shard_record)) (sym e) tt
+
+    pub if_none : (Rel : T → ShardRecord → Type 0) (end : Ended) → result ≡ Err end → IfOk result (λ y. (b : Acts p board boxes t joined) × Rel y b.shard_record)
+    if_none Rel end e = subst (λ (r : Result T Ended). IfOk r (λ y. (b : Acts p board boxes t joined) × Rel y b.shard_record)) (sym e) tt
 
     pub on_leaves : (end : Ended) → result ≡ Err end → Leaves p board boxes end t seat → IfErr result (λ end. Leaves p board boxes end t joined)
     on_leaves end e left = subst (λ (r : Result T Ended). IfErr r (λ end. Leaves p board boxes end t joined)) (sym e) (subst (λ (s : SeatFacts). Leaves p board boxes end t s) (sym is) left)
@@ -106,7 +138,7 @@ module _ {A B : Type 0} where
     own : Own p t.shard.me a.shard_record
     own = a.stands.ends.1.own
 
-    goes_on : (new : Shard A B) → new.me ≡ t.shard.me → (r : ShardRecord) → Stands p new r → (taker : TakerFacts Envelope) → IsTakerFor p boxes t.shard.me taker → (posters : Vec (PosterFacts Envelope)) → ArePostersFor p boxes t.shard.me posters.items
+    abbrev goes_on : (new : Shard A B) → new.me ≡ t.shard.me → (r : ShardRecord) → Stands p new r → (taker : TakerFacts Envelope) → IsTakerFor p boxes t.shard.me taker → (posters : Vec (PosterFacts Envelope)) → ArePostersFor p boxes t.shard.me posters.items
         → HasAllMail p taker.taken posters.items r → (seat' : SeatFacts) → IsSeatOf board seat' → Sits p t.budget seat'.view r → Acts p board boxes (record t { shard = new; taker = taker; posters = posters }) seat'
     goes_on new me r st taker takes posters post mail seat' on sits =
         record {
@@ -150,6 +182,27 @@ module _ {A B : Type 0} where
           posted = λ k q at. a.mail.posted k q at ∙ ap (λ (ls : List (List Letter)). of ls k) (sym posted);
         }
 
+    -- ---- no halt is met
+
+    pub looks : (seat' : SeatFacts) (word : ℕ) → word ≤ 0 → IsSeatOf board seat' → seat'.view ≡ after_halted seat.view word → (b : Acts p board boxes t seat') × (b.shard_record ≡ a.shard_record)
+    looks seat' word none on view = (
+      goes_on t.shard refl a.shard_record a.stands t.taker a.taker t.posters a.posters a.mail seat' on
+          (subst (λ (v : View). Sits p t.budget v a.shard_record) (sym view)
+          (record {
+            part = a.sits.part;
+            limit = a.sits.limit;
+            offered = a.sits.offered;
+            seen = a.sits.seen;
+            drawn = a.sits.drawn;
+            drawn_below = a.sits.drawn_below;
+            top = a.sits.top;
+            late = a.sits.late;
+            raised = a.sits.raised;
+            met = omega (arith, none);
+          })),
+      refl,
+    )
+
     -- ---- a halt is met, or the shard is done
 
     pub meets : (seat' : SeatFacts) (word : ℕ) → 0 < word → IsSeatOf board seat' → seat'.view ≡ after_halted seat.view word → Leaves p board boxes ends.Met t seat'
@@ -164,10 +217,16 @@ module _ {A B : Type 0} where
 
     -- ---- a layer is closed
 
-    pub closes : (new : Shard A B) → new.me ≡ t.shard.me → (closed : Closed) → IsClosed p a.shard_record closed new → Acts p board boxes (record t { shard = new }) seat
-    closes new me closed is =
-        goes_on new me (close a.shard_record is.row) is.stands t.taker a.taker t.posters a.posters (same_mail (close a.shard_record is.row) refl refl) seat a.on_board
-        (sits_same p t.budget seat.view a.shard_record (close a.shard_record is.row) refl refl refl a.sits)
+    pub closes : (new : Shard A B) → new.me ≡ t.shard.me → (closed : Closed) → IsClosed p a.shard_record closed new → (Done p t.shard.me a.shard_record → ⊥)
+        → (b : Acts p board boxes (record t { shard = new }) seat) × HasClosed p t.shard.me a.shard_record b.shard_record
+    closes new me closed is going = (
+      goes_on new me (close a.shard_record is.row) is.stands t.taker a.taker t.posters a.posters (same_mail (close a.shard_record is.row) refl refl) seat a.on_board
+          (sits_same p t.budget seat.view a.shard_record (close a.shard_record is.row) refl refl refl a.sits),
+      closed_by p t.shard.me a.shard_record is.row is.can.idle going,
+    )
+
+    pub stays_open : (Done p t.shard.me a.shard_record → ⊥) → (IsReady p t.shard.me a.shard_record → ⊥) → (b : Acts p board boxes t seat) × HasClosed p t.shard.me a.shard_record b.shard_record
+    stays_open going busy = (a, record { not_done = going; closed = λ ready. absurd (busy ready); waiting = λ n rest e. e })
 
     -- memory ran out, and the shard is only ended
     pub runs_out : (new : Shard A B) → new.me ≡ t.shard.me → EndsAs p new a.shard_record → (seat' : SeatFacts) (end : Ended) → Halts board seat causes.Memory end seat' → Leaves p board boxes end (record t { shard = new }) seat'
@@ -177,26 +236,36 @@ module _ {A B : Type 0} where
 
     -- ---- a node is pruned or visited
 
-    pub prunes : (new : Shard A B) → new.me ≡ t.shard.me → (best : ℕ) → IsPruning p best a.shard_record new → IsBestFor seat.view best → (seat' : SeatFacts) → IsSeatOf board seat' → seat'.view ≡ after_look seat.view best → Acts p board boxes (record t { shard = new }) seat'
+    pub none_waits_here : (0 < length a.shard_record.waiting → ⊥) → (b : Acts p board boxes t seat) × HasHandled a.shard_record b.shard_record
+    none_waits_here none = (a, record { handled = λ n rest e. absurd (none (some_wait a.shard_record.waiting n rest e)); rows = refl })
+
+    pub prunes : (new : Shard A B) → new.me ≡ t.shard.me → (best : ℕ) → IsPruning p best a.shard_record new → IsBestFor seat.view best → (seat' : SeatFacts) → IsSeatOf board seat' → seat'.view ≡ after_look seat.view best
+        → (b : Acts p board boxes (record t { shard = new }) seat') × HasHandled a.shard_record b.shard_record
     prunes new me best is least seat' on view =
-        let r = prune a.shard_record is.node is.rest best in
-        goes_on new me r is.stands t.taker a.taker t.posters a.posters (same_mail r refl refl) seat' on
-        (subst (λ (v : View). Sits p t.budget v r) (sym view) (sits_pruned p t.budget seat.view a.shard_record is.node is.rest best a.sits least))
+        let r = prune a.shard_record is.node is.rest best in (
+          goes_on new me r is.stands t.taker a.taker t.posters a.posters (same_mail r refl refl) seat' on
+              (subst (λ (v : View). Sits p t.budget v r) (sym view) (sits_pruned p t.budget seat.view a.shard_record is.node is.rest best a.sits least)),
+          record { handled = λ n rest e. same_rest is.node n is.rest rest (sym is.can.first ∙ e); rows = refl },
+        )
 
     visits_with : (new : Shard A B) → new.me ≡ t.shard.me → (j best number : ℕ) (offer : Option ℕ) → IsVisit p j best a.shard_record offer new → (drawn : SeatFacts) → Drew board seat best number drawn → number < t.budget
-        → (seat' : SeatFacts) → IsSeatOf board seat' → (offered : ℕ) → seat'.view ≡ record (drawn_at seat.view best number) { offered = offered } → IsOfferOf p offered new.held → Acts p board boxes (record t { shard = new }) seat'
+        → (seat' : SeatFacts) → IsSeatOf board seat' → (offered : ℕ) → seat'.view ≡ record (drawn_at seat.view best number) { offered = offered } → IsOfferOf p offered new.held
+        → (b : Acts p board boxes (record t { shard = new }) seat') × HasHandled a.shard_record b.shard_record
     visits_with new me j best number offer is drawn d lt seat' on offered view offers =
-        let r = visit a.shard_record is.layer is.node is.rest is.made is.prunes new.held None in
-        goes_on new me r is.stands t.taker a.taker t.posters a.posters (same_mail r refl refl) seat' on
-        (subst (λ (v : View). Sits p t.budget v r) (sym view)
-        (sits_visited p t.budget seat.view a.shard_record best number a.sits d.least d.count lt is.layer is.node is.rest is.made is.prunes is.by_best new.held offered offers))
+        let r = visit a.shard_record is.layer is.node is.rest is.made is.prunes new.held None in (
+          goes_on new me r is.stands t.taker a.taker t.posters a.posters (same_mail r refl refl) seat' on
+              (subst (λ (v : View). Sits p t.budget v r) (sym view)
+              (sits_visited p t.budget seat.view a.shard_record best number a.sits d.least d.count lt is.layer is.node is.rest is.made is.prunes is.by_best new.held offered offers)),
+          record { handled = λ n rest e. same_rest is.node n is.rest rest (sym is.can.first ∙ e); rows = refl },
+        )
 
-    pub visits : (new : Shard A B) → new.me ≡ t.shard.me → (j best number : ℕ) → IsVisit p j best a.shard_record None new → (drawn : SeatFacts) → Drew board seat best number drawn → number < t.budget → Acts p board boxes (record t { shard = new }) drawn
+    pub visits : (new : Shard A B) → new.me ≡ t.shard.me → (j best number : ℕ) → IsVisit p j best a.shard_record None new → (drawn : SeatFacts) → Drew board seat best number drawn → number < t.budget
+        → (b : Acts p board boxes (record t { shard = new }) drawn) × HasHandled a.shard_record b.shard_record
     visits new me j best number is drawn d lt =
         visits_with new me j best number None is drawn d lt drawn d.on_board seat.view.offered d.view (offered_after p seat.view.offered a.shard_record.held new.held a.sits.offered is.offer_is)
 
     pub visits_news : (new : Shard A B) → new.me ≡ t.shard.me → (j best number word : ℕ) → word ≤ no_word → IsVisit p j best a.shard_record (Some word) new → (drawn : SeatFacts) → Drew board seat best number drawn → number < t.budget
-        → (seat' : SeatFacts) → IsSeatOf board seat' → seat'.view ≡ after_offer drawn.view word → Acts p board boxes (record t { shard = new }) seat'
+        → (seat' : SeatFacts) → IsSeatOf board seat' → seat'.view ≡ after_offer drawn.view word → (b : Acts p board boxes (record t { shard = new }) seat') × HasHandled a.shard_record b.shard_record
     visits_news new me j best number word fits is drawn d lt seat' on view =
         visits_with new me j best number (Some word) is drawn d lt seat' on (min seat.view.offered word) (view ∙ ap (λ (v : View). after_offer v word) d.view)
         (offered_news p seat.view.offered word a.shard_record.held new.held fits a.sits.offered is.offer_is)
@@ -228,6 +297,9 @@ module _ {A B : Type 0} where
     pub own_box : (b : MailboxFacts) → b ≡ get_or boxes t.shard.me b → slice_get boxes t.shard.me ≡ Some b
     own_box b read = slice_get_read boxes p.shards t.shard.me b (sym a.shared.long) a.stands.belongs.below read
 
+    pub takes_none : (taker : TakerFacts Envelope) → taker ≡ t.taker → (b : Acts p board boxes (record t { taker = taker }) seat) × HasTaken a.shard_record b.shard_record
+    takes_none taker is = subst (λ (k : TakerFacts Envelope). (b : Acts p board boxes (record t { taker = k }) seat) × HasTaken a.shard_record b.shard_record) (sym is) (a, inl refl)
+
     module _ (b : MailboxFacts) (at : slice_get boxes t.shard.me ≡ Some b) (x : Envelope) (next : IsNextFor models.the_row.coded are_lawful sender_of t.taker x) where
       pub may_take : CanTake p a.shard_record x.letter
       may_take =
@@ -240,12 +312,15 @@ module _ {A B : Type 0} where
             terms = ap (λ (f : TakerFacts Envelope). f.terms) is ∙ a.taker.terms;
           }
 
-      pub takes : (taker : TakerFacts Envelope) → taker ≡ taken_by t.taker x → (new : Shard A B) → new.me ≡ t.shard.me → Stands p new (take a.shard_record x.letter) → Acts p board boxes (record t { shard = new; taker = taker }) seat
+      pub takes : (taker : TakerFacts Envelope) → taker ≡ taken_by t.taker x → (new : Shard A B) → new.me ≡ t.shard.me → Stands p new (take a.shard_record x.letter)
+          → (b : Acts p board boxes (record t { shard = new; taker = taker }) seat) × HasTaken a.shard_record b.shard_record
       takes taker is new me st =
-          let r = take a.shard_record x.letter in
-          goes_on new me r st taker (took taker is) t.posters a.posters
-          (subst (λ (xs : List Envelope). HasAllMail p xs t.posters.items r) (sym (ap (λ (f : TakerFacts Envelope). f.taken) is)) (takes_mail p t.taker.taken t.posters.items a.shard_record a.mail x own.sizes.0 may_take.from)) seat a.on_board
-          (sits_same p t.budget seat.view a.shard_record r refl refl refl a.sits)
+          let r = take a.shard_record x.letter in (
+            goes_on new me r st taker (took taker is) t.posters a.posters
+                (subst (λ (xs : List Envelope). HasAllMail p xs t.posters.items r) (sym (ap (λ (f : TakerFacts Envelope). f.taken) is)) (takes_mail p t.taker.taken t.posters.items a.shard_record a.mail x own.sizes.0 may_take.from)) seat a.on_board
+                (sits_same p t.budget seat.view a.shard_record r refl refl refl a.sits),
+            inr (x.letter, refl),
+          )
 
       -- it was taken in vain
       pub takes_in_vain : (taker : TakerFacts Envelope) → taker ≡ taken_by t.taker x → (new : Shard A B) → new.me ≡ t.shard.me → EndsAs p new a.shard_record → (seat' : SeatFacts) (end : Ended) → Halts board seat causes.Memory end seat' → Leaves p board boxes end (record t { shard = new; taker = taker }) seat'
@@ -256,8 +331,9 @@ module _ {A B : Type 0} where
 
     -- ---- nothing is posted
 
-    pub rests : (new : Shard A B) → new.me ≡ t.shard.me → Stands p new a.shard_record → Acts p board boxes (record t { shard = new }) seat
-    rests new me st = goes_on new me a.shard_record st t.taker a.taker t.posters a.posters a.mail seat a.on_board a.sits
+    pub rests : (new : Shard A B) → new.me ≡ t.shard.me → Stands p new a.shard_record → IsQuiet p t.shard.me a.shard_record
+        → (b : Acts p board boxes (record t { shard = new }) seat) × HasPostedNext p t.shard.me a.shard_record false b.shard_record
+    rests new me st quiet = (goes_on new me a.shard_record st t.taker a.taker t.posters a.posters a.mail seat a.on_board a.sits, record { posted = record { waiting = refl; rows = refl }; quiet = λ _. quiet })
 
     -- ---- a letter is posted
 
@@ -296,12 +372,15 @@ module _ {A B : Type 0} where
         pub poster_lawful : LawfulUnder models.the_row.coded are_lawful q.terms (q.posted ++ enclosed x ∷ [])
         poster_lawful = may_post p t.posters.items to q at t.taker.taken a.shard_record x a.mail within (a.posters.terms to q at) (is.stands.ends.1.own.sends.lawful to)
 
-        pub posts : (q' : PosterFacts Envelope) → q' ≡ posted_by q (enclosed x) → Acts p board boxes (record t { shard = new; posters = with_item t.posters to q' }) seat
+        pub posts : (q' : PosterFacts Envelope) → q' ≡ posted_by q (enclosed x)
+            → (b : Acts p board boxes (record t { shard = new; posters = with_item t.posters to q' }) seat) × HasPostedNext p t.shard.me a.shard_record true b.shard_record
         posts q' same =
-            let r = post a.shard_record to x is.rest in
-            goes_on new same_number r is.stands t.taker a.taker (with_item t.posters to q')
-            (posters_with p t.posters.items to q at boxes t.shard.me a.posters q' (ap (λ (f : PosterFacts Envelope). f.mailbox) same) (ap (λ (f : PosterFacts Envelope). f.number) same) (ap (λ (f : PosterFacts Envelope). f.terms) same))
-            (posts_mail p t.posters.items to q at t.taker.taken a.shard_record x a.mail within is.rest q' same) seat a.on_board (sits_same p t.budget seat.view a.shard_record r refl refl refl a.sits)
+            let r = post a.shard_record to x is.rest in (
+              goes_on new same_number r is.stands t.taker a.taker (with_item t.posters to q')
+                  (posters_with p t.posters.items to q at boxes t.shard.me a.posters q' (ap (λ (f : PosterFacts Envelope). f.mailbox) same) (ap (λ (f : PosterFacts Envelope). f.number) same) (ap (λ (f : PosterFacts Envelope). f.terms) same))
+                  (posts_mail p t.posters.items to q at t.taker.taken a.shard_record x a.mail within is.rest q' same) seat a.on_board (sits_same p t.budget seat.view a.shard_record r refl refl refl a.sits),
+              record { posted = record { waiting = refl; rows = refl }; quiet = λ e. absurd (not_false e) },
+            )
 
         -- it was handed out in vain
         pub posts_in_vain : (q' : PosterFacts Envelope) → q' ≡ q → (seat' : SeatFacts) (end : Ended) → Halts board seat causes.Memory end seat' → Leaves p board boxes end (record t { shard = new; posters = with_item t.posters to q' }) seat'
@@ -314,7 +393,7 @@ module _ {A B : Type 0} where
 
   -- ---- the counts of turns and of letters, and why it has ended, change nothing of the rest
 
-  pub turned : (p : Pass) (board : BoardFacts) (boxes : List MailboxFacts) (t : Turner A B) (seat : SeatFacts) → Acts p board boxes t seat → (turns : ℕ) → Acts p board boxes (record t { turns = turns }) seat
+  abbrev pub turned : (p : Pass) (board : BoardFacts) (boxes : List MailboxFacts) (t : Turner A B) (seat : SeatFacts) → Acts p board boxes t seat → (turns : ℕ) → Acts p board boxes (record t { turns = turns }) seat
   turned p board boxes t seat a turns =
       record { shard_record = a.shard_record; shared = a.shared; stands = a.stands; on_board = a.on_board; sits = a.sits; taker = a.taker; posters = a.posters; mail = a.mail }
 
@@ -322,7 +401,7 @@ module _ {A B : Type 0} where
   left_turned p board boxes t seat end left ended =
       record { shard_record = left.shard_record; below = left.below; ends = left.ends; on_board = left.on_board; sat = left.sat; taker = left.taker; posters = left.posters; mail = left.mail }
 
-  pub counted : (p : Pass) (board : BoardFacts) (boxes : List MailboxFacts) (t : Turner A B) (seat : SeatFacts) → Acts p board boxes t seat → (letters : ℕ) → Acts p board boxes (record t { letters = letters }) seat
+  abbrev pub counted : (p : Pass) (board : BoardFacts) (boxes : List MailboxFacts) (t : Turner A B) (seat : SeatFacts) → Acts p board boxes t seat → (letters : ℕ) → Acts p board boxes (record t { letters = letters }) seat
   counted p board boxes t seat a letters =
       record { shard_record = a.shard_record; shared = a.shared; stands = a.stands; on_board = a.on_board; sits = a.sits; taker = a.taker; posters = a.posters; mail = a.mail }
 

@@ -2,3 +2,4 @@ pub mod Kept
 pub mod Sitting
 pub mod Mail
 pub mod Acting
+pub mod Working

@@ -1,12 +1,14 @@
 //! A shard with its ends of the mailboxes, and its turns.
 
-ghost use Rattle.std.specs.Prelude.{◌≡◌, None, IfErr, OnOk};
+ghost use Rattle.std.specs.Prelude.{◌≡◌, None, IfErr, IfOk, OnOk};
 ghost use Rattle.board_words.specs.Causes.{halt_number};
 ghost use Rattle.board_words.specs.Seats.{IsSeatOf};
 ghost use Rattle.board_words.specs.Steps.{after_halt};
 ghost use Rattle.pass_ledger.specs.Passes.{Pass};
+ghost use Rattle.shard_core.specs.Calls.{IsQuiet};
 ghost use Rattle.shard_core.specs.Stands.{Suited};
 ghost use Rattle.shard_turns.specs.Turners.{Acts, Leaves, Keeps};
+ghost use Rattle.shard_turns.specs.Works.{HasWorked, HasTaken, HasClosed, HasHandled, HasPosted, HasPostedNext};
 
 use crate::envelope::Envelope;
 use board_words::{Board, BoardSeat, HaltCause};
@@ -45,7 +47,8 @@ pub struct Turner<'m, L: CostLaw, K: Covers> {
 
 impl<'m, L: CostLaw, K: Covers> Turner<'m, L, K> {
     /// One turn: after the gate, the shard looks for a halt, takes a letter, closes its layer if it can, visits or prunes a node
-    /// if one waits, and posts what is ready. It waits for nobody but within the mailboxes' queues.
+    /// if one waits, and posts what is ready. So a turn with work does some, or the shard has ended. It waits for nobody but
+    /// within the mailboxes' queues.
     pub fn turn<R: Wait, G: Gate>(
         &mut self,
         rt: &R,
@@ -58,6 +61,8 @@ impl<'m, L: CostLaw, K: Covers> Turner<'m, L, K> {
         requires goes_on { self.old.ended ≡ None }
         ensures keeps { (p : Pass) → Suited p L.minimize L.operator K.prune K.minimize K.operator → Acts p board.now boxes.now.items self.old seat.old
             → Keeps p board.now boxes.now.items self.new seat.new }
+        ensures works { (p : Pass) → Suited p L.minimize L.operator K.prune K.minimize K.operator → (a : Acts p board.now boxes.now.items self.old seat.old)
+            → self.new.ended ≡ None → (b : Acts p board.now boxes.now.items self.new seat.new) × HasWorked p self.old.shard.me a.shard_record b.shard_record }
         ensures me { self.new.shard.me ≡ self.old.shard.me }
     {
         gate.turn(self.shard.me, self.turns);
@@ -76,8 +81,8 @@ impl<'m, L: CostLaw, K: Covers> Turner<'m, L, K> {
         seat: &mut BoardSeat,
     ) -> Result<(), Ended>
         requires { (p : Pass) × Suited p L.minimize L.operator K.prune K.minimize K.operator × Acts p board.now boxes.now.items self.old seat.old }
-        ensures acts { (p : Pass) → Suited p L.minimize L.operator K.prune K.minimize K.operator → Acts p board.now boxes.now.items self.old seat.old
-            → OnOk result (Acts p board.now boxes.now.items self.new seat.new) }
+        ensures acts { (p : Pass) → Suited p L.minimize L.operator K.prune K.minimize K.operator → (a : Acts p board.now boxes.now.items self.old seat.old)
+            → OnOk result ((b : Acts p board.now boxes.now.items self.new seat.new) × HasWorked p self.old.shard.me a.shard_record b.shard_record) }
         ensures ends { (p : Pass) → Suited p L.minimize L.operator K.prune K.minimize K.operator → Acts p board.now boxes.now.items self.old seat.old
             → IfErr result (λ end. Leaves p board.now boxes.now.items end self.new seat.new) }
         ensures same { self.new.ended ≡ self.old.ended }
@@ -98,8 +103,8 @@ impl<'m, L: CostLaw, K: Covers> Turner<'m, L, K> {
         seat: &mut BoardSeat,
     ) -> Result<(), Ended>
         requires { (p : Pass) × Suited p L.minimize L.operator K.prune K.minimize K.operator × Acts p board.now boxes.now.items self.old seat.old }
-        ensures acts { (p : Pass) → Suited p L.minimize L.operator K.prune K.minimize K.operator → Acts p board.now boxes.now.items self.old seat.old
-            → OnOk result (Acts p board.now boxes.now.items self.new seat.new) }
+        ensures acts { (p : Pass) → Suited p L.minimize L.operator K.prune K.minimize K.operator → (a : Acts p board.now boxes.now.items self.old seat.old)
+            → OnOk result ((b : Acts p board.now boxes.now.items self.new seat.new) × (b.shard_record ≡ a.shard_record)) }
         ensures ends { (p : Pass) → Suited p L.minimize L.operator K.prune K.minimize K.operator → Acts p board.now boxes.now.items self.old seat.old
             → IfErr result (λ end. Leaves p board.now boxes.now.items end self.new seat.new) }
         ensures same { self.new.ended ≡ self.old.ended }
@@ -121,8 +126,8 @@ impl<'m, L: CostLaw, K: Covers> Turner<'m, L, K> {
         seat: &mut BoardSeat,
     ) -> Result<(), Ended>
         requires { (p : Pass) × Suited p L.minimize L.operator K.prune K.minimize K.operator × Acts p board.now boxes.now.items self.old seat.old }
-        ensures acts { (p : Pass) → Suited p L.minimize L.operator K.prune K.minimize K.operator → Acts p board.now boxes.now.items self.old seat.old
-            → OnOk result (Acts p board.now boxes.now.items self.new seat.new) }
+        ensures acts { (p : Pass) → Suited p L.minimize L.operator K.prune K.minimize K.operator → (a : Acts p board.now boxes.now.items self.old seat.old)
+            → OnOk result ((b : Acts p board.now boxes.now.items self.new seat.new) × HasTaken a.shard_record b.shard_record) }
         ensures ends { (p : Pass) → Suited p L.minimize L.operator K.prune K.minimize K.operator → Acts p board.now boxes.now.items self.old seat.old
             → IfErr result (λ end. Leaves p board.now boxes.now.items end self.new seat.new) }
         ensures same { self.new.ended ≡ self.old.ended }
@@ -146,8 +151,8 @@ impl<'m, L: CostLaw, K: Covers> Turner<'m, L, K> {
         seat: &mut BoardSeat,
     ) -> Result<(), Ended>
         requires { (p : Pass) × Suited p L.minimize L.operator K.prune K.minimize K.operator × Acts p board.now boxes.now.items self.old seat.old }
-        ensures acts { (p : Pass) → Suited p L.minimize L.operator K.prune K.minimize K.operator → Acts p board.now boxes.now.items self.old seat.old
-            → OnOk result (Acts p board.now boxes.now.items self.new seat.new) }
+        ensures acts { (p : Pass) → Suited p L.minimize L.operator K.prune K.minimize K.operator → (a : Acts p board.now boxes.now.items self.old seat.old)
+            → OnOk result ((b : Acts p board.now boxes.now.items self.new seat.new) × HasClosed p self.old.shard.me a.shard_record b.shard_record) }
         ensures ends { (p : Pass) → Suited p L.minimize L.operator K.prune K.minimize K.operator → Acts p board.now boxes.now.items self.old seat.old
             → IfErr result (λ end. Leaves p board.now boxes.now.items end self.new seat.new) }
         ensures same { self.new.ended ≡ self.old.ended }
@@ -174,8 +179,8 @@ impl<'m, L: CostLaw, K: Covers> Turner<'m, L, K> {
         seat: &mut BoardSeat,
     ) -> Result<(), Ended>
         requires { (p : Pass) × Suited p L.minimize L.operator K.prune K.minimize K.operator × Acts p board.now boxes.now.items self.old seat.old }
-        ensures acts { (p : Pass) → Suited p L.minimize L.operator K.prune K.minimize K.operator → Acts p board.now boxes.now.items self.old seat.old
-            → OnOk result (Acts p board.now boxes.now.items self.new seat.new) }
+        ensures acts { (p : Pass) → Suited p L.minimize L.operator K.prune K.minimize K.operator → (a : Acts p board.now boxes.now.items self.old seat.old)
+            → OnOk result ((b : Acts p board.now boxes.now.items self.new seat.new) × HasHandled a.shard_record b.shard_record) }
         ensures ends { (p : Pass) → Suited p L.minimize L.operator K.prune K.minimize K.operator → Acts p board.now boxes.now.items self.old seat.old
             → IfErr result (λ end. Leaves p board.now boxes.now.items end self.new seat.new) }
         ensures same { self.new.ended ≡ self.old.ended }
@@ -203,7 +208,7 @@ impl<'m, L: CostLaw, K: Covers> Turner<'m, L, K> {
         }
     }
 
-    // posts the letters and marks that are ready
+    // posts letters and marks until none is ready
     fn post<R: Wait>(
         &mut self,
         rt: &R,
@@ -212,19 +217,19 @@ impl<'m, L: CostLaw, K: Covers> Turner<'m, L, K> {
         seat: &mut BoardSeat,
     ) -> Result<(), Ended>
         requires { (p : Pass) × Suited p L.minimize L.operator K.prune K.minimize K.operator × Acts p board.now boxes.now.items self.old seat.old }
-        ensures acts { (p : Pass) → Suited p L.minimize L.operator K.prune K.minimize K.operator → Acts p board.now boxes.now.items self.old seat.old
-            → OnOk result (Acts p board.now boxes.now.items self.new seat.new) }
+        ensures acts { (p : Pass) → Suited p L.minimize L.operator K.prune K.minimize K.operator → (a : Acts p board.now boxes.now.items self.old seat.old)
+            → OnOk result ((b : Acts p board.now boxes.now.items self.new seat.new) × HasPosted a.shard_record b.shard_record × IsQuiet p self.old.shard.me b.shard_record) }
         ensures ends { (p : Pass) → Suited p L.minimize L.operator K.prune K.minimize K.operator → Acts p board.now boxes.now.items self.old seat.old
             → IfErr result (λ end. Leaves p board.now boxes.now.items end self.new seat.new) }
         ensures same { self.new.ended ≡ self.old.ended }
         ensures me { self.new.shard.me ≡ self.old.shard.me }
     {
-        for _ in 0..u64::MAX {
+        for _ in rt.forever() {
             if !self.post_next(rt, board, boxes, seat)? {
-                break;
+                return Ok(());
             }
         }
-        Ok(())
+        unreachable!()
     }
 
     // posts the next letter that is ready, and answers whether there was one
@@ -236,8 +241,8 @@ impl<'m, L: CostLaw, K: Covers> Turner<'m, L, K> {
         seat: &mut BoardSeat,
     ) -> Result<bool, Ended>
         requires { (p : Pass) × Suited p L.minimize L.operator K.prune K.minimize K.operator × Acts p board.now boxes.now.items self.old seat.old }
-        ensures acts { (p : Pass) → Suited p L.minimize L.operator K.prune K.minimize K.operator → Acts p board.now boxes.now.items self.old seat.old
-            → OnOk result (Acts p board.now boxes.now.items self.new seat.new) }
+        ensures acts { (p : Pass) → Suited p L.minimize L.operator K.prune K.minimize K.operator → (a : Acts p board.now boxes.now.items self.old seat.old)
+            → IfOk result (λ more. (b : Acts p board.now boxes.now.items self.new seat.new) × HasPostedNext p self.old.shard.me a.shard_record more b.shard_record) }
         ensures ends { (p : Pass) → Suited p L.minimize L.operator K.prune K.minimize K.operator → Acts p board.now boxes.now.items self.old seat.old
             → IfErr result (λ end. Leaves p board.now boxes.now.items end self.new seat.new) }
         ensures same { self.new.ended ≡ self.old.ended }

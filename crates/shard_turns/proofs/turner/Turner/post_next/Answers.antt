@@ -1,6 +1,7 @@
 use Rattle.std.proofs.Common.{true, arith}
 use Rattle.std.specs.Vec.{with_item}
-use Rattle.shard_turns.proofs.Acting.{on_acts, on_none, on_leaves, on_goes, rests, box_there, box_at, poster_there, poster_at, poster_of, poster_named, poster_lawful, posts, posts_in_vain}
+use Rattle.shard_turns.proofs.Acting.{if_acts, if_none, on_leaves, on_goes, rests, box_there, box_at, poster_there, poster_at, poster_of, poster_named, poster_lawful, posts, posts_in_vain}
+use Rattle.shard_turns.specs.Works.{HasPostedNext}
 use Rattle.shard_turns.specs.declared.turner.Turner.{Turner}
 use Rattle.shard_turns.proofs.turner.Turner.post_next.Goals as goal
 use Rattle.shard_turns.proofs.turner.Turner.post_next.Goals.{in-Ok, in-Err}
@@ -8,7 +9,8 @@ use Rattle.shard_turns.proofs.turner.Turner.post_next.Goals.{in-Ok, in-Err}
 pub returns-in_default-clause-acts : goal.returns-in_default-clause-acts
 returns-in_default-clause-acts g c = λ p _ a.
     let me = c.next_letter.ensures.me in
-    rests p c.args.board.now c.args.boxes.now.items c.args.self.now c.args.seat.now a c.next_letter.new.self me (c.in_default.ensures.quiet p a.shard_record a.stands).1
+    let quiet = c.in_default.ensures.quiet p a.shard_record a.stands in
+    rests p c.args.board.now c.args.boxes.now.items c.args.self.now c.args.seat.now a c.next_letter.new.self me quiet.1 quiet.0
 
 pub index-requires : goal.index-requires
 index-requires g c =
@@ -56,12 +58,12 @@ returns-clause-acts g c = λ p _ a.
     let s = c.args.self.now in
     let t : Turner g.row.L.Denot g.row.K.Denot = record s { shard = c.next_letter.new.self; posters = with_item s.posters c.in-Some.to c.post.new.poster } in
     elim c.match-post.branch [
-      | in-Ok w ↦ on_acts p c.args.board.now c.args.boxes.now.items t c.match-post.seat c.args.seat.now w.seat-is c.match-post.result true w.result-is
+      | in-Ok w ↦ if_acts p c.args.board.now c.args.boxes.now.items t c.match-post.seat c.args.seat.now w.seat-is c.match-post.result (HasPostedNext p s.shard.me a.shard_record) true w.result-is
           (let is = c.in-Some.ensures.posted p a.shard_record a.stands in
           let box = box_at p c.args.board.now c.args.boxes.now.items s c.args.seat.now a c.in-Some.to c.in-Some.letter c.next_letter.new.self is c.index.result.now c.index.ensures in
           let at = poster_at p c.args.board.now c.args.boxes.now.items s c.args.seat.now a c.in-Some.to c.in-Some.letter c.next_letter.new.self is c.index_mut.result.now c.index_mut.ensures.value in
           posts p c.args.board.now c.args.boxes.now.items s c.args.seat.now a c.in-Some.to c.in-Some.letter c.next_letter.new.self is c.index.result.now box c.index_mut.result.now at c.post.new.poster w.in-Ok.ensures.ok)
-      | in-Err w ↦ on_none p c.args.board.now c.args.boxes.now.items t c.match-post.seat w.halt.new.seat w.seat-is c.match-post.result w.halt.result w.result-is
+      | in-Err w ↦ if_none p c.args.board.now c.args.boxes.now.items t c.match-post.seat w.halt.new.seat w.seat-is c.match-post.result (HasPostedNext p s.shard.me a.shard_record) w.halt.result w.result-is
     ]
 
 pub returns-clause-ends : goal.returns-clause-ends

@@ -1,4 +1,5 @@
-use Rattle.shard_turns.proofs.Acting.{on_acts, on_none, on_leaves, on_goes, own_box, may_take, takes, takes_in_vain, counted, left_counted}
+use Rattle.shard_turns.proofs.Acting.{on_acts, on_none, on_leaves, on_goes, own_box, may_take, takes, takes_none, takes_in_vain, counted, left_counted}
+use Rattle.shard_turns.specs.Works.{HasTaken}
 use Rattle.shard_turns.specs.declared.turner.Turner.{Turner}
 use Rattle.shard_turns.proofs.turner.Turner.take.Goals as goal
 use Rattle.shard_turns.proofs.turner.Turner.take.Goals.{in-Ok, in-Err}
@@ -10,6 +11,9 @@ accept-requires g c =
     let at = own_box p c.args.board.now c.args.boxes.now.items c.args.self.now c.args.seat.now a c.index.result.now c.index.ensures in
     (p, a.shard_record, a.stands, may_take p c.args.board.now c.args.boxes.now.items c.args.self.now c.args.seat.now a c.index.result.now at c.in-Some.envelope c.in-Some.ensures.next)
 
+pub returns-in_default-clause-acts : goal.returns-in_default-clause-acts
+returns-in_default-clause-acts g c = λ p _ a. takes_none p c.args.board.now c.args.boxes.now.items c.args.self.now c.args.seat.now a c.take.new.taker c.in_default.ensures.none.0
+
 pub returns-clause-acts : goal.returns-clause-acts
 returns-clause-acts g c = λ p suited a.
     let s = c.args.self.now in
@@ -17,12 +21,13 @@ returns-clause-acts g c = λ p suited a.
     let u : Turner g.row.L.Denot g.row.K.Denot = record s { shard = c.accept.new.self; taker = c.take.new.taker } in
     let t : Turner g.row.L.Denot g.row.K.Denot = record u { letters = n } in
     elim c.match-accept.branch [
-      | in-Ok w ↦ on_acts p c.args.board.now c.args.boxes.now.items t c.match-accept.seat c.args.seat.now w.seat-is c.match-accept.result tt w.result-is
+      | in-Ok w ↦ on_acts p c.args.board.now c.args.boxes.now.items t c.match-accept.seat c.args.seat.now w.seat-is c.match-accept.result (HasTaken a.shard_record) tt w.result-is
           (let me = c.accept.ensures.me in
           let at = own_box p c.args.board.now c.args.boxes.now.items s c.args.seat.now a c.index.result.now c.index.ensures in
           let can = may_take p c.args.board.now c.args.boxes.now.items s c.args.seat.now a c.index.result.now at c.in-Some.envelope c.in-Some.ensures.next in
-          counted p c.args.board.now c.args.boxes.now.items u c.args.seat.now (takes p c.args.board.now c.args.boxes.now.items s c.args.seat.now a c.index.result.now at c.in-Some.envelope c.in-Some.ensures.next c.take.new.taker c.in-Some.ensures.some c.accept.new.self me (w.in-Ok.ensures.taken p a.shard_record suited a.stands can)) n)
-      | in-Err w ↦ on_none p c.args.board.now c.args.boxes.now.items t c.match-accept.seat w.halt.new.seat w.seat-is c.match-accept.result w.halt.result w.result-is
+          let took = takes p c.args.board.now c.args.boxes.now.items s c.args.seat.now a c.index.result.now at c.in-Some.envelope c.in-Some.ensures.next c.take.new.taker c.in-Some.ensures.some c.accept.new.self me (w.in-Ok.ensures.taken p a.shard_record suited a.stands can) in
+          (counted p c.args.board.now c.args.boxes.now.items u c.args.seat.now took.0 n, took.1))
+      | in-Err w ↦ on_none p c.args.board.now c.args.boxes.now.items t c.match-accept.seat w.halt.new.seat w.seat-is c.match-accept.result (HasTaken a.shard_record) w.halt.result w.result-is
     ]
 
 pub returns-clause-ends : goal.returns-clause-ends

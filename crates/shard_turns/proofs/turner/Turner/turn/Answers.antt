@@ -1,4 +1,5 @@
 use Rattle.std.proofs.Common.{Option, Some, sym, subst, ◌∙◌}
+use Rattle.std.proofs.lemmas.Option.{none-some}
 use Rattle.shard_turns.proofs.Acting.{turned, left_turned}
 use Rattle.shard_turns.specs.Turners.{KeepsAs}
 use Rattle.shard_turns.specs.declared.turner.Ended.{Ended}
@@ -12,4 +13,11 @@ returns-in-Err-clause-keeps g c = λ p suited a.
 pub returns-in_default-clause-keeps : goal.returns-in_default-clause-keeps
 returns-in_default-clause-keeps g c = λ p suited a.
     let before = turned p c.args.board.now c.args.boxes.now.items c.args.self.now c.args.seat.now a c.saturating_add-self.result in
-    subst (λ (ended : Option Ended). KeepsAs p c.args.board.now c.args.boxes.now.items ended c.act.new.self c.act.new.seat) (sym (c.act.ensures.same ∙ c.requires.goes_on)) (c.in_default.ensures.acts p suited before)
+    subst (λ (ended : Option Ended). KeepsAs p c.args.board.now c.args.boxes.now.items ended c.act.new.self c.act.new.seat) (sym (c.act.ensures.same ∙ c.requires.goes_on)) (c.in_default.ensures.acts p suited before).0
+
+pub returns-in_default-clause-works : goal.returns-in_default-clause-works
+returns-in_default-clause-works g c = λ p suited a _.
+    c.in_default.ensures.acts p suited (turned p c.args.board.now c.args.boxes.now.items c.args.self.now c.args.seat.now a c.saturating_add-self.result)
+
+pub returns-in-Err-clause-works : goal.returns-in-Err-clause-works
+returns-in-Err-clause-works g c = λ p suited a going. absurd (none-some c.in-Err.end (sym going))

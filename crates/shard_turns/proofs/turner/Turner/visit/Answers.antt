@@ -3,7 +3,7 @@ use Rattle.board_words.specs.Rules.{no_word}
 use Rattle.shard_core.specs.Calls.{IsVisit}
 use Rattle.shard_core.specs.Stands.{Stands}
 use Rattle.shard_core.specs.declared.shard.Shard.{Shard}
-use Rattle.shard_turns.proofs.Acting.{prunes, visits, visits_news, spends, loses, faults, drew}
+use Rattle.shard_turns.proofs.Acting.{none_waits_here, not_true, prunes, visits, visits_news, spends, loses, faults, drew}
 use Rattle.shard_turns.specs.Turners.{Leaves}
 use Rattle.shard_turns.proofs.turner.Turner.visit.Goals as goal
 
@@ -11,6 +11,10 @@ pub prune_head-requires : goal.prune_head-requires
 prune_head-requires g c =
     let a = c.requires.2 in
     (c.requires.0, a.shard_record, a.stands, (c.if-not-waits.ensures c.requires.0 a.shard_record a.stands).0 refl)
+
+pub returns-then-not-waits-clause-acts : goal.returns-then-not-waits-clause-acts
+returns-then-not-waits-clause-acts g c = λ p _ a.
+    none_waits_here p c.args.board.now c.args.boxes.now.items c.args.self.now c.args.seat.now a (λ some. not_true ((c.if-not-waits.ensures p a.shard_record a.stands).1 some))
 
 pub returns-then-prune_head-clause-acts : goal.returns-then-prune_head-clause-acts
 returns-then-prune_head-clause-acts g c = λ p suited a.
