@@ -1,10 +1,12 @@
 #!/usr/bin/env python3
-"""Measures a built solver: python3 tools/speed.py PROGRAM [NAME..], or python3 tools/speed.py PROGRAM growth
+"""Measures a built solver: python3 tools/speed.py PROGRAM [NAME..], or with the word growth or threads in place of names
 
 Draws larger problems for the models in models/ (always the same ones), runs the program on them and on generated models with one
 worker and with four, and prints for each run the visits, the seconds of the processor, visits in a second, the largest memory and
 the verdict. A NAME picks the runs whose names begin so. With the word growth it runs four of them with budgets of 100,000, 1,000,000
-and 10,000,000 visits, so that one sees whether time grows with the visits. docs/SPEED.md has what was measured."""
+and 10,000,000 visits, so that one sees whether time grows with the visits. With the word threads it runs models with wide layers with
+one worker, two and four, and prints seconds by the clock, those of the processor, and how many times as fast as one worker each is;
+the machine should have nothing else to do then. docs/SPEED.md has what was measured."""
 
 import os
 import random
@@ -12,6 +14,7 @@ import re
 import subprocess
 import sys
 import tempfile
+import time
 
 TOP = os.path.join(os.path.dirname(os.path.abspath(__file__)), "..", "models")
 
@@ -109,6 +112,25 @@ table_values:
 """
 
 
+def talent(scenes, actors):
+    draw = random.Random(scenes)
+    cast = [[a for a in range(actors) if draw.random() < 0.35] for _ in range(scenes)]
+    days = [draw.randrange(1, 4) for _ in range(scenes)]
+    pay = [draw.randrange(1, 21) for _ in range(actors)]
+    least = [days[s] * sum(pay[a] for a in cast[s]) for s in range(scenes)]
+    return f"""domain: talent
+problem: drawn
+object_numbers: {{ scene: {scenes}, actor: {actors} }}
+target: {{ left: {members(range(scenes))}, here: [] }}
+table_values:
+  days: {listed(days)}
+  pay: {listed(pay)}
+  cast: {listed(map(members, cast))}
+  scenes: {listed(members(s for s in range(scenes) if a in cast[s]) for a in range(actors))}
+  least: {listed(least)}
+"""
+
+
 def domain(folder, file="domain.yaml"):
     return os.path.join(TOP, folder, file)
 
@@ -131,25 +153,33 @@ GROWN = [
     ("bins of 40", domain("bin_packing"), bins(40), []),
 ]
 BUDGETS = ["100000", "1000000", "10000000"]
+# Those whose layers are wide.
+WIDE = [
+    ("talent of 16", domain("talent"), talent(16, 8), []),
+    ("tour of 15, wide windows", TOURS, tour(15, 1000), []),
+    ("bins of 24", domain("bin_packing"), bins(24), []),
+]
 GENERATED = ["gen path 1000 1", "gen pack 200 1", "gen tour 12 1"]
 # A child counts the memory of this program, which it has before it starts.
 OWN_MEMORY = 16
 
 
 def measured(program, words):
-    """The visits, seconds, megabytes and last line of a run."""
+    """The visits, seconds of the processor and by the clock, megabytes and last line of a run."""
     with tempfile.TemporaryFile() as out:
+        start = time.monotonic()
         run = subprocess.Popen([program, *words], stdout=out)
         _, _, used = os.wait4(run.pid, 0)
+        wall = time.monotonic() - start
         out.seek(0)
         text = out.read().decode()
     visits = sum(int(n) for n in re.findall(r"^pass \d+ share \d+ visited (\d+)", text, re.M))
     last = text.strip().split("\n")[-1]
-    return visits, used.ru_utime + used.ru_stime, used.ru_maxrss // 1024, last
+    return visits, used.ru_utime + used.ru_stime, wall, used.ru_maxrss // 1024, last
 
 
 def print_run(program, name, words):
-    visits, seconds, memory, last = measured(program, words)
+    visits, seconds, _, memory, last = measured(program, words)
     rate = f"{visits / max(seconds, 0.01) / 1000:6.0f} k/s" if visits else " " * 10
     room = f"{memory:5} MB" if memory > OWN_MEMORY else f"under {OWN_MEMORY}"
     print(f"{name:26} {visits or '':9} {seconds:7.2f} s {rate} {room}  {last}", flush=True)
@@ -161,6 +191,20 @@ def print_growth(program, path):
             it.write(problem)
         for budget in BUDGETS:
             print_run(program, name, ["solve", file, path, "--budget", budget, *more])
+
+
+def print_threads(program, path):
+    """The least seconds by the clock of three runs for each number of workers."""
+    for name, file, problem, more in WIDE:
+        with open(path, "w", encoding="utf-8") as it:
+            it.write(problem)
+        alone = None
+        for workers in ("1", "2", "4"):
+            runs = [measured(program, ["solve", file, path, "--workers", workers, *more]) for _ in range(3)]
+            visits, seconds, wall, _, last = min(runs, key=lambda run: run[2])
+            alone = alone or wall
+            times = f"{wall:7.2f} s {seconds:7.2f} s of the processor {alone / wall:5.2f} times"
+            print(f"{name:26} {workers} workers {visits:9} {times}  {last}", flush=True)
 
 
 def program_asked():
@@ -180,6 +224,8 @@ def main():
         path = os.path.join(room, "problem.yaml")
         if picked == ("growth",):
             return print_growth(program, path)
+        if picked == ("threads",):
+            return print_threads(program, path)
         for workers in ("1", "4"):
             for name, file, problem, more in DRAWN:
                 if name.startswith(picked):
