@@ -1,13 +1,14 @@
 -- Arguments of a sum, one after another, and the total over the sets that they are.
-use Rattle.std.proofs.Common.{◌≡◌, ℕ, zero, suc, ◌+◌, ◌*◌, ◌≤◌, ◌<◌, Bool, true, false, ◌||◌, eqb, min, add-one, negsuc, FitsSigned, List, [], ◌∷◌, ◌++◌, length, get_or, map, take, drop, append_assoc, Result, Ok, Err, ℤ, pos, ◌+ℤ◌, inl, inr, ◌⊎◌, refl, sym, ap, subst, ◌∙◌, arith}
+use Rattle.std.proofs.Common.{◌≡◌, ℕ, zero, suc, ◌+◌, ◌*◌, ◌≤◌, ◌<◌, ◌-◌, Bool, true, false, ◌||◌, eqb, leb, min, add-one, negsuc, FitsSigned, List, [], ◌∷◌, ◌++◌, length, get_or, map, take, drop, append_assoc, Result, Ok, Err, ℤ, pos, ◌+ℤ◌, inl, inr, ◌⊎◌, refl, sym, ap, subst, ◌∙◌, arith}
 use Rattle.std.specs.Prelude.{Option, Some, None, option_and_then, unwrap_or, slice_get, slice_index}
 use Rattle.std.specs.List.{flat_map, filter, list_all, range_with_len}
 use Rattle.std.proofs.lemmas.Int.{ints, fits_signed_from_abs}
 use Rattle.std.specs.Int.{w128}
 use Rattle.std.proofs.Common.{w64}
 use Rattle.std.proofs.Math.Nat.{mul-le-mul_right}
-use Rattle.std.proofs.lemmas.List.{take_all, drop_all, take-append-le, drop-append-le, length-drop, length-take-le}
-use Rattle.std.proofs.lemmas.Bool.{and_parts, cases_eq, eq-eqb, ne_eqb, leb-true}
+use Rattle.std.proofs.lemmas.List.{take_all, drop_all, take-append-le, drop-append-le, length-drop, length-take-le, get_or-drop}
+use Rattle.std.proofs.lemmas.Option.{slice_get_past, unwrap_or-slice_get}
+use Rattle.std.proofs.lemmas.Bool.{and_parts, cases_eq, eq-eqb, ne_eqb, leb-true, leb-false}
 use Rattle.dp_base.specs.Results.{◌>>=◌}
 use Rattle.dp_model.specs.Costs.{ranged}
 use Rattle.dp_model.specs.Evaluation.{member_of, choices_of, ways, total_of, place_from, place_in, counts_of, table_counts, cells_of, number_cell}
@@ -22,6 +23,7 @@ use Rattle.dp_model.specs.declared.answers.FaultKind.{FaultKind}
 use Rattle.dp_model.specs.declared.whole.Model.{Model}
 use Rattle.bit_sets.specs.Sets.{members_of, has_bit, bound_of}
 use Rattle.state_layout.specs.Signatures.{word_count}
+use Rattle.packed_words.specs.Sets.{one_word}
 use Rattle.packed_words.specs.Totals.{total_by}
 use Rattle.packed_eval.specs.Sums.{sum_of_one, words_of, sets_in, place_after, total_over, cell_at, AreFew, bound_for, IsWithin, fault_in, waits_on, Chooses, unless, sum_after}
 
@@ -278,3 +280,33 @@ cell_within z small = record { low = omega (arith, ints); high = omega (arith, i
 
 pub at_member : (m : Model) (t count : ℕ) (z : ℤ) (k : ℕ) (set : List ℕ) (r : Result ℤ FaultKind) → member_of count z ≡ Ok k → set ≡ k ∷ [] → r ≡ ranged (total_of m t (ways (set ∷ []))) → r ≡ sum_of_one m t count z
 at_member m t count z k set r p e h = h ∙ rw (p, e) refl
+
+-- ---- the cells of a row
+
+module _ (cells : List ℤ) (k : ℕ) where
+  in_row : (n : ℕ) (t : Bool) → leb n (length cells) ≡ t → cell_at (drop (min n (length cells)) cells) k ≡ cell_at cells (n + k)
+  in_row n true e =
+      let start : min n (length cells) ≡ n = omega (arith, leb-true n (length cells) e) in
+      rw start (unwrap_or-slice_get (drop n cells) k (pos 0) ∙ get_or-drop n cells k (pos 0) ∙ sym (unwrap_or-slice_get cells (n + k) (pos 0)))
+  in_row n false e =
+      let past : length cells < n = omega (arith, leb-false n (length cells) e) in
+      let start : min n (length cells) ≡ length cells = omega (arith, past) in
+      let none : slice_get cells (n + k) ≡ None = slice_get_past cells (n + k) (omega (arith, past)) in
+      rw (start, drop_all (length cells) cells (omega arith), none) refl
+
+-- a row begins at its first cell, or ends where the cells end
+pub row_cells : (cells : List ℤ) (n at start k : ℕ) → at ≡ min most (n + 0) → start ≡ min at (length cells) → length cells ≤ most → cell_at (take (length cells - start) (drop start cells)) k ≡ cell_at cells (n + k)
+row_cells cells n at start k p e h =
+    let begins : start ≡ min n (length cells) = omega (arith, p, e, h) in
+    let all : take (length cells - start) (drop start cells) ≡ drop start cells = take_all (length cells - start) (drop start cells) (omega (arith, length-drop start cells)) in
+    rw (all, begins) (in_row cells k n (leb n (length cells)) refl)
+
+-- a set in one word is all of its words
+all_words : (set : List ℕ) → 1 ≤ length set → length set < 2 → one_word (get_or set 0 0) ≡ set
+unfolding one_word
+all_words [] h l = absurd (omega (arith, h))
+all_words (w ∷ []) h l = refl
+all_words (w ∷ v ∷ ws) h l = absurd (omega (arith, l))
+
+pub one_of : (set : List ℕ) → 1 ≤ length set → length set < 2 → members_of (one_word (get_or set 0 0)) ≡ members_of set
+one_of set h l = ap (λ (ws : List ℕ). members_of ws) (all_words set h l)

@@ -93,6 +93,30 @@ fn next_held(set: &[u64], from: u32) -> Option<u32>
     next_member(set, from)
 }
 
+/// The row behind a place: its cells with one argument more, of the members from 0 on.
+fn row_of(cells: &[i64], at: usize, count: u32) -> &[i64]
+    ensures { (place : ℕ) → at ≡ min most place
+        → (k : ℕ) → cell_at result.now k ≡ cell_at cells.now (place * count + k) }
+{
+    let start = next_place(at, count, 0).min(cells.len());
+    &cells[start..]
+}
+
+/// The total of a row's cells over a set that lies in words.
+fn total_held(row: &[i64], set: &[u64]) -> i128
+    requires { length set.now ≤ 64 }
+    ensures value { result ≡ total_by (cell_at row.now) (members_of set.now) }
+    ensures within { IsWithin (bound_for 1) result }
+{
+    let mut total = 0;
+    let mut from = 0;
+    while let Some(member) = next_held(set, from) {
+        total += i128::from(number_at(row, member as usize));
+        from = member + 1;
+    }
+    total
+}
+
 /// The total of the cells behind a place, over the set of the last argument, which lies in words.
 fn total_last(cells: &[i64], at: usize, count: u32, set: &[u64]) -> i128
     requires { length set.now ≤ 64 }
@@ -100,13 +124,11 @@ fn total_last(cells: &[i64], at: usize, count: u32, set: &[u64]) -> i128
         → result ≡ total_by (λ k. cell_at cells.now (place * count + k)) (members_of set.now) }
     ensures within { IsWithin (bound_for 1) result }
 {
-    let mut total = 0;
-    let mut from = 0;
-    while let Some(member) = next_held(set, from) {
-        total += i128::from(number_at(cells, next_place(at, count, member)));
-        from = member + 1;
+    let row = row_of(cells, at, count);
+    match set {
+        [word] => total_in(row, *word),
+        _ => total_held(row, set),
     }
-    total
 }
 
 /// The total of the cells behind a place, over sets that lie in words one behind another.

@@ -1,17 +1,15 @@
-use Rattle.std.proofs.Common.{◌≡◌, ℕ, ◌+◌, ◌-◌, ◌*◌, ◌≤◌, min, ◌+ℤ◌}
+use Rattle.std.proofs.Common.{◌≡◌, ◌-◌, ◌*◌, ◌≤◌, ◌+ℤ◌}
 use Rattle.bit_sets.specs.Sets.{members_of}
-use Rattle.packed_words.specs.Places.{most}
 use Rattle.packed_words.specs.Sets.{members_from}
 use Rattle.packed_words.specs.Totals.{total_by}
 use Rattle.packed_eval.specs.Sums.{cell_at, IsWithin}
-use Rattle.packed_eval.proofs.sums.total_last.Given as goal
+use Rattle.packed_eval.proofs.sums.total_held.Given as goal
 
 -- the cells of the members below a number are added
 abbrev pub invariant-loop-member : goal.invariant-loop-member
 invariant-loop-member l = record {
-  left : (place : ℕ) → l.at ≡ min most place
-      → l.total +ℤ total_by (λ k. cell_at l.cells (place * l.count + k)) (members_from l.from (members_of l.set))
-      ≡ total_by (λ k. cell_at l.cells (place * l.count + k)) (members_of l.set);
+  left : l.total +ℤ total_by (cell_at l.row) (members_from l.from (members_of l.set))
+      ≡ total_by (cell_at l.row) (members_of l.set);
   few : l.from ≤ 8192;
   bounds : IsWithin (l.from * 9223372036854775808) l.total;
 }
