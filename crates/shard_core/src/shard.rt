@@ -386,6 +386,19 @@ impl<'m, L: CostLaw, K: Covers> Shard<'m, L, K> {
         Ok(())
     }
 
+    /// Whether no letter is ready: no state, and no mark, since a node waits or all marks of the layer were posted.
+    pub fn is_quiet(&self) -> bool
+        ensures { (p : Pass) (r : ShardRecord) → Stands p self.now r → result ≡ true → IsQuiet p self.now.me r }
+    {
+        if !self.letters.is_empty() {
+            return false;
+        }
+        if !self.waiting.is_empty() {
+            return true;
+        }
+        self.told >= self.shards
+    }
+
     /// The next letter, and its receiver: the states that the visits made, and then, where no node waits, the marks of the layer.
     /// It takes no memory.
     pub fn next_letter(&mut self) -> Option<(u32, Letter)>

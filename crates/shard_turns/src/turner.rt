@@ -224,6 +224,9 @@ impl<'m, L: CostLaw, K: Covers> Turner<'m, L, K> {
         ensures same { self.new.ended ≡ self.old.ended }
         ensures me { self.new.shard.me ≡ self.old.shard.me }
     {
+        if self.shard.is_quiet() {
+            return Ok(());
+        }
         for _ in rt.forever() {
             if !self.post_next(rt, board, boxes, seat)? {
                 return Ok(());

@@ -30,3 +30,6 @@ returns-then-not-branch-clause-acts g c = λ p suited a.
     let first = c.loop.invariant.goes_on p suited a in
     let next = c.in_ok-post_next.ensures.acts p suited first.0 in
     (next.0, posted_more a.shard_record first.0.shard_record next.0.shard_record first.1 next.1.posted, subst (λ (i : ℕ). IsQuiet p i next.0.shard_record) c.loop.invariant.me (next.1.quiet c.if-not-branch.true))
+
+pub returns-then-is_quiet-clause-acts : goal.returns-then-is_quiet-clause-acts
+returns-then-is_quiet-clause-acts g c = λ p suited a. (a, record { waiting = refl; rows = refl }, c.if-is_quiet.ensures p a.shard_record a.stands refl)
