@@ -14,3 +14,10 @@ pub mod Tabling
 pub mod Celling
 pub mod Working
 pub mod Wording
+pub mod WrittenBlanks
+pub mod WrittenScalars
+pub mod WrittenTurns
+pub mod WrittenForms
+pub mod WrittenBytes
+pub mod WrittenLines
+pub mod WrittenTrees
