@@ -21,3 +21,4 @@ pub mod WrittenForms
 pub mod WrittenBytes
 pub mod WrittenLines
 pub mod WrittenTrees
+pub mod WrittenSample

@@ -24,7 +24,8 @@ use Rattle.yaml_tree.specs.declared.tree.Tree as trees
 use Rattle.yaml_tree.specs.declared.tree.Pair.{Pair}
 use Rattle.yaml_tree.proofs.BaseText.{MatchBool-no}
 use Rattle.yaml_tree.proofs.KeyCodes.{same_code}
-use Rattle.content_laws.specs.Writing.{written, IsWritable, LawWritten}
+use Rattle.yaml_tree.proofs.One.{one_reading}
+use Rattle.content_laws.specs.Writing.{written, IsWritable, LawWritten, LawAlone}
 use Rattle.content_laws.proofs.WrittenBlanks.{past_blanks, past_solid}
 use Rattle.content_laws.proofs.WrittenScalars.{closes, split_quotes}
 use Rattle.content_laws.proofs.WrittenForms.{written_form, written-form, IsFirst, begun, ReadAs, reads_back}
@@ -125,3 +126,10 @@ module _ (n : ℕ) where
 
 pub written_law : LawWritten
 written_law file n tree fit = ((one n file tree fit).read, spelled n file tree fit, same n file tree fit)
+
+pub alone_law : LawAlone
+alone_law file n tree fit read spells =
+    let other = written_law file n tree fit in
+    let e : Ok read ≡ Ok other.0 = one_reading file (written n tree) (Ok read) (Ok other.0) spells other.1 in
+    let same : read ≡ other.0 = cc in
+    ap (same_key tree) same ∙ other.2

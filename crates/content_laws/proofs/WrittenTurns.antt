@@ -82,22 +82,42 @@ module _ {A C : Type 0} (code : A → C) (text : A → List ℕ) (Fits : List A 
     comma_solid : IsSolid 44
     comma_solid = record { no_blank = refl; no_comment = refl }
 
+    turn_last : (before : List A) (x : A) (from : Rest) (behind : List ℕ) → Step before x from close behind → Turns before (x ∷ []) from behind
+    turn_last before x from behind one = record {
+      read = [];
+      at = from;
+      last = one.read;
+      left = on 1 one.next;
+      in_turn = refl;
+      ends = subst (λ (l : List A). OneTurn l from (Last (one.read ∷ []) (on 1 one.next))) (sym (append-nil before)) (one.on_close refl);
+      here = ap (drop 1) one.here;
+      line = one.line;
+      below = one.below;
+      same = ap (λ (c : C). c ∷ []) one.same;
+    }
+
+    -- behind a comma the others
+    turn_more : (before : List A) (x : A) (xs : List A) (from : Rest) (more here behind : List ℕ) (one : Step before x from 44 more) (point : NextPoint (on 1 one.next) here)
+        → Turns (before ++ one.read ∷ []) xs point.next behind → Turns before (x ∷ xs) from behind
+    turn_more before x xs from more here behind one point later = record {
+      read = one.read ∷ later.read;
+      at = later.at;
+      last = later.last;
+      left = later.left;
+      in_turn = (point.next, subst (OneTurn before from) (ap (next_turn one.read) point.is) (one.on_comma refl), later.in_turn);
+      ends = subst (λ (l : List A). OneTurn l later.at (Last (later.last ∷ []) later.left)) (append_assoc before (one.read ∷ []) later.read) later.ends;
+      here = later.here;
+      line = later.line ∙ point.line ∙ one.line;
+      below = later.below ∙ point.below ∙ one.below;
+      same = λ i. one.same i ∷ later.same i;
+    }
+
+    known_more : (before earlier : List A) (read x : A) → map code before ≡ map code earlier → code x ≡ code read → map code (before ++ read ∷ []) ≡ map code (earlier ++ x ∷ [])
+    known_more before earlier read x known same = map-push code before read ∙ (λ i. known i ++ sym same i ∷ []) ∙ sym (map-push code earlier x)
+
     turns : (x : A) (xs earlier before : List A) (from : Rest) (behind : List ℕ) → map code before ≡ map code earlier → AllFit Fits earlier (x ∷ xs)
         → from.here ≡ with_commas n (map text (x ∷ xs)) ++ (spaces n ++ close ∷ behind) → Turns before (x ∷ xs) from behind
-    turns x [] earlier before from behind known fit is =
-        let one = step earlier before x from n close behind known fit.0 solid is in
-        record {
-          read = [];
-          at = from;
-          last = one.read;
-          left = on 1 one.next;
-          in_turn = refl;
-          ends = subst (λ (l : List A). OneTurn l from (Last (one.read ∷ []) (on 1 one.next))) (sym (append-nil before)) (one.on_close refl);
-          here = ap (drop 1) one.here;
-          line = one.line;
-          below = one.below;
-          same = ap (λ (c : C). c ∷ []) one.same;
-        }
+    turns x [] earlier before from behind known fit is = turn_last before x from behind (step earlier before x from n close behind known fit.0 solid is)
     turns x (y ∷ ys) earlier before from behind known fit is =
         let others : List ℕ = with_commas n (map text (y ∷ ys)) in
         let tail : List ℕ = spaces n ++ close ∷ behind in
@@ -105,21 +125,8 @@ module _ {A C : Type 0} (code : A → C) (text : A → List ℕ) (Fits : List A 
         is ∙ append_assoc (text x) (44 ∷ (spaces n ++ others)) tail ∙ ap (λ (l : List ℕ). text x ++ (44 ∷ l)) (append_assoc (spaces n) others tail) in
         let one = step earlier before x from 0 44 (spaces n ++ (others ++ tail)) known fit.0 comma_solid split in
         let point = next_point (on 1 one.next) n (others ++ tail) (starts_with others tail (starts_parts y ys)) (ap (drop 1) one.here) in
-        let more_known : map code (before ++ one.read ∷ []) ≡ map code (earlier ++ x ∷ []) =
-        map-push code before one.read ∙ (λ i. known i ++ sym one.same i ∷ []) ∙ sym (map-push code earlier x) in
-        let later = turns y ys (earlier ++ x ∷ []) (before ++ one.read ∷ []) point.next behind more_known fit.1 point.here_is in
-        record {
-          read = one.read ∷ later.read;
-          at = later.at;
-          last = later.last;
-          left = later.left;
-          in_turn = (point.next, subst (OneTurn before from) (ap (next_turn one.read) point.is) (one.on_comma refl), later.in_turn);
-          ends = subst (λ (l : List A). OneTurn l later.at (Last (later.last ∷ []) later.left)) (append_assoc before (one.read ∷ []) later.read) later.ends;
-          here = later.here;
-          line = later.line ∙ point.line ∙ one.line;
-          below = later.below ∙ point.below ∙ one.below;
-          same = λ i. one.same i ∷ later.same i;
-        }
+        turn_more before x (y ∷ ys) from (spaces n ++ (others ++ tail)) (others ++ tail) behind one point
+        (turns y ys (earlier ++ x ∷ []) (before ++ one.read ∷ []) point.next behind (known_more before earlier one.read x known one.same) fit.1 point.here_is)
 
     -- ---- from bracket to bracket
 

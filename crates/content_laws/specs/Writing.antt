@@ -1,10 +1,13 @@
 -- Trees written as text: flow style on one line, and each scalar in double quotes.
-use Rattle.std.specs.Prelude.{◌≡◌, ℕ, zero, suc, ◌||◌, ◌==◌, if◌then◌else◌, true, false, List, [], ◌∷◌, ◌++◌, map, replicate, IsUtf8}
+use Rattle.std.specs.Prelude.{◌≡◌, ℕ, zero, suc, ◌||◌, ◌==◌, if◌then◌else◌, true, false, List, [], ◌∷◌, ◌++◌, map, replicate, codes, IsUtf8}
 use Rattle.std.specs.List.{All, concat}
+use Rattle.dp_base.specs.declared.place.Place.{Place}
+use Rattle.yaml_tree.specs.Flow.{entry}
 use Rattle.yaml_tree.specs.Keys.{same_key, stands_before}
 use Rattle.yaml_tree.specs.Texts.{most_levels, Spells}
 use Rattle.yaml_tree.specs.declared.tree.Tree.{Tree}
 use Rattle.yaml_tree.specs.declared.tree.Tree as trees
+use Rattle.yaml_tree.specs.declared.tree.Tree.TheVariants as made
 use Rattle.yaml_tree.specs.declared.tree.Pair.{Pair}
 use Rattle.yaml_tree.specs.declared.tree.Pair as pairs
 
@@ -82,3 +85,25 @@ IsWritable tree = IsWritableIn most_levels tree
 -- The text of a tree spells a tree that is the same but for places.
 abbrev pub LawWritten : Type 0
 LawWritten = (file n : ℕ) (tree : Tree) → IsWritable tree → (read : Tree) × Spells file (written n tree) read × (same_key tree read ≡ true)
+
+-- It spells no other tree.
+abbrev pub LawAlone : Type 0
+LawAlone = (file n : ℕ) (tree : Tree) → IsWritable tree → (read : Tree) → Spells file (written n tree) read → same_key tree read ≡ true
+
+-- ---- a tree that is written
+
+abbrev pub scalar : Place → List ℕ → Tree
+scalar at text = made.Scalar at text
+
+-- {"a\tb": ["\n", [], "é"], ["1", "2"]: {"\"": ""}}
+abbrev pub sample : Place → Tree
+sample at =
+    made.Map at (
+    entry (scalar at (codes "a\tb")) (made.List at (scalar at (codes "\n") ∷ made.List at [] ∷ scalar at (195 ∷ 169 ∷ []) ∷ []))
+    ∷ entry (made.List at (scalar at (codes "1") ∷ scalar at (codes "2") ∷ [])) (made.Map at (entry (scalar at (codes "\"")) (scalar at []) ∷ [])) ∷ [])
+
+-- It may be written, and so it looks.
+abbrev pub LawSample : Type 0
+LawSample = (at : Place) → IsWritable (sample at)
+    × (written 0 (sample at) ≡ codes "{\"a\\tb\":[\"\\n\",[],\"" ++ 195 ∷ 169 ∷ codes "\"],[\"1\",\"2\"]:{\"\\\"\":\"\"}}")
+    × (written 1 (made.List at (scalar at [] ∷ [])) ≡ codes "[ \"\" ]")
