@@ -22,3 +22,13 @@ pub mod WrittenBytes
 pub mod WrittenLines
 pub mod WrittenTrees
 pub mod WrittenSample
+pub mod WrittenCodes
+pub mod WrittenNodes
+pub mod WrittenRows
+pub mod WrittenBlocks
+pub mod WrittenItems
+pub mod WrittenEntries
+pub mod WrittenBlockTrees
+pub mod WrittenScan
+pub mod WrittenGood
+pub mod WrittenStairs

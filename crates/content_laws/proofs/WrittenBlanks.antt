@@ -49,3 +49,8 @@ not_clear (first ∷ here) byte more solid past = clear_with first here byte mor
 -- In a flow form the next point is behind the blanks.
 pub point_past : (r : Rest) (byte : ℕ) (more : List ℕ) → IsSolid byte → past_blanks r.here ≡ byte ∷ more → flow_point r ≡ Ok (skip_blanks r)
 point_past r byte more solid past = rw (not_clear r.here byte more solid past) refl
+
+-- how many blanks stand in front
+pub blanks_count : (n : ℕ) (text : List ℕ) (byte : ℕ) (more : List ℕ) → text ≡ byte ∷ more → IsSolid byte → prefix_len is_blank (spaces n ++ text) ≡ n
+blanks_count zero text byte more is solid = ap (prefix_len is_blank) is ∙ (let e : is_blank byte ≡ false = solid.no_blank in rw e refl)
+blanks_count (suc n) text byte more is solid = let so_far = blanks_count n text byte more is solid in ap (λ (k : ℕ). 1 + k) so_far ∙ (omega arith)

@@ -29,19 +29,19 @@ none_fed (x ∷ xs) ys a b =
     let parts = and_parts (no_feed x) (list_all no_feed xs) a in
     and_from (no_feed x) (list_all no_feed (xs ++ ys)) parts.0 (none_fed xs ys parts.1 b)
 
-both : (xs ys : List ℕ) → IsLine xs → IsLine ys → IsLine (xs ++ ys)
+pub both : (xs ys : List ℕ) → IsLine xs → IsLine ys → IsLine (xs ++ ys)
 both xs ys a b = record { utf8 = IsUtf8-append xs ys a.utf8 b.utf8; no_feeds = none_fed xs ys a.no_feeds b.no_feeds }
 
-empty_line : IsLine []
+pub empty_line : IsLine []
 empty_line = record { utf8 = IsUtf8-nil; no_feeds = refl }
 
-one_utf8 : (byte : ℕ) → byte < 128 → IsUtf8 (byte ∷ [])
+pub one_utf8 : (byte : ℕ) → byte < 128 → IsUtf8 (byte ∷ [])
 one_utf8 byte low = IsUtf8-from_ascii (byte ∷ []) (IsAscii-cons byte [] low IsAscii-nil)
 
-one_line : (byte : ℕ) → byte < 128 → no_feed byte ≡ true → IsLine (byte ∷ [])
+pub one_line : (byte : ℕ) → byte < 128 → no_feed byte ≡ true → IsLine (byte ∷ [])
 one_line byte low plain = record { utf8 = one_utf8 byte low; no_feeds = and_from (no_feed byte) true plain refl }
 
-spaces_line : (n : ℕ) → IsLine (spaces n)
+pub spaces_line : (n : ℕ) → IsLine (spaces n)
 spaces_line zero = empty_line
 spaces_line (suc n) = both (32 ∷ []) (spaces n) (one_line 32 (omega arith) refl) (spaces_line n)
 
@@ -149,19 +149,21 @@ module _ (n : ℕ) where
     pub last : ℕ
     pub is : text ≡ front ++ last ∷ []
     pub no_blank : is_blank last ≡ false
+    pub no_return : (last == 13) ≡ false
 
-  ended_brackets : (first last : ℕ) (text : List ℕ) → is_blank last ≡ false → Ended (in_brackets n first last text)
-  ended_brackets first last text no_blank = record {
+  ended_brackets : (first last : ℕ) (text : List ℕ) → is_blank last ≡ false → (last == 13) ≡ false → Ended (in_brackets n first last text)
+  ended_brackets first last text no_blank no_return = record {
     front = first ∷ (spaces n ++ (text ++ spaces n));
     last = last;
     is = ap (λ (l : List ℕ). first ∷ l) (simp append_assoc);
     no_blank = no_blank;
+    no_return = no_return;
   }
 
   ended_form : (form : trees.Tree-F Tree Pair) → Ended (written_form n form)
-  ended_form (trees.Tree-F.Scalar at text) = record { front = 34 ∷ between_quotes text; last = 34; is = refl; no_blank = refl }
-  ended_form (trees.Tree-F.List at items) = ended_brackets 91 93 (with_commas n (map (written n) items)) refl
-  ended_form (trees.Tree-F.Map at entries) = ended_brackets 123 125 (with_commas n (map (written_pair n) entries)) refl
+  ended_form (trees.Tree-F.Scalar at text) = record { front = 34 ∷ between_quotes text; last = 34; is = refl; no_blank = refl; no_return = refl }
+  ended_form (trees.Tree-F.List at items) = ended_brackets 91 93 (with_commas n (map (written n) items)) refl refl
+  ended_form (trees.Tree-F.Map at entries) = ended_brackets 123 125 (with_commas n (map (written_pair n) entries)) refl refl
 
   pub ended : (tree : Tree) → Ended (written n tree)
   ended tree = subst Ended (sym (written-form n tree (trees.out-Tree tree) refl)) (ended_form (trees.out-Tree tree))

@@ -2,7 +2,6 @@
 use Rattle.std.proofs.Common.{◌≡◌, ℕ, zero, suc, ◌+◌, Bool, true, false, ◌&&◌, ◌||◌, ◌==◌, List, [], ◌∷◌, ◌++◌, length, drop, map, Option, Result, Ok, ◌⊎◌, inl, inr, refl, sym, ap, ◌∙◌, subst, append_assoc}
 use Rattle.std.specs.Prelude.{MatchBool}
 use Rattle.std.specs.List.{All}
-use Rattle.std.specs.Str.{bytes_eq}
 use Rattle.std.proofs.lemmas.Bool.{cond-true, cond-false}
 use Rattle.std.proofs.lemmas.List.Elements.{All-head, All-tail}
 use Rattle.yaml_tree.specs.Rest.{Rest, place, on}
@@ -10,7 +9,6 @@ use Rattle.yaml_tree.specs.Characters.{begins}
 use Rattle.yaml_tree.specs.Lines.{flow_point}
 use Rattle.yaml_tree.specs.Openings.{quote_opening, opening_of}
 use Rattle.yaml_tree.specs.Keys.{stands_before}
-use Rattle.yaml_tree.specs.Known.{code_of, code_step, pair_code_step, key_code, pair_code}
 use Rattle.yaml_tree.specs.Repeats.{Turn, Last}
 use Rattle.yaml_tree.specs.Flow.{Reading, may_be_key, is_key_colon, is_keyed, next_turn, item_ends, ListTurn, entry, ends_entry, entry_ends, entry_turn, ValueTurn, KeyTurn, AfterKey, MapTurn, FormOf, Form}
 use Rattle.yaml_tree.specs.declared.tree.Tree.{Tree}
@@ -20,44 +18,29 @@ use Rattle.yaml_tree.specs.declared.tree.Pair.{Pair}
 use Rattle.yaml_tree.specs.declared.tree.Pair as pairs
 use Rattle.yaml_tree.specs.declared.tree.YamlEnd.{YamlEnd}
 use Rattle.yaml_tree.proofs.BaseText.{MatchBool-no}
-use Rattle.yaml_tree.proofs.KeyCodes.{same_code}
 use Rattle.content_laws.specs.Writing.{between_quotes, spaces, write_step, write_pair_step, written, NoneTwice, NoMapForm, IsNoMap, WritableForm, IsWritableIn}
 use Rattle.content_laws.proofs.WrittenBlanks.{IsSolid}
 use Rattle.content_laws.proofs.WrittenScalars.{closes, split_quotes, form_quoted, behind_quoted}
+use Rattle.content_laws.proofs.WrittenCodes.{tree_codes, pair_codes, scalar_codes, list_codes, listed_codes, map_codes, mapped_codes, stands_alike}
 use Rattle.content_laws.proofs.WrittenTurns.{Starts, next_point, AllFit, Step, enclosed}
 
--- ---- codes, which say that trees are the same but for places
+-- ---- parts that fit behind those before them
 
-code_form : (tree : Tree) (form : trees.Tree-F Tree Pair) → trees.out-Tree tree ≡ form
-    → key_code tree ≡ code_step (trees.map-Tree Tree Pair (List ℕ) (List ℕ) key_code pair_code form)
-code_form tree form is =
-    trees.fold_out-Tree (List ℕ) (List ℕ) code_step pair_code_step tree
-    ∙ ap (λ (x : trees.Tree-F Tree Pair). code_step (trees.map-Tree Tree Pair (List ℕ) (List ℕ) key_code pair_code x)) is
+abbrev pub FitsItem : (levels : ℕ) → List Tree → Tree → Type 0
+FitsItem levels earlier tree = IsWritableIn levels tree
 
-abbrev pub PairCodes : Type 0
-PairCodes = List ℕ × List ℕ
+pub all_items : (levels : ℕ) (earlier xs : List Tree) → All (IsWritableIn levels) xs → AllFit (FitsItem levels) earlier xs
+all_items levels earlier [] all = tt
+all_items levels earlier (x ∷ xs) all = (All-head (IsWritableIn levels) x xs all, all_items levels (earlier ++ x ∷ []) xs (All-tail (IsWritableIn levels) x xs all))
 
-abbrev pub pair_codes : Pair → PairCodes
-pair_codes pair = (key_code pair.key, key_code pair.value)
+abbrev pub FitsEntry : (levels : ℕ) → List Pair → Pair → Type 0
+FitsEntry levels earlier pair = (stands_before pair.key earlier ≡ false) × (IsWritableIn levels pair.key × IsNoMap pair.key × IsWritableIn levels pair.value)
 
-pair_codes-are : (entries : List Pair) → map pair_code entries ≡ map (λ (c : PairCodes). c.0 ++ c.1) (map pair_codes entries)
-pair_codes-are [] = refl
-pair_codes-are (pair ∷ entries) =
-    let first : pair_code pair ≡ key_code pair.key ++ key_code pair.value = pairs.fold_out-Pair (List ℕ) (List ℕ) code_step pair_code_step pair in
-    λ i. first i ∷ pair_codes-are entries i
-
--- the keys before, by their codes
-abbrev any_code : List ℕ → List PairCodes → Bool
-any_code code [] = false
-any_code code (c ∷ cs) = bytes_eq code c.0 || any_code code cs
-
-stands-codes : (key : Tree) (before : List Pair) → stands_before key before ≡ any_code (key_code key) (map pair_codes before)
-stands-codes key [] = refl
-stands-codes key (pair ∷ before) = λ i. sym (same_code key pair.key) i || stands-codes key before i
-
-stands_alike : (key other : Tree) (before earlier : List Pair) → key_code key ≡ key_code other → map pair_codes before ≡ map pair_codes earlier → stands_before other before ≡ stands_before key earlier
-stands_alike key other before earlier same known =
-    stands-codes other before ∙ (λ i. any_code (sym same i) (known i)) ∙ sym (stands-codes key earlier)
+pub all_entries : (levels : ℕ) (earlier xs : List Pair) → All (λ (entry : Pair). IsWritableIn levels entry.key × IsNoMap entry.key × IsWritableIn levels entry.value) xs → NoneTwice earlier xs → AllFit (FitsEntry levels) earlier xs
+all_entries levels earlier [] all none = tt
+all_entries levels earlier (x ∷ xs) all none =
+    let P : Pair → Type 0 = λ entry. IsWritableIn levels entry.key × IsNoMap entry.key × IsWritableIn levels entry.value in
+    ((none.0, All-head P x xs all), all_entries levels (earlier ++ x ∷ []) xs (All-tail P x xs all) none.1)
 
 module _ (n : ℕ) where
   -- ---- the text, one step into a tree
@@ -135,7 +118,7 @@ module _ (n : ℕ) where
     pub here : left.here ≡ behind
     pub line : left.line ≡ from.line
     pub below : left.below ≡ from.below
-    pub same : key_code tree ≡ key_code read
+    pub same : tree_codes tree ≡ tree_codes read
 
   abbrev pub Claim : (levels : ℕ) → Type 0
   Claim levels = (flow maps : Bool) (tree : Tree) (from : Rest) (behind : List ℕ) → IsWritableIn levels tree → (maps ≡ false → IsNoMap tree) → from.here ≡ written n tree ++ behind → ReadAs (Form flow maps levels) tree from behind
@@ -150,17 +133,14 @@ module _ (n : ℕ) where
 
     -- ---- lists
 
-    abbrev FitsItem : List Tree → Tree → Type 0
-    FitsItem earlier tree = IsWritableIn levels tree
-
     item_read : (before : List Tree) (x : Tree) (from next : Rest) (behind : List ℕ) (turn : Turn Tree Rest) (one : ReadAs Inner x from behind) → begins 93 from.here ≡ false
         → flow_point one.left ≡ Ok next → item_ends from one.read one.left (Ok next) ≡ turn → ListTurn Inner before from turn
     item_read before x from next behind turn one no_end point ends =
         MatchBool-no (begins 93 from.here) _ _ no_end (Ok (one.read, one.left), one.form, sym (ap (item_ends from one.read one.left) point ∙ ends))
 
     item_step : (earlier before : List Tree) (x : Tree) (from : Rest) (k byte : ℕ) (more : List ℕ)
-        → map key_code before ≡ map key_code earlier → FitsItem earlier x → IsSolid byte → from.here ≡ written n x ++ (spaces k ++ byte ∷ more)
-        → Step key_code (written n) FitsItem (ListTurn Inner) n 93 before x from byte more
+        → map tree_codes before ≡ map tree_codes earlier → FitsItem levels earlier x → IsSolid byte → from.here ≡ written n x ++ (spaces k ++ byte ∷ more)
+        → Step tree_codes (written n) (FitsItem levels) (ListTurn Inner) n 93 before x from byte more
     item_step earlier before x from k byte more known fit solid is =
         let behind : List ℕ = spaces k ++ byte ∷ more in
         let one = claim true true x from behind fit (λ e. absurd cc) is in
@@ -180,10 +160,6 @@ module _ (n : ℕ) where
               (cond-false (begins 44 point.next.here) _ _ (at_byte 44 point.next byte more false point.here_is (ap (λ (b : ℕ). b == 44) close))
               ∙ cond-true (begins 93 point.next.here) _ _ (at_byte 93 point.next byte more true point.here_is (ap (λ (b : ℕ). b == 93) close)));
         }
-
-    pub all_items : (earlier xs : List Tree) → All (IsWritableIn levels) xs → AllFit FitsItem earlier xs
-    all_items earlier [] all = tt
-    all_items earlier (x ∷ xs) all = (All-head (IsWritableIn levels) x xs all, all_items (earlier ++ x ∷ []) xs (All-tail (IsWritableIn levels) x xs all))
 
     -- ---- keys
 
@@ -209,9 +185,6 @@ module _ (n : ℕ) where
 
     -- ---- entries
 
-    abbrev FitsEntry : List Pair → Pair → Type 0
-    FitsEntry earlier pair = (stands_before pair.key earlier ≡ false) × (IsWritableIn levels pair.key × IsNoMap pair.key × IsWritableIn levels pair.value)
-
     MatchBool-yes : (b : Bool) (P Q : Type 0) → b ≡ true → P → MatchBool b P Q
     MatchBool-yes b P Q e p = let R : Bool → Type 0 = λ x. MatchBool x P Q in subst R (sym e) p
 
@@ -229,8 +202,8 @@ module _ (n : ℕ) where
         (subst (λ (p : Result Rest YamlEnd). ValueTurn Inner key (on 1 colon) p turn) (sym value_point) value)))
 
     entry_step : (earlier before : List Pair) (x : Pair) (from : Rest) (k byte : ℕ) (more : List ℕ)
-        → map pair_codes before ≡ map pair_codes earlier → FitsEntry earlier x → IsSolid byte → from.here ≡ written_pair x ++ (spaces k ++ byte ∷ more)
-        → Step pair_codes written_pair FitsEntry (MapTurn Inner Key) n 125 before x from byte more
+        → map pair_codes before ≡ map pair_codes earlier → FitsEntry levels earlier x → IsSolid byte → from.here ≡ written_pair x ++ (spaces k ++ byte ∷ more)
+        → Step pair_codes written_pair (FitsEntry levels) (MapTurn Inner Key) n 125 before x from byte more
     entry_step earlier before x from k byte more known fit solid is =
         let behind : List ℕ = spaces k ++ byte ∷ more in
         let value_on : List ℕ = written n x.value ++ behind in
@@ -271,12 +244,6 @@ module _ (n : ℕ) where
               ∙ cond-true (begins 125 point.next.here) _ _ (at_byte 125 point.next byte more true point.here_is (ap (λ (b : ℕ). b == 125) close)));
         }
 
-    pub all_entries : (earlier xs : List Pair) → All (λ (entry : Pair). IsWritableIn levels entry.key × IsNoMap entry.key × IsWritableIn levels entry.value) xs → NoneTwice earlier xs → AllFit FitsEntry earlier xs
-    all_entries earlier [] all none = tt
-    all_entries earlier (x ∷ xs) all none =
-        let P : Pair → Type 0 = λ entry. IsWritableIn levels entry.key × IsNoMap entry.key × IsWritableIn levels entry.value in
-        ((none.0, All-head P x xs all), all_entries (earlier ++ x ∷ []) xs (All-tail P x xs all) none.1)
-
     -- ---- forms
 
     no_items : (from : Rest) (behind : List ℕ) → from.here ≡ 93 ∷ behind → ListTurn Inner [] from (Last [] (on 1 from))
@@ -298,10 +265,10 @@ module _ (n : ℕ) where
       here = behind_quoted text behind from.here here;
       line = refl;
       below = refl;
-      same = code_form tree (trees.Tree-F.Scalar at text) is ∙ sym (code_form (made.Scalar (place from) text) (trees.Tree-F.Scalar (place from) text) (made.outs-Scalar (place from) text));
+      same = scalar_codes tree at text is ∙ sym (scalar_codes (made.Scalar (place from) text) (place from) text (made.outs-Scalar (place from) text));
     }
     form_read flow maps tree (trees.Tree-F.List at items) from behind is fit no_map here =
-        let all = enclosed key_code (written n) FitsItem (ListTurn Inner) n 93 starts_tree (closing 93 (inl refl)) item_step no_items 91 items from behind (all_items [] items fit) here in
+        let all = enclosed tree_codes (written n) (FitsItem levels) (ListTurn Inner) n 93 starts_tree (closing 93 (inl refl)) item_step no_items 91 items from behind (all_items levels [] items fit) here in
         record {
           read = made.List (place from) all.read;
           left = all.left;
@@ -310,11 +277,10 @@ module _ (n : ℕ) where
           here = all.here;
           line = all.line;
           below = all.below;
-          same = code_form tree (trees.Tree-F.List at items) is ∙ ap (code_of 2) all.same
-              ∙ sym (code_form (made.List (place from) all.read) (trees.Tree-F.List (place from) all.read) (made.outs-List (place from) all.read));
+          same = listed_codes tree at items is ∙ ap list_codes all.same ∙ sym (listed_codes (made.List (place from) all.read) (place from) all.read (made.outs-List (place from) all.read));
         }
     form_read flow true tree (trees.Tree-F.Map at entries) from behind is fit no_map here =
-        let all = enclosed pair_codes written_pair FitsEntry (MapTurn Inner Key) n 125 starts_pair (closing 125 (inr refl)) entry_step no_entries 123 entries from behind (all_entries [] entries fit.0 fit.1) here in
+        let all = enclosed pair_codes written_pair (FitsEntry levels) (MapTurn Inner Key) n 125 starts_pair (closing 125 (inr refl)) entry_step no_entries 123 entries from behind (all_entries levels [] entries fit.0 fit.1) here in
         record {
           read = made.Map (place from) all.read;
           left = all.left;
@@ -323,9 +289,7 @@ module _ (n : ℕ) where
           here = all.here;
           line = all.line;
           below = all.below;
-          same = code_form tree (trees.Tree-F.Map at entries) is
-              ∙ ap (code_of 3) (pair_codes-are entries ∙ ap (λ (l : List PairCodes). map (λ (c : PairCodes). c.0 ++ c.1) l) all.same ∙ sym (pair_codes-are all.read))
-              ∙ sym (code_form (made.Map (place from) all.read) (trees.Tree-F.Map (place from) all.read) (made.outs-Map (place from) all.read));
+          same = mapped_codes tree at entries is ∙ ap map_codes all.same ∙ sym (mapped_codes (made.Map (place from) all.read) (place from) all.read (made.outs-Map (place from) all.read));
         }
     form_read flow false tree (trees.Tree-F.Map at entries) from behind is fit no_map here = absurd (no_map refl)
 

@@ -21,8 +21,14 @@ is_no_feed : (byte : ℕ) (b : Bool) → (byte == 10) ≡ b → not b ≡ true �
 is_no_feed byte true e plain = absurd cc
 is_no_feed byte false e plain = e
 
-not_feed : (byte : ℕ) → no_feed byte ≡ true → (byte == 10) ≡ false
+pub not_feed : (byte : ℕ) → no_feed byte ≡ true → (byte == 10) ≡ false
 not_feed byte plain = is_no_feed byte (byte == 10) refl plain
+
+-- a byte order mark stands in front only of a text that begins as one
+pub no_mark : (byte : ℕ) (more : List ℕ) → (byte == 239) ≡ false → mark_length (byte ∷ more) ≡ 0
+no_mark byte [] e = refl
+no_mark byte (b ∷ []) e = refl
+no_mark byte (b ∷ c ∷ more) e = rw e refl
 
 -- ---- one line
 
@@ -46,11 +52,6 @@ whole_line (byte ∷ next ∷ more ∷ bytes) plain =
 
 module _ (n : ℕ) (bytes : List ℕ) (line : IsLine bytes) (begun : Begun n bytes) (ended : Ended n bytes) where
   -- ---- no fault
-
-  no_mark : (byte : ℕ) (more : List ℕ) → (byte == 239) ≡ false → mark_length (byte ∷ more) ≡ 0
-  no_mark byte [] e = refl
-  no_mark byte (b ∷ []) e = refl
-  no_mark byte (b ∷ c ∷ more) e = rw e refl
 
   unmarked : mark_length bytes ≡ 0
   unmarked = ap mark_length begun.is ∙ no_mark begun.byte begun.more begun.first.no_mark

@@ -37,13 +37,13 @@ map_fits levels at entries all none = subst (WritableForm (IsWritableIn levels))
 -- ---- how they look
 
 module _ (n : ℕ) where
-  scalar_looks : (at : Place) (text : List ℕ) → written n (made.Scalar at text) ≡ 34 ∷ (between_quotes text ++ 34 ∷ [])
+  pub scalar_looks : (at : Place) (text : List ℕ) → written n (made.Scalar at text) ≡ 34 ∷ (between_quotes text ++ 34 ∷ [])
   scalar_looks at text = written-form n (made.Scalar at text) (trees.Tree-F.Scalar at text) (made.outs-Scalar at text)
 
-  list_looks : (at : Place) (items : List Tree) → written n (made.List at items) ≡ in_brackets n 91 93 (with_commas n (map (written n) items))
+  pub list_looks : (at : Place) (items : List Tree) → written n (made.List at items) ≡ in_brackets n 91 93 (with_commas n (map (written n) items))
   list_looks at items = written-form n (made.List at items) (trees.Tree-F.List at items) (made.outs-List at items)
 
-  map_looks : (at : Place) (entries : List Pair) → written n (made.Map at entries) ≡ in_brackets n 123 125 (with_commas n (map (written_pair n) entries))
+  pub map_looks : (at : Place) (entries : List Pair) → written n (made.Map at entries) ≡ in_brackets n 123 125 (with_commas n (map (written_pair n) entries))
   map_looks at entries = written-form n (made.Map at entries) (trees.Tree-F.Map at entries) (made.outs-Map at entries)
 
 -- ---- the sample

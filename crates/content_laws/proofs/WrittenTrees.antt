@@ -1,5 +1,5 @@
 -- The text of a tree, read as a whole.
-use Rattle.std.proofs.Common.{◌≡◌, ℕ, suc, Bool, true, false, not, ◌&&◌, ◌||◌, ◌==◌, List, [], ◌∷◌, ◌++◌, drop, Option, Result, Ok, refl, sym, ap, ◌∙◌, subst}
+use Rattle.std.proofs.Common.{◌≡◌, ℕ, Bool, true, false, not, ◌&&◌, ◌||◌, ◌==◌, List, [], ◌∷◌, Result, Ok, sym, ap, ◌∙◌, subst}
 use Rattle.std.specs.Prelude.{codes}
 use Rattle.std.specs.Str.{bytes_eq}
 use Rattle.std.proofs.lemmas.Bool.{cond-true, cond-false}
@@ -10,59 +10,26 @@ use Rattle.yaml_scan.specs.Faults.{is_filled}
 use Rattle.yaml_scan.specs.Lines.{line_at}
 use Rattle.yaml_scan.specs.declared.line.Line.{Line}
 use Rattle.yaml_scan.specs.declared.line.ScanEnd.{ScanEnd}
-use Rattle.yaml_tree.specs.Rest.{Row, row_of, Rest, skip_blanks, front}
-use Rattle.yaml_tree.specs.Characters.{begins, ends_word, is_item, is_colon, is_clear}
+use Rattle.yaml_tree.specs.Rest.{Row, row_of, Rest, front}
+use Rattle.yaml_tree.specs.Characters.{begins}
 use Rattle.yaml_tree.specs.Lines.{has_content, from_content, is_marker, settle}
-use Rattle.yaml_tree.specs.Openings.{quote_opening, opening_of, opening}
 use Rattle.yaml_tree.specs.Keys.{same_key}
 use Rattle.yaml_tree.specs.Known.{key_code}
 use Rattle.yaml_tree.specs.Flow.{Form}
-use Rattle.yaml_tree.specs.Blocks.{settled, ended, whole_form, may_be_block_key, is_block_key, BlockNode}
 use Rattle.yaml_tree.specs.Texts.{past_start, before_lines, nothing_below, TopNode, OfLines, Spells}
 use Rattle.yaml_tree.specs.declared.tree.Tree.{Tree}
-use Rattle.yaml_tree.specs.declared.tree.Tree as trees
-use Rattle.yaml_tree.specs.declared.tree.Pair.{Pair}
 use Rattle.yaml_tree.proofs.BaseText.{MatchBool-no}
 use Rattle.yaml_tree.proofs.KeyCodes.{same_code}
 use Rattle.yaml_tree.proofs.One.{one_reading}
 use Rattle.content_laws.specs.Writing.{written, IsWritable, LawWritten, LawAlone}
 use Rattle.content_laws.proofs.WrittenBlanks.{past_blanks, past_solid}
-use Rattle.content_laws.proofs.WrittenScalars.{closes, split_quotes}
-use Rattle.content_laws.proofs.WrittenForms.{written_form, written-form, IsFirst, begun, ReadAs, reads_back}
+use Rattle.content_laws.proofs.WrittenCodes.{TreeCodes}
+use Rattle.content_laws.proofs.WrittenForms.{IsFirst, begun, ReadAs, reads_back}
 use Rattle.content_laws.proofs.WrittenBytes.{tree_line, ended as last_of}
+use Rattle.content_laws.proofs.WrittenNodes.{node_read}
 use Rattle.content_laws.proofs.WrittenLines.{one_scan, row_text}
 
 module _ (n : ℕ) where
-  -- ---- the top node
-
-  -- a form that begins with what is written of a tree is whole
-  whole_written : (form : trees.Tree-F Tree Pair) (ragged : Bool) (from : Rest) (x : Tree × Rest) (here behind : List ℕ) → here ≡ written_form n form ++ behind
-      → whole_form (opening_of false true ragged here) 0 from (Ok x) ≡ ended (Ok x)
-  whole_written (trees.Tree-F.Scalar at text) ragged from x here behind is =
-      ap (λ (h : List ℕ). whole_form (opening_of false true ragged h) 0 from (Ok x)) (is ∙ split_quotes text behind)
-      ∙ ap (λ (o : Option (List ℕ)). whole_form (quote_opening false o) 0 from (Ok x)) (closes text behind)
-  whole_written (trees.Tree-F.List at items) ragged from x here behind is = ap (λ (h : List ℕ). whole_form (opening_of false true ragged h) 0 from (Ok x)) is
-  whole_written (trees.Tree-F.Map at entries) ragged from x here behind is = ap (λ (h : List ℕ). whole_form (opening_of false true ragged h) 0 from (Ok x)) is
-
-  node_read : (levels : ℕ) (tree : Tree) (from : Rest) (one : ReadAs n (Form false true (suc levels)) tree from []) → from.here ≡ written n tree
-      → BlockNode (suc levels) 0 from (Ok (one.read, settle one.left))
-  node_read levels tree from one is =
-      let first = begun n tree in
-      let no_item : is_item from.here ≡ false = ap (λ (h : List ℕ). begins 45 h && ends_word (drop 1 from.here)) (is ∙ first.is) ∙ ap (λ (b : Bool). b && ends_word (drop 1 from.here)) first.first.no_item in
-      let nothing : (skip_blanks one.left).here ≡ [] = ap past_blanks one.here in
-      let no_key : is_block_key from one.left ≡ false =
-      ap (λ (h : List ℕ). may_be_block_key (opening false true from) (from.line == one.left.line) && is_colon h) nothing
-      ∙ and-false (may_be_block_key (opening false true from) (from.line == one.left.line)) in
-      let written_on : from.here ≡ written_form n (trees.out-Tree tree) ++ [] = is ∙ written-form n tree (trees.out-Tree tree) refl ∙ sym (append-nil (written_form n (trees.out-Tree tree))) in
-      let at_end : ended (Ok (one.read, one.left)) ≡ Ok (one.read, settle one.left) =
-      ap (settled one.read) (cond-true (is_clear one.left.here) _ _ (ap is_clear one.here)) in
-      MatchBool-no (is_item from.here) _ _ no_item (
-        Ok (one.read, one.left),
-        one.form,
-        MatchBool-no (is_block_key from one.left) _ _ no_key
-            (sym (whole_written (trees.out-Tree tree) from.ragged from (one.read, one.left) from.here [] written_on ∙ at_end)),
-      )
-
   -- ---- the line
 
   -- a line that begins as a tree does
@@ -111,7 +78,7 @@ module _ (n : ℕ) where
         let none : one.left.below ≡ [] = one.below in
         MatchBool-no (is_marker row) _ _ (no_marker row first.byte first.more (text ∙ first.is) first.first) (
           Ok (one.read, settle one.left),
-          node_read 63 tree from one text,
+          node_read n 63 0 tree from one text,
           sym (ap (λ (rows : List Row). nothing_below file one.read (from_content rows)) none),
         )
 
@@ -122,7 +89,7 @@ module _ (n : ℕ) where
         (subst (λ (rows : List Row). TopNode file start rows (Ok one.read)) (sym (all_left row first.byte first.more (text ∙ first.is) first.first)) top)
 
     same : same_key tree one.read ≡ true
-    same = sym (same_code tree one.read) ∙ (bytes_eq-Decides (key_code tree) (key_code one.read)).1 one.same
+    same = sym (same_code tree one.read) ∙ (bytes_eq-Decides (key_code tree) (key_code one.read)).1 (ap (λ (c : TreeCodes). c.0) one.same)
 
 pub written_law : LawWritten
 written_law file n tree fit = ((one n file tree fit).read, spelled n file tree fit, same n file tree fit)

@@ -33,7 +33,7 @@ next_point r n here s is =
     let past : past_blanks r.here ≡ s.byte ∷ s.more = ap past_blanks is ∙ past_spaces n here ∙ ap past_blanks s.is ∙ past_solid s.byte s.more s.solid in
     record { next = skip_blanks r; is = point_past r s.byte s.more s.solid past; here_is = past ∙ sym s.is; line = refl; below = refl }
 
-map-push : {A C : Type 0} (f : A → C) (xs : List A) (x : A) → map f (xs ++ x ∷ []) ≡ map f xs ++ f x ∷ []
+pub map-push : {A C : Type 0} (f : A → C) (xs : List A) (x : A) → map f (xs ++ x ∷ []) ≡ map f xs ++ f x ∷ []
 map-push f [] x = refl
 map-push f (y ∷ ys) x = ap (λ (l : List _). f y ∷ l) (map-push f ys x)
 

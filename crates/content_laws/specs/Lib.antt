@@ -8,3 +8,4 @@ pub mod Places
 pub mod CellTexts
 pub mod Worked
 pub mod Writing
+pub mod BlockWriting
