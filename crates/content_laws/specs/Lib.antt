@@ -7,3 +7,5 @@ pub mod Lists
 pub mod Places
 pub mod CellTexts
 pub mod Worked
+pub mod Writing
+pub mod BlockWriting

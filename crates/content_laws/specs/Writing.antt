@@ -1,0 +1,109 @@
+-- Trees written as text: flow style on one line, and each scalar in double quotes.
+use Rattle.std.specs.Prelude.{◌≡◌, ℕ, zero, suc, ◌||◌, ◌==◌, if◌then◌else◌, true, false, List, [], ◌∷◌, ◌++◌, map, replicate, codes, IsUtf8}
+use Rattle.std.specs.List.{All, concat}
+use Rattle.dp_base.specs.declared.place.Place.{Place}
+use Rattle.yaml_tree.specs.Flow.{entry}
+use Rattle.yaml_tree.specs.Keys.{same_key, stands_before}
+use Rattle.yaml_tree.specs.Texts.{most_levels, Spells}
+use Rattle.yaml_tree.specs.declared.tree.Tree.{Tree}
+use Rattle.yaml_tree.specs.declared.tree.Tree as trees
+use Rattle.yaml_tree.specs.declared.tree.Tree.TheVariants as made
+use Rattle.yaml_tree.specs.declared.tree.Pair.{Pair}
+use Rattle.yaml_tree.specs.declared.tree.Pair as pairs
+
+-- ---- the text
+
+-- A byte between double quotes: `"`, `\` and `/` behind a backslash, a line feed as `\n`, a tab as `\t`, and another one by itself.
+abbrev pub written_byte : ℕ → List ℕ
+written_byte byte =
+    if byte == 34 || byte == 92 || byte == 47 then 92 ∷ byte ∷ []
+    else (if byte == 10 then 92 ∷ 110 ∷ []
+    else (if byte == 9 then 92 ∷ 116 ∷ []
+    else byte ∷ []))
+
+abbrev pub between_quotes : List ℕ → List ℕ
+between_quotes text = concat (map written_byte text)
+
+abbrev pub spaces : ℕ → List ℕ
+spaces n = replicate n 32
+
+-- parts with `,` between them, and n spaces behind each `,`
+abbrev pub with_commas : (n : ℕ) → List (List ℕ) → List ℕ
+with_commas n [] = []
+with_commas n (part ∷ []) = part
+with_commas n (part ∷ next ∷ parts) = part ++ 44 ∷ (spaces n ++ with_commas n (next ∷ parts))
+
+-- a text between brackets, with n spaces behind the first and before the second
+abbrev pub in_brackets : (n first last : ℕ) → List ℕ → List ℕ
+in_brackets n first last text = first ∷ (spaces n ++ (text ++ (spaces n ++ last ∷ [])))
+
+-- A scalar stands in double quotes, the items of a list in `[` `]`, the entries of a map in `{` `}`.
+abbrev pub write_step : (n : ℕ) → trees.Tree-F (List ℕ) (List ℕ) → List ℕ
+write_step n (trees.Tree-F.Scalar at text) = 34 ∷ (between_quotes text ++ 34 ∷ [])
+write_step n (trees.Tree-F.List at items) = in_brackets n 91 93 (with_commas n items)
+write_step n (trees.Tree-F.Map at entries) = in_brackets n 123 125 (with_commas n entries)
+
+-- an entry: its key, `:` and n spaces, and its value
+abbrev pub write_pair_step : (n : ℕ) → pairs.Pair-F (List ℕ) (List ℕ) → List ℕ
+write_pair_step n pair = pair.key ++ 58 ∷ (spaces n ++ pair.value)
+
+-- The text of a tree, with n spaces behind each `[`, `{`, `,` and `:` of its own and before each `]` and `}`.
+abbrev pub written : (n : ℕ) → Tree → List ℕ
+written n = trees.fold-Tree (List ℕ) (List ℕ) (write_step n) (write_pair_step n)
+
+-- ---- the trees that are written
+
+-- No key equals one before it.
+abbrev pub NoneTwice : (before entries : List Pair) → Type 0
+NoneTwice before [] = Unit {0}
+NoneTwice before (entry ∷ entries) = (stands_before entry.key before ≡ false) × NoneTwice (before ++ entry ∷ []) entries
+
+abbrev pub NoMapForm : trees.Tree-F Tree Pair → Type 0
+NoMapForm (trees.Tree-F.Scalar at text) = Unit {0}
+NoMapForm (trees.Tree-F.List at items) = Unit {0}
+NoMapForm (trees.Tree-F.Map at entries) = ⊥
+
+-- a scalar or a list, which a key is
+abbrev pub IsNoMap : Tree → Type 0
+IsNoMap tree = NoMapForm (trees.out-Tree tree)
+
+-- a scalar whose text is UTF-8, a list, or a map whose keys are no maps and differ
+abbrev pub WritableForm : (Node : Tree → Type 0) → trees.Tree-F Tree Pair → Type 0
+WritableForm Node (trees.Tree-F.Scalar at text) = IsUtf8 text
+WritableForm Node (trees.Tree-F.List at items) = All Node items
+WritableForm Node (trees.Tree-F.Map at entries) =
+    All (λ (entry : Pair). Node entry.key × IsNoMap entry.key × Node entry.value) entries × NoneTwice [] entries
+
+-- a tree of at most so many levels
+unfoldable pub IsWritableIn : (levels : ℕ) → Tree → Type 0
+IsWritableIn zero tree = ⊥
+IsWritableIn (suc levels) tree = WritableForm (IsWritableIn levels) (trees.out-Tree tree)
+
+abbrev pub IsWritable : Tree → Type 0
+IsWritable tree = IsWritableIn most_levels tree
+
+-- The text of a tree spells a tree that is the same but for places.
+abbrev pub LawWritten : Type 0
+LawWritten = (file n : ℕ) (tree : Tree) → IsWritable tree → (read : Tree) × Spells file (written n tree) read × (same_key tree read ≡ true)
+
+-- It spells no other tree.
+abbrev pub LawAlone : Type 0
+LawAlone = (file n : ℕ) (tree : Tree) → IsWritable tree → (read : Tree) → Spells file (written n tree) read → same_key tree read ≡ true
+
+-- ---- a tree that is written
+
+abbrev pub scalar : Place → List ℕ → Tree
+scalar at text = made.Scalar at text
+
+-- {"a\tb": ["\n", [], "é"], ["1", "2"]: {"\"": ""}}
+abbrev pub sample : Place → Tree
+sample at =
+    made.Map at (
+    entry (scalar at (codes "a\tb")) (made.List at (scalar at (codes "\n") ∷ made.List at [] ∷ scalar at (195 ∷ 169 ∷ []) ∷ []))
+    ∷ entry (made.List at (scalar at (codes "1") ∷ scalar at (codes "2") ∷ [])) (made.Map at (entry (scalar at (codes "\"")) (scalar at []) ∷ [])) ∷ [])
+
+-- It may be written, and so it looks.
+abbrev pub LawSample : Type 0
+LawSample = (at : Place) → IsWritable (sample at)
+    × (written 0 (sample at) ≡ codes "{\"a\\tb\":[\"\\n\",[],\"" ++ 195 ∷ 169 ∷ codes "\"],[\"1\",\"2\"]:{\"\\\"\":\"\"}}")
+    × (written 1 (made.List at (scalar at [] ∷ [])) ≡ codes "[ \"\" ]")
