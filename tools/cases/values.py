@@ -8,7 +8,7 @@ import operator
 
 from asked import asked
 from case_lines import entry
-from values_cases import EXPRESSIONS, FOR_ALLS, LEVELS, REFUSED, TOO_DEEP
+from values_cases import FAULTS, FOR_ALLS, GIVEN, LEVELS, REFUSED, TOO_DEEP
 from values_model import ARGS, COUNTS, ELEMENTS, GREATEST, INTEGERS, SETS, TABLES, domain_text, problem_text
 
 CRATE = "crates/cases_values"
@@ -214,7 +214,7 @@ def answer(work, *of):
 
 def typed_cases():
     """Where each expression stands, its text, and what it gives."""
-    for text in [*EXPRESSIONS.splitlines(), *LEVELS]:
+    for text in [*GIVEN, *FAULTS, *LEVELS]:
         tree = parse(text)
         yield place_of(tree), text, answer(evaluate, tree, ARGS)
     yield from ((place_of(parse(text)), text, "memory") for text in TOO_DEEP)

@@ -1,5 +1,7 @@
 """The expressions of the cases of values, as texts of the language over the model of values_model.py."""
 
+from values_model import COUNTS, TABLES
+
 EXPRESSIONS = """\
 4611686018427387903
 -4611686018427387903
@@ -333,6 +335,131 @@ edges
 (if (is_empty (tops 3)) 1 2)
 """
 
+# An expression of each kind for each fault, in the order Range, ZeroDivisor, Negative, Index: sets in one word, and larger ones.
+FAULTING = {
+    "number": ["(* most 2)", "(/ 1 0)", "(next -1)", "(tens 3)"],
+    "set": ["(add (+ most 1) a)", "(remove (% 1 0) a)", "(sets -1)", "(add 3 none)"],
+    "large set": ["(add (- least 1) even)", "(remove (% 1 0) no)", "(add -1 even)", "(remove 1024 full)"],
+    "condition": ["(< (+ most most) 0)", "(= (/ 1 0) 1)", "(odd -1)", "(is_in 3 a)"],
+}
+NUMBERS = ["+", "-", "*", "/", "%", "max", "min"]
+TESTS = ["=", "!=", "<", "<=", ">", ">="]
+UNIONS = ["union", "intersection", "difference"]
+SET_TESTS = ["=", "!=", "is_subset"]
+
+# Each form with an operand `@` that is evaluated.
+PLACES = {
+    "number": [
+        *(form for head in [*NUMBERS, *TESTS] for form in (f"({head} @ 1)", f"({head} 1 @)")),
+        *["(if true @ 1)", "(if false 1 @)", "(tens @)", "(grid @ 1)", "(grid 1 @)", "(rows @ 0 1)", "(rows 1 @ 1)", "(rows 1 0 @)"],
+        *["(columns @ 0 0 1)", "(columns 1 @ 0 1)", "(columns 1 0 @ 1)", "(columns 1 0 0 @)"],
+        *["(odd @)", "(below @ 1)", "(below 1 @)", "(kept @ 0 1)", "(kept 1 @ 1)", "(kept 1 0 @)", "(sets @)", "(spots @ 1)", "(spots 1 @)"],
+        *["(ladder @)", "(shores @ 1)", "(shores 1 @)", "(coasts @ 0 1)", "(coasts 1 @ 1)", "(coasts 1 0 @)"],
+        *["(sum tens @)", "(sum numbers @)", "(sum grid @ 1)", "(sum grid 1 @)", "(sum grid @ a)", "(sum grid a @)"],
+        *["(sum rows @ one a)", "(sum rows a @ 1)", "(sum rows a one @)", "(sum digits @ one)", "(sum digits full @)"],
+        *(f"({head} @ {of})" for head in ["add", "remove", "is_in"] for of in ["a", "(~ a)", "even", "(~ even)"]),
+    ],
+    "set": [
+        *(form for head in [*UNIONS, *SET_TESTS] for form in (f"({head} @ a)", f"({head} a @)")),
+        *["|@|", "(~ @)", "(add 1 @)", "(remove 1 @)", "(is_in 1 @)", "(is_empty @)", "(if true @ a)", "(if false a @)"],
+        *["(sum tens @)", "(sum grid @ 1)", "(sum grid 1 @)", "(sum grid @ a)", "(sum grid a @)", "(sum rows @ one a)", "(sum rows a one @)"],
+    ],
+    "large set": [
+        *(form for head in [*UNIONS, *SET_TESTS] for form in (f"({head} @ even)", f"({head} even @)")),
+        *["|@|", "(~ @)", "(add 1 @)", "(remove 1 @)", "(is_in 1 @)", "(is_empty @)", "(if true @ even)", "(if false even @)"],
+        *["(sum numbers @)", "(sum digits @ one)", "(sum digits @ 0)"],
+    ],
+    "condition": [
+        *["(not @)", "(and @ true)", "(and true @)", "(or @ true)", "(or false @)", "(if @ true false)", "(if true @ false)", "(if false true @)"],
+        *["(if @ 1 2)", "(if @ a none)", "(if @ even no)"],
+    ],
+}
+
+# Each form of two operands that are both evaluated, and their kinds.
+BOTH = [
+    *((head, "number", "number") for head in [*NUMBERS, *TESTS, "grid", "sum grid", "below", "spots", "shores"]),
+    *((head, of, of) for head in [*UNIONS, *SET_TESTS] for of in ["set", "large set"]),
+    *((head, "number", of) for head in ["add", "remove", "is_in"] for of in ["set", "large set"]),
+    *[("sum grid", "number", "set"), ("sum grid", "set", "number"), ("sum grid", "set", "set"), ("sum digits", "large set", "number")],
+]
+
+# A set of an object type, in one word and in more.
+ONE_OF = {"o3": "a", "o64": "(tops 0)", "o65": "(wells 0)", "o4096": "edges"}
+
+# Each form that asks for a member of an object type, with the place `@` of the number, and the object type.
+MEMBERS = [
+    *((f"({head} @ {of})", kind) for head in ["add", "remove", "is_in"] for kind, of in ONE_OF.items()),
+    *(
+        (f"({head}{name} {' '.join('@' if k == i else '0' for k in range(len(types)))})", types[i])
+        for name, (kind, _, types, cells) in TABLES.items()
+        for head in (["", "sum "] if kind == "integer" else [""])
+        for i in range(len(types))
+        if cells
+    ),
+]
+
+# What a form gives where its operation itself would fault behind an operand that does, and totals out of range.
+LAST = """\
+(/ (next -1) 0)
+(% (* most 2) 0)
+(add 3 (sets -1))
+(remove -1 (add 3 a))
+(is_in 3 (sets -1))
+(is_in -1 (add 1024 even))
+(add -1 (remove 1024 even))
+(grid 3 (next -1))
+(grid -1 (/ 1 0))
+(rows 3 -1 (/ 1 0))
+(sum grid 3 (sets -1))
+(sum digits -1 (/ 1 0))
+(sum heavy (sets 0) one)
+(sum heavy (sets 0) 0)
+(sum heavy (~ none) one)
+(sum heavy a 1)
+(sum numbers 5)
+(sum grid 1 2)
+(sum digits 17 0)
+(sum digits 17 one)
+(sum digits even 0)
+(sum rows 1 0 2)
+(sum rows 2 one a)
+(sum rows a 0 1)
+(sum rows a one 1)
+(sum columns 2 0 0 1)
+first
+(union first a)
+(= first (sets 0))
+(spots 1 2)
+(shores 2 1)
+(coasts 1 0 2)
+(kept 1 0 1)
+(kept 2 0 1)
+(is_in 63 (spots 0 0))
+|(spots 0 1)|
+|(shores 0 1)|
+(is_subset (coasts 2 0 0) (coasts 1 0 0))
+(+ p q)
+(grid p q)
+(sum grid p a)
+(add p none)
+(is_in q a)
+(if (is_in p a) p q)
+"""
+
+
+def faulting():
+    """Each fault in each place of each form, two faults in one form, and numbers that are no members."""
+    for kind, forms in PLACES.items():
+        yield from (form.replace("@", fault) for form in forms for fault in FAULTING[kind])
+    for head, one, other in BOTH:
+        yield from (f"({head} {FAULTING[one][first]} {FAULTING[other][then]})" for first, then in [(2, 1), (1, 2)])
+    for form, of in MEMBERS:
+        yield from (form.replace("@", str(number)) for number in (-1, COUNTS[of]))
+
+
+GIVEN = EXPRESSIONS.splitlines()
+FAULTS = [it for it in dict.fromkeys([*faulting(), *LAST.splitlines()]) if it not in GIVEN]
+
 # Variables with what they range over, and a condition that must hold for each choice of them.
 FOR_ALLS = [
     ([("j", "o3")], "(>= j 0)"),
@@ -371,6 +498,11 @@ FOR_ALLS = [
     ([("j", "all64")], "(is_in j (~ (tops 2)))"),
     ([("j", "a"), ("k", "ends")], "(<= (+ (tens j) (squares k)) 4126)"),
     ([("j", "a"), ("k", "ends")], "(<= (+ (tens j) (squares k)) 4125)"),
+    *((over, fault) for over in ([("j", "o3")], [("j", "edges")], [("j", "a"), ("k", "ends")]) for fault in FAULTING["condition"]),
+    *(([("j", "o3")], fault) for fault in ["(< (* j most) most)", "(> (/ 1 (- j 2)) -2)", "(> (tens (- 1 j)) 0)", "(odd (+ j 1))"]),
+    *(([("j", "ends")], fault) for fault in ["(< (* j most) most)", "(<= (/ 64 (- j 63)) 0)", "(is_in (- 63 j) ends)", "(is_in (+ j 1) (~ all64))"]),
+    ([("j", "no")], "(= (/ 1 0) 1)"),
+    ([("j", "a"), ("k", "low")], "(= (/ 1 0) 1)"),
 ]
 
 # Where an expression stands, its text, and why it is not typed, by hand: the refusal at the byte where its form begins.

@@ -41,6 +41,7 @@ WELLS = [frozenset([64]), frozenset([63, 64]), frozenset()]
 ROWS = [0, 1, 2, 100, 101, 102, 200, 201, 202]
 COLUMNS = [0, -1, -2, 7, 6, 5, 14, 13, 12]
 BELOW = [False, True, True, False, False, True, False, False, False]
+KEPT = [True, False, True, False, True, True, True, False, False]
 
 # Each table: its kind, the object type of its sets, if it has sets, the object types of its arguments, and its cells.
 TABLES = {
@@ -64,6 +65,12 @@ TABLES = {
     "ladder": ("set", "o4096", ["o3"], lambda i: LADDER[i]),
     "tops": ("set", "o64", ["o3"], lambda i: TOPS[i]),
     "wells": ("set", "o65", ["o3"], lambda i: WELLS[i]),
+    "heavy": ("integer", None, ["o3", "o1"], lambda i, j: [GREATEST, GREATEST, -GREATEST][i]),
+    "kept": ("bool", None, ["o3", "o1", "o3"], lambda i, j, k: KEPT[3 * i + k]),
+    "first": ("set", "o3", [], lambda: frozenset([0, 1])),
+    "spots": ("set", "o64", ["o3", "o3"], lambda i, j: multiples(7 * i + j, 64)),
+    "shores": ("set", "o65", ["o3", "o3"], lambda i, j: multiples(32 * i + j, 65)),
+    "coasts": ("set", "o65", ["o3", "o1", "o3"], lambda i, j, k: multiples(9 * i + k, 65)),
 }
 
 

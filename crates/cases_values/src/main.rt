@@ -1,7 +1,10 @@
-//! Evaluates expressions in the target state of a model, and prints each with its value, its fault or its refusal.
+//! Evaluates expressions in the target state of a model, plainly and in words, and prints each with its value, its fault or
+//! its refusal.
 #![tactic(auto)]
 
 mod models;
+mod packed;
+mod plain;
 mod typed;
 mod values;
 

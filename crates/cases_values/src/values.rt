@@ -1,32 +1,18 @@
-//! Values of expressions in the target state of a model, as texts.
+//! Values of expressions in the target state of a model, as texts: by the plain evaluators, and beside them by those of a
+//! search over the packed target.
 
+use crate::{packed, plain};
 use dp_base::Seq;
-use dp_eval::{EvalEnd, eval_cond, eval_num, eval_set};
-use dp_model::{Cond, FaultKind, Model, Num, SetEx};
+use dp_model::{Cond, Model, Num, SetEx};
 use std::alloc::{AllocError, Global};
 
-/// The name of a fault, or of want of memory.
-fn end_name(end: &EvalEnd) -> &'static str {
-    match end {
-        EvalEnd::Fault(FaultKind::Range) => "Range",
-        EvalEnd::Fault(FaultKind::ZeroDivisor) => "ZeroDivisor",
-        EvalEnd::Fault(FaultKind::Negative) => "Negative",
-        EvalEnd::Fault(FaultKind::Index) => "Index",
-        EvalEnd::Memory => "memory",
+/// What both evaluators give, or each of the two where they differ.
+fn agreed(alloc: Global, plain: String, packed: String) -> Result<String, AllocError> {
+    if plain.as_str() == packed.as_str() {
+        Ok(plain)
+    } else {
+        format!(in alloc; "{plain}, packed {packed}")
     }
-}
-
-/// The members of a set between braces.
-fn set_text(alloc: Global, set: &Seq<u32>) -> Result<String, AllocError> {
-    let mut text = String::from_str(alloc, "{")?;
-    for (i, member) in set.list().iter().enumerate() {
-        if i > 0 {
-            text.push(',')?;
-        }
-        text.push_str(member.to_string(alloc)?.as_str())?;
-    }
-    text.push('}')?;
-    Ok(text)
 }
 
 /// The value of a number expression with these values of the parameters, or its fault.
@@ -36,10 +22,8 @@ pub(crate) fn number(
     args: &Seq<u32>,
     e: &Num,
 ) -> Result<String, AllocError> {
-    match eval_num(alloc, model, e, args, model.target()) {
-        Ok(n) => n.to_string(alloc),
-        Err(end) => String::from_str(alloc, end_name(&end)),
-    }
+    let packed = packed::number_text(alloc, model, args, e)?;
+    agreed(alloc, plain::number(alloc, model, args, e)?, packed)
 }
 
 /// The members of a set expression with these values of the parameters, or its fault.
@@ -49,10 +33,8 @@ pub(crate) fn members(
     args: &Seq<u32>,
     e: &SetEx,
 ) -> Result<String, AllocError> {
-    match eval_set(alloc, model, e, args, model.target()) {
-        Ok(set) => set_text(alloc, &set),
-        Err(end) => String::from_str(alloc, end_name(&end)),
-    }
+    let packed = packed::members_text(alloc, model, args, e)?;
+    agreed(alloc, plain::members(alloc, model, args, e)?, packed)
 }
 
 /// Whether a condition holds with these values of the parameters, or its fault.
@@ -62,8 +44,6 @@ pub(crate) fn condition(
     args: &Seq<u32>,
     e: &Cond,
 ) -> Result<String, AllocError> {
-    match eval_cond(alloc, model, e, args, model.target()) {
-        Ok(held) => String::from_str(alloc, if held { "true" } else { "false" }),
-        Err(end) => String::from_str(alloc, end_name(&end)),
-    }
+    let packed = packed::condition_text(alloc, model, args, e)?;
+    agreed(alloc, plain::condition(alloc, model, args, e)?, packed)
 }
