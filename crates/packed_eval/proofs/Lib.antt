@@ -5,3 +5,4 @@ pub mod Foralls
 pub mod Ways
 pub mod Terms
 pub mod Held
+pub mod Sides

@@ -1,5 +1,5 @@
 -- What the parts of an expression fit, where the whole does; and what the forms over sets stand for.
-use Rattle.std.proofs.Common.{◌≡◌, ℕ, ◌-◌, ◌<◌, ◌≤◌, Bool, true, not, ◌&&◌, eqb, List, Result, Ok, ℤ, refl, ap, ◌∙◌}
+use Rattle.std.proofs.Common.{◌≡◌, ℕ, ◌+◌, ◌-◌, ◌<◌, ◌≤◌, Bool, true, not, ◌&&◌, eqb, List, Result, Ok, ℤ, refl, ap, ◌∙◌}
 use Rattle.std.specs.Prelude.{nat_lt, nat_le}
 use Rattle.std.proofs.lemmas.Bool.{and_parts, eqb-true, leb-true, ltb-true}
 use Rattle.dp_model.specs.Typing.{is_number_kind, is_set_kind, kind_at}
@@ -78,6 +78,11 @@ module _ (m : Model) (given room : ℕ) where
 
   pub over_all_fit : (e : conds.Cond) (over : Over) (c : conds.Cond) → conds.out-Cond e ≡ conds.Cond-F.All over c → cond_fits m e given room ≡ true → (over_fits m over ≡ true) × (more_fits (cond_fits m c) given room ≡ true)
   over_all_fit e over c p h = and_parts (over_fits m over) (more_fits (cond_fits m c) given room) (rw (cond_out e, p) at h)
+
+  pub more_parts : (c : conds.Cond) → more_fits (cond_fits m c) given room ≡ true → (given + 1 ≤ room) × (cond_fits m c (given + 1) (room - (given + 1)) ≡ true)
+  more_parts c h =
+      let f = and_parts (nat_le (given + 1) room) (cond_fits m c (given + 1) (room - (given + 1))) h in
+      (leb-true (given + 1) room f.0, f.1)
 
   pub choice_object : (e : sets.SetEx) (c : conds.Cond) (a b : sets.SetEx) → sets.out-SetEx e ≡ sets.SetEx-F.SetEx::If c a b → (set_fits m e).0 ≡ (set_fits m a).0
   choice_object e c a b p = rw (set_out e, p) refl

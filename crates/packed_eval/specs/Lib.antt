@@ -1,3 +1,4 @@
 pub mod Sums
 pub mod Scratches
 pub mod Held
+pub mod Rows

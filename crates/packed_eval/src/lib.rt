@@ -6,6 +6,7 @@ mod calls;
 mod cells;
 mod evaluate;
 mod places;
+mod rows;
 mod sums;
 
 pub use calls::{Scratch, packed_cond, packed_num, packed_set, words_of};
