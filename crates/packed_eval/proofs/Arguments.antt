@@ -1,5 +1,5 @@
 -- The arguments of a table's cell, evaluated in order.
-use Rattle.std.proofs.Common.{◌≡◌, ℕ, zero, suc, ◌+◌, ◌*◌, ◌<◌, ◌≤◌, ◌&&◌, true, ap, List, [], ◌∷◌, length, get_or, drop, drop-cons, add-one, min, Result, Ok, Err, ℤ, refl, sym, ◌∙◌, arith}
+use Rattle.std.proofs.Common.{◌≡◌, ℕ, zero, suc, ◌+◌, ◌*◌, ◌<◌, ◌≤◌, ◌&&◌, true, List, [], ◌∷◌, length, get_or, drop, drop-cons, add-one, min, Result, Ok, Err, ℤ, refl, sym, ◌∙◌, arith}
 use Rattle.std.proofs.lemmas.Bool.{and_parts}
 use Rattle.dp_base.specs.Results.{◌>>=◌}
 use Rattle.std.proofs.lemmas.Nat.{mul-le}

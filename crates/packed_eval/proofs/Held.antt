@@ -1,5 +1,5 @@
 -- A set that is held while another is evaluated, and sets in one word.
-use Rattle.std.proofs.Common.{◌≡◌, ℕ, ◌≤◌, ◌<◌, List, [], ◌∷◌, length, slice_set, refl, ◌∙◌, arith}
+use Rattle.std.proofs.Common.{◌≡◌, ℕ, ◌≤◌, ◌<◌, List, [], ◌∷◌, length, slice_set, refl, arith}
 use Rattle.bit_sets.proofs.Ranges.{filter_none}
 use Rattle.bit_sets.specs.Sets.{members_of, has_bit, bound_of}
 use Rattle.state_layout.specs.Signatures.{word_count}

@@ -1,6 +1,6 @@
 -- Comparisons along a row of a table, as the members of a `forall` see them. The member is one more parameter, behind those
 -- that are in force.
-use Rattle.std.specs.Prelude.{◌≡◌, ℕ, ◌+◌, ◌<◌, Bool, List, [], ◌∷◌, ◌++◌, slice_get, Option, Some, option_and_then, Result, Ok, ℤ, pos, ◌+ℤ◌}
+use Rattle.std.specs.Prelude.{◌≡◌, ℕ, ◌+◌, ◌<◌, Bool, List, [], ◌∷◌, ◌++◌, slice_get, Option, Some, option_and_then, Ok, ℤ, pos, ◌+ℤ◌}
 use Rattle.std.specs.Result.{result_ok}
 use Rattle.dp_base.specs.Results.{◌>>=◌}
 use Rattle.dp_model.specs.Costs.{ranged}

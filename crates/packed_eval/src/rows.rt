@@ -12,7 +12,10 @@ ghost use Rattle.packed_eval.specs.Rows.{sum_at, side_at, met_by, IsSideOf, IsSu
 
 use dp_base::Seq;
 use dp_model::{Compare, Cond, Num, NumOp};
-use packed_words::{Scene, compares, counts, member_of, number_in, numbers_in, parameter, ranged};
+use packed_words::{Scene, compares, counts, member_of, number_in, numbers_in, parameter};
+
+/// Every number of a model lies between the negative of this one and it.
+const GREATEST: i64 = 4_611_686_018_427_387_903;
 
 /// One side of a comparison.
 #[derive(Clone, Copy)]
@@ -100,7 +103,12 @@ fn sum_at(start: i64, row: &[i64], member: u32) -> Option<i64>
 fn added(a: i64, b: i64) -> Option<i64>
     ensures { result ≡ result_ok (ranged (a +ℤ b)) }
 {
-    ranged(i128::from(a) + i128::from(b)).ok()
+    let sum = a.checked_add(b)?;
+    if -GREATEST <= sum && sum <= GREATEST {
+        Some(sum)
+    } else {
+        None
+    }
 }
 
 /// What an expression is on one side of a comparison.

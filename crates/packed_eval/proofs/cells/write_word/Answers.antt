@@ -1,4 +1,4 @@
-use Rattle.std.proofs.Common.{◌≡◌, ◌≤◌, length, slice_set, sym, ap, subst, ◌∙◌, List, ℕ, arith}
+use Rattle.std.proofs.Common.{◌≡◌, sym, ap, subst, ◌∙◌, List, ℕ, arith}
 use Rattle.bit_sets.specs.Sets.{members_of}
 use Rattle.packed_words.specs.Sets.{IsClean, one_word}
 use Rattle.packed_eval.proofs.Held.{word_written, one_for, none_there, no_words, none_members}

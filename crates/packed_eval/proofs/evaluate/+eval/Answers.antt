@@ -7,7 +7,7 @@ use Rattle.dp_model.specs.declared.trees.Cond as conds
 use Rattle.dp_model.specs.declared.trees.Num as nums
 use Rattle.dp_model.specs.declared.trees.SetEx as sets
 use Rattle.state_layout.specs.Packing.{state_in}
-use Rattle.packed_eval.proofs.Parts.{var_fit, param_fit, set_var_fit, set_var_object, set_var_is, set_cell_object, set_cell_fit, over_all_fit, operand_parts, more_parts, var_member, numbers_fit, is_in_fit, and_fit, or_fit, operands_fit, if_fit, choice_fit, choice_object, is_in_is, op_answers, not_answers, with_answers, without_answers, both_parts, subset_fit, same_fit, other_fit}
+use Rattle.packed_eval.proofs.Parts.{var_fit, param_fit, set_var_fit, set_var_object, set_var_is, set_cell_object, set_cell_fit, over_all_fit, operand_parts, more_parts, numbers_fit, is_in_fit, and_fit, or_fit, operands_fit, if_fit, choice_fit, choice_object, is_in_is, op_answers, not_answers, with_answers, without_answers, both_parts, subset_fit, same_fit, other_fit}
 use Rattle.state_layout.specs.Signatures.{word_count}
 use Rattle.eval_room.specs.Fits.{all_fit, num_fits, set_fits, operand_fits, terms_fit, term_room, arg_fits}
 use Rattle.packed_words.specs.Places.{member_on}

@@ -1,7 +1,5 @@
-use Rattle.std.proofs.Common.{◌≡◌, ◌∷◌, [], ◌∙◌, ap, sym, List, ℕ, Ok, arith, rules, FitsSigned, w64}
-use Rattle.std.proofs.lemmas.Int.{to_z-of_z}
-use Rattle.dp_model.specs.Costs.{ranged}
-use Rattle.dp_model.specs.Evaluation.{member_of, total_of, ways}
+use Rattle.std.proofs.Common.{◌≡◌, ◌∷◌, [], ◌∙◌, Ok, arith, rules}
+use Rattle.dp_model.specs.Evaluation.{member_of}
 use Rattle.bit_sets.specs.Sets.{members_of}
 use Rattle.packed_words.specs.Sets.{one_word}
 use Rattle.packed_words.proofs.Packs.{zero_members, zero_clean, zero_word}
