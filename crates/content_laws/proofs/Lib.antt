@@ -31,4 +31,5 @@ pub mod WrittenEntries
 pub mod WrittenBlockTrees
 pub mod WrittenScan
 pub mod WrittenGood
-pub mod WrittenStairs
+pub mod WrittenPlain
+pub mod WrittenRoute

@@ -1,6 +1,6 @@
 -- The lines of a tree in block style are a node that gives the tree, but for places.
 use Rattle.std.proofs.Common.{◌≡◌, ℕ, zero, suc, ◌+◌, Bool, true, false, ◌&&◌, ◌==◌, List, [], ◌∷◌, map, Result, Ok, refl, sym, ap, ◌∙◌, subst, append-nil}
-use Rattle.std.proofs.lemmas.Bool.{false≢true, cond-false}
+use Rattle.std.proofs.lemmas.Bool.{cond-false}
 use Rattle.std.specs.Prelude.{codes}
 use Rattle.std.specs.List.{flat_map}
 use Rattle.std.specs.Str.{bytes_eq}
@@ -26,41 +26,41 @@ use Rattle.content_laws.specs.BlockWriting.{Layout, Line, line_text, block_lines
 use Rattle.content_laws.proofs.WrittenCodes.{TreeCodes}
 use Rattle.content_laws.proofs.WrittenScan.{IsGood, AllGood, rows_are, many_lines}
 use Rattle.content_laws.proofs.WrittenGood.{good_lines}
-use Rattle.content_laws.proofs.WrittenForms.{reads_back, all_entries}
-use Rattle.content_laws.proofs.WrittenNodes.{node_read}
-use Rattle.content_laws.proofs.WrittenRows.{AreRows, no_rows, all_content, FirstRow, first_row}
+use Rattle.content_laws.proofs.WrittenForms.{all_entries}
+use Rattle.content_laws.proofs.WrittenNodes.{whole_read, node_read}
+use Rattle.content_laws.proofs.WrittenRows.{AreRows, Under, no_rows, all_content, FirstRow, first_row}
 use Rattle.content_laws.proofs.WrittenBlocks.{BeginsAt, Settled, EndsForm, BlockClaim, ends_under, FirstLine, first_line, lines_of}
 use Rattle.content_laws.proofs.WrittenItems.{list_node}
 use Rattle.content_laws.proofs.WrittenEntries.{map_node}
 
 module _ (l : Layout) where
   -- a node in one line
-  in_line_node : (levels least : ℕ) (tree : Tree) (from : Rest) (tail : List Line) → IsWritableIn (suc levels) tree → from.here ≡ written l.flow tree → AreRows from.below tail → Settled (BlockNode (suc levels) least) tree from tail
-  in_line_node levels least tree from tail fit here rows =
-      let one = reads_back l.flow (suc levels) false true tree from [] fit (λ e. absurd (false≢true (sym e))) (here ∙ sym (append-nil (written l.flow tree))) in
+  in_line_node : (levels least : ℕ) (tree : Tree) (from : Rest) (tail : List Line) → IsWritableIn (suc levels) tree → from.here ≡ written l.style tree → AreRows from.below tail → Under least tail → Settled (BlockNode (suc levels) least) tree from tail
+  in_line_node levels least tree from tail fit here rows under =
+      let one = whole_read l.style (suc levels) least tree from tail fit here rows under in
       let left_rows : AreRows one.left.below tail = subst (λ (rs : List Row). AreRows rs tail) (sym one.below) rows in
       record {
         read = one.read;
         left = settle one.left;
-        node = node_read l.flow levels least tree from one here;
+        node = node_read l.style levels least tree from one here;
         below = subst (λ (rs : List Row). AreRows rs tail) (sym (all_content one.left.below tail left_rows)) left_rows;
         same = one.same;
       }
 
   node_form : (levels : ℕ) → BlockClaim l levels → (least indent : ℕ) (tree : Tree) (form : trees.Tree-F Tree Pair) (from : Rest) (tail : List Line) → trees.out-Tree tree ≡ form → IsWritableIn (suc levels) tree
-      → WritableForm (IsWritableIn levels) form → BeginsAt from (lines_of l (block_lines l levels) indent (written l.flow tree) form) tail → from.column ≡ indent + 1 → EndsForm form indent tail
+      → WritableForm (IsWritableIn levels) form → BeginsAt from (lines_of l (block_lines l levels) indent (written l.style tree) form) tail → from.column ≡ indent + 1 → EndsForm form indent tail → Under least tail
       → Settled (BlockNode (suc levels) least) tree from tail
-  node_form levels claim least indent tree (trees.Tree-F.Scalar at text) from tail is fit form begun column ends = in_line_node levels least tree from tail fit begun.0 begun.1
-  node_form levels claim least indent tree (trees.Tree-F.List at []) from tail is fit form begun column ends = in_line_node levels least tree from tail fit begun.0 begun.1
-  node_form levels claim least indent tree (trees.Tree-F.List at (x ∷ xs)) from tail is fit form begun column ends = list_node l levels claim least indent tree at x xs from tail is form begun column ends
-  node_form levels claim least indent tree (trees.Tree-F.Map at []) from tail is fit form begun column ends = in_line_node levels least tree from tail fit begun.0 begun.1
-  node_form levels claim least indent tree (trees.Tree-F.Map at (x ∷ xs)) from tail is fit form begun column ends =
+  node_form levels claim least indent tree (trees.Tree-F.Scalar at text) from tail is fit form begun column ends under = in_line_node levels least tree from tail fit begun.0 begun.1 under
+  node_form levels claim least indent tree (trees.Tree-F.List at []) from tail is fit form begun column ends under = in_line_node levels least tree from tail fit begun.0 begun.1 under
+  node_form levels claim least indent tree (trees.Tree-F.List at (x ∷ xs)) from tail is fit form begun column ends under = list_node l levels claim least indent tree at x xs from tail is form begun column ends
+  node_form levels claim least indent tree (trees.Tree-F.Map at []) from tail is fit form begun column ends under = in_line_node levels least tree from tail fit begun.0 begun.1 under
+  node_form levels claim least indent tree (trees.Tree-F.Map at (x ∷ xs)) from tail is fit form begun column ends under =
       map_node l levels claim least indent tree at x xs from tail is (all_entries levels [] (x ∷ xs) form.0 form.1) begun column ends
 
   pub block_back : (levels : ℕ) → BlockClaim l levels
   unfolding IsWritableIn block_lines
-  block_back zero least indent tree from tail fit begun column ends = absurd fit
-  block_back (suc levels) least indent tree from tail fit begun column ends = node_form levels (block_back levels) least indent tree (trees.out-Tree tree) from tail refl fit fit begun column ends
+  block_back zero least indent tree from tail fit begun column ends under = absurd fit
+  block_back (suc levels) least indent tree from tail fit begun column ends under = node_form levels (block_back levels) least indent tree (trees.out-Tree tree) from tail refl fit fit begun column ends under
 
 -- ---- the whole text
 
@@ -108,7 +108,7 @@ module _ (file : ℕ) (l : Layout) (tree : Tree) (fit : IsWritable tree) where
       (found.row_is.text, subst (AreRows found.others) (sym (append-nil first.others)) found.others_are)
 
   one : Settled (BlockNode 64 0) tree from []
-  one = block_back l 64 0 0 tree from [] fit begun (ap (λ (k : ℕ). k + 1) found.row_is.indent) (ends_under (trees.out-Tree tree) 0 [] tt)
+  one = block_back l 64 0 0 tree from [] fit begun (ap (λ (k : ℕ). k + 1) found.row_is.indent) (ends_under (trees.out-Tree tree) 0 [] tt) tt
 
   top : TopNode file start (found.row ∷ found.others) (Ok one.read)
   top =

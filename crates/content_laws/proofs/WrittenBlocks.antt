@@ -1,15 +1,15 @@
 -- Nodes in block style: where they begin and end, and what is read of them.
-use Rattle.std.proofs.Common.{◌≡◌, ℕ, zero, suc, ◌+◌, Bool, true, false, ◌&&◌, if◌then◌else◌, List, [], ◌∷◌, ◌++◌, Ok, refl, sym, ap, ◌∙◌}
+use Rattle.std.proofs.Common.{◌≡◌, ℕ, zero, suc, ◌+◌, Bool, true, false, if◌then◌else◌, List, [], ◌∷◌, ◌++◌, Ok, refl, sym, ap, ◌∙◌}
 use Rattle.std.specs.List.{flat_map}
 use Rattle.std.proofs.lemmas.Bool.{false≢true}
 use Rattle.yaml_tree.specs.Rest.{Rest}
-use Rattle.yaml_tree.specs.Characters.{ends_word, is_item}
+use Rattle.yaml_tree.specs.Characters.{is_item}
 use Rattle.yaml_tree.specs.Flow.{Reading}
 use Rattle.yaml_tree.specs.Blocks.{BlockNode}
 use Rattle.yaml_tree.specs.declared.tree.Tree.{Tree}
 use Rattle.yaml_tree.specs.declared.tree.Tree as trees
 use Rattle.yaml_tree.specs.declared.tree.Pair.{Pair}
-use Rattle.content_laws.specs.Writing.{spaces, written, WritableForm, IsWritableIn}
+use Rattle.content_laws.specs.Writing.{Style, spaces, written, WritableForm, IsWritableIn}
 use Rattle.content_laws.specs.BlockWriting.{Layout, Line, form_in_line, is_in_line, depth, behind_front, item_lines, value_lines, entry_lines, form_lines, block_lines}
 use Rattle.std.proofs.lemmas.List.Elements.{All-head}
 use Rattle.std.proofs.lemmas.List.{append-nil}
@@ -52,15 +52,13 @@ is_item_list (trees.Tree-F.List at (item ∷ items)) = true
 is_item_list (trees.Tree-F.Map at entries) = false
 
 -- what is written of a tree is no item
-pub tree_no_item : (n : ℕ) (tree : Tree) (behind here : List ℕ) → here ≡ written n tree ++ behind → is_item here ≡ false
-tree_no_item n tree behind here is =
-    let first = begun n tree in
-    ap is_item (is ∙ ap (λ (t : List ℕ). t ++ behind) first.is) ∙ ap (λ (b : Bool). b && ends_word (first.more ++ behind)) first.first.no_item
+pub tree_no_item : (style : Style) (tree : Tree) (behind here : List ℕ) → here ≡ written style tree ++ behind → is_item here ≡ false
+tree_no_item style tree behind here is = ap is_item is ∙ (begun style tree).no_item behind
 
 module _ (l : Layout) where
   abbrev pub BlockClaim : (levels : ℕ) → Type 0
   BlockClaim levels = (least indent : ℕ) (tree : Tree) (from : Rest) (tail : List Line) → IsWritableIn levels tree → BeginsAt from (block_lines l levels indent tree) tail
-      → from.column ≡ indent + 1 → EndsBlock tree indent tail → Settled (BlockNode levels least) tree from tail
+      → from.column ≡ indent + 1 → EndsBlock tree indent tail → Under least tail → Settled (BlockNode levels least) tree from tail
 
   -- ---- the first line of a node
 
@@ -74,7 +72,7 @@ module _ (l : Layout) where
 
   -- what stands behind the `:` of a key, and on the lines below
   abbrev pub value_text : (in_line : Bool) → Tree → List ℕ
-  value_text true value = spaces (suc l.behind) ++ written l.flow value
+  value_text true value = spaces (suc l.behind) ++ written l.style value
   value_text false value = []
 
   abbrev pub value_below : (Node : ℕ → Tree → List Line) → (indent : ℕ) (in_line : Bool) → Tree → List Line
@@ -101,21 +99,21 @@ module _ (l : Layout) where
         ap (λ (ls : List Line). behind_front indent (45 ∷ spaces (suc l.behind)) ls ++ flat_map (item_lines l Node indent) xs) (first (indent + 2 + l.behind) x fit).is
 
     pub entries_split : (indent : ℕ) (x : Pair) (xs : List Pair) → flat_map (entry_lines l Node indent) (x ∷ xs)
-        ≡ (indent, written l.flow x.key ++ 58 ∷ value_text (is_in_line x.value) x.value) ∷ (value_below Node indent (is_in_line x.value) x.value ++ flat_map (entry_lines l Node indent) xs)
+        ≡ (indent, written l.style x.key ++ 58 ∷ value_text (is_in_line x.value) x.value) ∷ (value_below Node indent (is_in_line x.value) x.value ++ flat_map (entry_lines l Node indent) xs)
     entries_split indent x xs =
-        ap (λ (ls : List Line). ls ++ flat_map (entry_lines l Node indent) xs) (value_split Node indent (written l.flow x.key) (is_in_line x.value) x.value)
+        ap (λ (ls : List Line). ls ++ flat_map (entry_lines l Node indent) xs) (value_split Node indent (written l.style x.key) (is_in_line x.value) x.value)
 
-    in_line_first : (indent : ℕ) (tree : Tree) (form : trees.Tree-F Tree Pair) → is_item_list form ≡ false → FirstLine indent form ((indent, written l.flow tree) ∷ [])
+    in_line_first : (indent : ℕ) (tree : Tree) (form : trees.Tree-F Tree Pair) → is_item_list form ≡ false → FirstLine indent form ((indent, written l.style tree) ∷ [])
     in_line_first indent tree form no_list = record {
-      text = written l.flow tree;
+      text = written l.style tree;
       others = [];
       is = refl;
-      starts = starts_tree l.flow tree;
+      starts = starts_tree l.style tree;
       item = λ e. absurd (false≢true (sym no_list ∙ e));
-      no_item = λ e. tree_no_item l.flow tree [] (written l.flow tree) (sym (append-nil (written l.flow tree)));
+      no_item = λ e. tree_no_item l.style tree [] (written l.style tree) (sym (append-nil (written l.style tree)));
     }
 
-    first_form : (indent : ℕ) (tree : Tree) (form : trees.Tree-F Tree Pair) → WritableForm (IsWritableIn levels) form → FirstLine indent form (lines_of Node indent (written l.flow tree) form)
+    first_form : (indent : ℕ) (tree : Tree) (form : trees.Tree-F Tree Pair) → WritableForm (IsWritableIn levels) form → FirstLine indent form (lines_of Node indent (written l.style tree) form)
     first_form indent tree (trees.Tree-F.Scalar at text) fit = in_line_first indent tree (trees.Tree-F.Scalar at text) refl
     first_form indent tree (trees.Tree-F.List at []) fit = in_line_first indent tree (trees.Tree-F.List at []) refl
     first_form indent tree (trees.Tree-F.List at (x ∷ xs)) fit =
@@ -133,12 +131,12 @@ module _ (l : Layout) where
     first_form indent tree (trees.Tree-F.Map at (x ∷ xs)) fit =
         let tail : List ℕ = 58 ∷ value_text (is_in_line x.value) x.value in
         record {
-          text = written l.flow x.key ++ tail;
+          text = written l.style x.key ++ tail;
           others = value_below Node indent (is_in_line x.value) x.value ++ flat_map (entry_lines l Node indent) xs;
           is = entries_split indent x xs;
-          starts = starts_with (written l.flow x.key) tail (starts_tree l.flow x.key);
+          starts = starts_with (written l.style x.key) tail (starts_tree l.style x.key);
           item = λ e. absurd (false≢true e);
-          no_item = λ e. tree_no_item l.flow x.key tail (written l.flow x.key ++ tail) refl;
+          no_item = λ e. tree_no_item l.style x.key tail (written l.style x.key ++ tail) refl;
         }
 
   pub first_line : (levels indent : ℕ) (tree : Tree) → IsWritableIn levels tree → FirstLine indent (trees.out-Tree tree) (block_lines l levels indent tree)

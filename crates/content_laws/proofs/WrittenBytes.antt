@@ -10,9 +10,10 @@ use Rattle.dp_base.specs.Bytes.{is_blank}
 use Rattle.yaml_tree.specs.declared.tree.Tree.{Tree}
 use Rattle.yaml_tree.specs.declared.tree.Tree as trees
 use Rattle.yaml_tree.specs.declared.tree.Pair.{Pair}
-use Rattle.content_laws.specs.Writing.{written_byte, between_quotes, spaces, with_commas, in_brackets, written, IsNoMap, WritableForm, IsWritableIn}
+use Rattle.content_laws.specs.Writing.{Style, is_plain_byte, scalar_by, stands_plain, colon_gap, written_byte, between_quotes, spaces, with_commas, in_brackets, written, IsNoMap, WritableForm, IsWritableIn}
+use Rattle.content_laws.proofs.WrittenPlain.{other, plain_end}
 use Rattle.content_laws.proofs.WrittenScalars.{IsEscaped, IsPlain, written_as, in_quotes}
-use Rattle.content_laws.proofs.WrittenForms.{written_pair, written_form, written-form, written-pair}
+use Rattle.content_laws.proofs.WrittenForms.{its_plain, written_pair, written_form, written-form, written-pair}
 
 -- ---- UTF-8 without a line feed
 
@@ -101,6 +102,12 @@ quoted_line text u =
     let inside : IsLine (between_quotes text) = record { utf8 = subst (λ (l : List ℕ). IsUtf8 (between_quotes l)) u.1.1 (quoted_chars u.0 u.1.0); no_feeds = quoted_no_feed text } in
     both (34 ∷ []) (between_quotes text ++ 34 ∷ []) (one_line 34 (omega arith) refl) (both (between_quotes text) (34 ∷ []) inside (one_line 34 (omega arith) refl))
 
+plain_no_feed : (text : List ℕ) → list_all is_plain_byte text ≡ true → list_all no_feed text ≡ true
+plain_no_feed [] inside = refl
+plain_no_feed (x ∷ xs) inside =
+    let parts = and_parts (is_plain_byte x) (list_all is_plain_byte xs) inside in
+    and_from (no_feed x) (list_all no_feed xs) (ap not (other is_plain_byte x 10 parts.0 refl)) (plain_no_feed xs parts.1)
+
 -- ---- between brackets
 
 commas_line : {A : Type 0} (n : ℕ) (text : A → List ℕ) (xs : List A) → All (λ (x : A). IsLine (text x)) xs → IsLine (with_commas n (map text xs))
@@ -119,28 +126,32 @@ brackets_line n first last text a b inside =
 
 -- ---- trees
 
-module _ (n : ℕ) where
-  pair_line : (pair : Pair) → IsLine (written n pair.key) → IsLine (written n pair.value) → IsLine (written_pair n pair)
+module _ (s : Style) where
+  pair_line : (pair : Pair) → IsLine (written s pair.key) → IsLine (written s pair.value) → IsLine (written_pair s pair)
   pair_line pair key value =
-      subst IsLine (sym (written-pair n pair))
-      (both (written n pair.key) (58 ∷ (spaces n ++ written n pair.value)) key
-      (both (58 ∷ []) (spaces n ++ written n pair.value) (one_line 58 (omega arith) refl) (both (spaces n) (written n pair.value) (spaces_line n) value)))
+      subst IsLine (sym (written-pair s pair))
+      (both (written s pair.key) (58 ∷ (spaces (colon_gap s) ++ written s pair.value)) key
+      (both (58 ∷ []) (spaces (colon_gap s) ++ written s pair.value) (one_line 58 (omega arith) refl) (both (spaces (colon_gap s)) (written s pair.value) (spaces_line (colon_gap s)) value)))
 
-  form_line : (levels : ℕ) → ((tree : Tree) → IsWritableIn levels tree → IsLine (written n tree)) → (form : trees.Tree-F Tree Pair) → WritableForm (IsWritableIn levels) form → IsLine (written_form n form)
-  form_line levels each (trees.Tree-F.Scalar at text) fit = quoted_line text fit
+  scalar_line : (text : List ℕ) (b : Bool) → stands_plain s text ≡ b → IsUtf8 text → IsLine (scalar_by b text)
+  scalar_line text true is u = record { utf8 = u; no_feeds = plain_no_feed text (its_plain s text is).inside }
+  scalar_line text false is u = quoted_line text u
+
+  form_line : (levels : ℕ) → ((tree : Tree) → IsWritableIn levels tree → IsLine (written s tree)) → (form : trees.Tree-F Tree Pair) → WritableForm (IsWritableIn levels) form → IsLine (written_form s form)
+  form_line levels each (trees.Tree-F.Scalar at text) fit = scalar_line text (stands_plain s text) refl fit
   form_line levels each (trees.Tree-F.List at items) fit =
-      brackets_line n 91 93 (with_commas n (map (written n) items)) (one_line 91 (omega arith) refl) (one_line 93 (omega arith) refl)
-      (commas_line n (written n) items (All-weaker (IsWritableIn levels) (λ tree. IsLine (written n tree)) each items fit))
+      brackets_line s.gap 91 93 (with_commas s.gap (map (written s) items)) (one_line 91 (omega arith) refl) (one_line 93 (omega arith) refl)
+      (commas_line s.gap (written s) items (All-weaker (IsWritableIn levels) (λ tree. IsLine (written s tree)) each items fit))
   form_line levels each (trees.Tree-F.Map at entries) fit =
-      brackets_line n 123 125 (with_commas n (map (written_pair n) entries)) (one_line 123 (omega arith) refl) (one_line 125 (omega arith) refl)
-      (commas_line n (written_pair n) entries
-      (All-weaker (λ entry. IsWritableIn levels entry.key × IsNoMap entry.key × IsWritableIn levels entry.value) (λ pair. IsLine (written_pair n pair))
+      brackets_line s.gap 123 125 (with_commas s.gap (map (written_pair s) entries)) (one_line 123 (omega arith) refl) (one_line 125 (omega arith) refl)
+      (commas_line s.gap (written_pair s) entries
+      (All-weaker (λ entry. IsWritableIn levels entry.key × IsNoMap entry.key × IsWritableIn levels entry.value) (λ pair. IsLine (written_pair s pair))
       (λ pair is. pair_line pair (each pair.key is.0) (each pair.value is.2)) entries fit.0))
 
-  pub tree_line : (levels : ℕ) (tree : Tree) → IsWritableIn levels tree → IsLine (written n tree)
+  pub tree_line : (levels : ℕ) (tree : Tree) → IsWritableIn levels tree → IsLine (written s tree)
   unfolding IsWritableIn
   tree_line zero tree fit = absurd fit
-  tree_line (suc levels) tree fit = subst IsLine (sym (written-form n tree (trees.out-Tree tree) refl)) (form_line levels (tree_line levels) (trees.out-Tree tree) fit)
+  tree_line (suc levels) tree fit = subst IsLine (sym (written-form s tree (trees.out-Tree tree) refl)) (form_line levels (tree_line levels) (trees.out-Tree tree) fit)
 
   -- ---- the last byte
 
@@ -151,19 +162,23 @@ module _ (n : ℕ) where
     pub no_blank : is_blank last ≡ false
     pub no_return : (last == 13) ≡ false
 
-  ended_brackets : (first last : ℕ) (text : List ℕ) → is_blank last ≡ false → (last == 13) ≡ false → Ended (in_brackets n first last text)
+  ended_brackets : (first last : ℕ) (text : List ℕ) → is_blank last ≡ false → (last == 13) ≡ false → Ended (in_brackets s.gap first last text)
   ended_brackets first last text no_blank no_return = record {
-    front = first ∷ (spaces n ++ (text ++ spaces n));
+    front = first ∷ (spaces s.gap ++ (text ++ spaces s.gap));
     last = last;
     is = ap (λ (l : List ℕ). first ∷ l) (simp append_assoc);
     no_blank = no_blank;
     no_return = no_return;
   }
 
-  ended_form : (form : trees.Tree-F Tree Pair) → Ended (written_form n form)
-  ended_form (trees.Tree-F.Scalar at text) = record { front = 34 ∷ between_quotes text; last = 34; is = refl; no_blank = refl; no_return = refl }
-  ended_form (trees.Tree-F.List at items) = ended_brackets 91 93 (with_commas n (map (written n) items)) refl refl
-  ended_form (trees.Tree-F.Map at entries) = ended_brackets 123 125 (with_commas n (map (written_pair n) entries)) refl refl
+  ended_scalar : (text : List ℕ) (b : Bool) → stands_plain s text ≡ b → Ended (scalar_by b text)
+  ended_scalar text true is = (let e = plain_end text (its_plain s text is) in record { front = e.front; last = e.last; is = e.is; no_blank = e.no_blank; no_return = e.no_return })
+  ended_scalar text false is = record { front = 34 ∷ between_quotes text; last = 34; is = refl; no_blank = refl; no_return = refl }
 
-  pub ended : (tree : Tree) → Ended (written n tree)
-  ended tree = subst Ended (sym (written-form n tree (trees.out-Tree tree) refl)) (ended_form (trees.out-Tree tree))
+  ended_form : (form : trees.Tree-F Tree Pair) → Ended (written_form s form)
+  ended_form (trees.Tree-F.Scalar at text) = ended_scalar text (stands_plain s text) refl
+  ended_form (trees.Tree-F.List at items) = ended_brackets 91 93 (with_commas s.gap (map (written s) items)) refl refl
+  ended_form (trees.Tree-F.Map at entries) = ended_brackets 123 125 (with_commas s.gap (map (written_pair s) entries)) refl refl
+
+  pub ended : (tree : Tree) → Ended (written s tree)
+  ended tree = subst Ended (sym (written-form s tree (trees.out-Tree tree) refl)) (ended_form (trees.out-Tree tree))

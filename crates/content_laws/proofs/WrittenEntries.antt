@@ -5,7 +5,7 @@ use Rattle.std.proofs.lemmas.Bool.{cond-true, cond-false, eq-eqb, ne_eqb, lt-ltb
 use Rattle.std.proofs.Math.Bool.{and-false}
 use Rattle.dp_base.specs.declared.place.Place.{Place}
 use Rattle.yaml_tree.specs.Rest.{Row, Rest, place, on, skip_blanks, front}
-use Rattle.yaml_tree.specs.Characters.{ends_word, is_item, is_colon, is_clear}
+use Rattle.yaml_tree.specs.Characters.{begins_flow_mark, ends_scalar, ends_word, is_item, is_colon, is_clear}
 use Rattle.yaml_tree.specs.Lines.{from_content, is_marker, settle}
 use Rattle.yaml_tree.specs.Openings.{quote_opening, opening_of, opening}
 use Rattle.yaml_tree.specs.Keys.{stands_before}
@@ -17,15 +17,16 @@ use Rattle.yaml_tree.specs.declared.tree.Tree as trees
 use Rattle.yaml_tree.specs.declared.tree.Tree.TheVariants as made
 use Rattle.yaml_tree.specs.declared.tree.Pair.{Pair}
 use Rattle.yaml_tree.proofs.BaseText.{MatchBool-no}
-use Rattle.content_laws.specs.Writing.{spaces, written, NoMapForm, IsNoMap, IsWritableIn}
+use Rattle.content_laws.specs.Writing.{Style, scalar_by, stands_plain, spaces, written, NoMapForm, IsNoMap, IsWritableIn}
 use Rattle.content_laws.specs.BlockWriting.{Layout, Line, form_in_line, is_in_line, form_depth, depth, entry_lines, block_lines}
 use Rattle.content_laws.proofs.WrittenBlanks.{IsSolid, past_blanks, past_spaces, past_solid, not_clear}
+use Rattle.content_laws.proofs.WrittenPlain.{stop_colon}
 use Rattle.content_laws.proofs.WrittenScalars.{closes, split_quotes}
 use Rattle.content_laws.proofs.WrittenCodes.{tree_codes, pair_codes, map_codes, mapped_codes, stands_alike, no_deep_place, one_level_more}
 use Rattle.content_laws.proofs.WrittenTurns.{AllFit, map-push}
-use Rattle.content_laws.proofs.WrittenForms.{written_form, written-form, starts_tree, reads_back, FitsEntry}
-use Rattle.content_laws.proofs.WrittenNodes.{line_read}
-use Rattle.content_laws.proofs.WrittenRows.{IsRow, AreRows, all_content, first_row, InTurns, last_turn, more_turns, all_turns, Under, UnderOrKey, under_or_key}
+use Rattle.content_laws.proofs.WrittenForms.{its_plain, written_form, written-form, starts_tree, reads_back, FitsEntry}
+use Rattle.content_laws.proofs.WrittenNodes.{whole_read, line_read}
+use Rattle.content_laws.proofs.WrittenRows.{IsRow, AreRows, all_content, first_row, InTurns, last_turn, more_turns, all_turns, Under, UnderOrKey, under_or_key, under_deeper}
 use Rattle.content_laws.proofs.WrittenBlocks.{BeginsAt, Settled, EndsForm, BlockClaim, first_line, entries_split, value_text, value_below, is_item_list, tree_no_item}
 use Rattle.content_laws.proofs.WrittenItems.{MatchBool-yes}
 
@@ -49,29 +50,36 @@ entry_in_row indent left row rows line is here =
 
 -- ---- keys
 
-module _ (n : ℕ) where
+module _ (s : Style) where
   -- a form may be a key
-  may_form : (form : trees.Tree-F Tree Pair) (ragged one_line : Bool) (here behind : List ℕ) → NoMapForm form → here ≡ written_form n form ++ behind → one_line ≡ true → may_be_block_key (opening_of false true ragged here) one_line ≡ true
-  may_form (trees.Tree-F.Scalar at text) ragged one_line here behind no_map is line =
+  may_scalar : (text : List ℕ) (b ragged one_line : Bool) (here behind : List ℕ) → stands_plain s text ≡ b → here ≡ scalar_by b text ++ behind → may_be_block_key (opening_of false true ragged here) one_line ≡ true
+  may_scalar text true ragged one_line here behind plain is =
+      ap (λ (h : List ℕ). may_be_block_key (opening_of false true ragged h) one_line) is
+      ∙ ap (λ o. may_be_block_key o one_line) ((its_plain s text plain).opens false true ragged behind)
+  may_scalar text false ragged one_line here behind plain is =
       ap (λ (h : List ℕ). may_be_block_key (opening_of false true ragged h) one_line) (is ∙ split_quotes text behind)
       ∙ ap (λ (o : Option (List ℕ)). may_be_block_key (quote_opening false o) one_line) (closes text behind)
+
+  may_form : (form : trees.Tree-F Tree Pair) (ragged one_line : Bool) (here behind : List ℕ) → NoMapForm form → here ≡ written_form s form ++ behind → one_line ≡ true → may_be_block_key (opening_of false true ragged here) one_line ≡ true
+  may_form (trees.Tree-F.Scalar at text) ragged one_line here behind no_map is line = may_scalar text (stands_plain s text) ragged one_line here behind refl is
   may_form (trees.Tree-F.List at items) ragged one_line here behind no_map is line = ap (λ (h : List ℕ). may_be_block_key (opening_of false true ragged h) one_line) is ∙ line
   may_form (trees.Tree-F.Map at entries) ragged one_line here behind no_map is line = absurd no_map
 
   -- a key was read, and its `:` follows
-  record KeyRead (flow maps : Bool) (levels : ℕ) (key : Tree) (from : Rest) (rest : List ℕ) : Type 0 where
+  record KeyRead (maps : Bool) (levels : ℕ) (key : Tree) (from : Rest) (rest : List ℕ) : Type 0 where
     read : Tree
     to : Rest
-    form : Form flow maps levels from (Ok (read, to))
+    form : Form false maps levels from (Ok (read, to))
     line : (from.line == to.line) ≡ true
     colon : is_colon (skip_blanks to).here ≡ true
     here : (on 1 (skip_blanks to)).here ≡ rest
     below : to.below ≡ from.below
     same : tree_codes key ≡ tree_codes read
 
-  key_read : (flow maps : Bool) (levels : ℕ) (key : Tree) (from : Rest) (rest : List ℕ) → IsWritableIn levels key → IsNoMap key → from.here ≡ written n key ++ 58 ∷ rest → ends_word rest ≡ true → KeyRead flow maps levels key from rest
-  key_read flow maps levels key from rest fit no_map is follows =
-      let one = reads_back n levels flow maps key from (58 ∷ rest) fit (λ e. no_map) is in
+  key_read : (maps : Bool) (levels : ℕ) (key : Tree) (from : Rest) (rest : List ℕ) → IsWritableIn levels key → IsNoMap key → from.here ≡ written s key ++ 58 ∷ rest → ends_word rest ≡ true → KeyRead maps levels key from rest
+  key_read maps levels key from rest fit no_map is follows =
+      let ends : ends_scalar false rest ≡ true = ap (λ (b : Bool). b || (false && begins_flow_mark rest)) follows in
+      let one = reads_back s levels false maps key from (58 ∷ rest) fit (λ e. no_map) (λ e. stop_colon false rest ends) is in
       let colon_solid : IsSolid 58 = record { no_blank = refl; no_comment = refl } in
       let past : past_blanks one.left.here ≡ 58 ∷ rest = ap past_blanks one.here ∙ past_solid 58 rest colon_solid in
       record {
@@ -107,18 +115,17 @@ module _ (l : Layout) (levels : ℕ) (claim : BlockClaim l levels) where
     same : tree_codes value ≡ tree_codes read
 
   -- in the line of its key
-  value_in_line : (indent : ℕ) (value : Tree) (at : Rest) (tail : List Line) → IsWritableIn levels value → at.here ≡ spaces (suc l.behind) ++ written l.flow value → AreRows at.below tail → ValueRead indent value at tail
-  value_in_line indent value at tail fit here rows =
-      let s = starts_tree l.flow value in
-      let past : past_blanks at.here ≡ s.byte ∷ s.more = ap past_blanks here ∙ past_spaces (suc l.behind) (written l.flow value) ∙ ap past_blanks s.is ∙ past_solid s.byte s.more s.solid in
+  value_in_line : (indent : ℕ) (value : Tree) (at : Rest) (tail : List Line) → IsWritableIn levels value → at.here ≡ spaces (suc l.behind) ++ written l.style value → AreRows at.below tail → Under (indent + 1) tail → ValueRead indent value at tail
+  value_in_line indent value at tail fit here rows under =
+      let s = starts_tree l.style value in
+      let past : past_blanks at.here ≡ s.byte ∷ s.more = ap past_blanks here ∙ past_spaces (suc l.behind) (written l.style value) ∙ ap past_blanks s.is ∙ past_solid s.byte s.more s.solid in
       let from : Rest = skip_blanks at in
-      let text : from.here ≡ written l.flow value = past ∙ sym s.is in
-      let one = reads_back l.flow levels false true value from [] fit (λ e. absurd (false≢true (sym e))) (text ∙ sym (append-nil (written l.flow value))) in
+      let one = whole_read l.style levels (indent + 1) value from tail fit (past ∙ sym s.is) rows under in
       let left_rows : AreRows one.left.below tail = subst (λ (rs : List Row). AreRows rs tail) (sym one.below) rows in
       record {
         read = one.read;
         left = settle one.left;
-        form = MatchBool-no (is_clear at.here) _ _ (not_clear at.here s.byte s.more s.solid past) (line_read l.flow levels (indent + 1) value from one text);
+        form = MatchBool-no (is_clear at.here) _ _ (not_clear at.here s.byte s.more s.solid past) (line_read l.style levels (indent + 1) value from one);
         below = subst (λ (rs : List Row). AreRows rs tail) (sym (all_content one.left.below tail left_rows)) left_rows;
         same = one.same;
       }
@@ -167,7 +174,7 @@ module _ (l : Layout) (levels : ℕ) (claim : BlockClaim l levels) where
       let found = first_row at.below (deep, first.text) (first.others ++ tail) split in
       let from : Rest = front at found.row found.others in
       let begun : BeginsAt from (Node deep value) tail = subst (λ (ls : List Line). BeginsAt from ls tail) (sym first.is) (found.row_is.text, found.others_are) in
-      let one = claim (indent + 1) deep value from tail fit begun (ap (λ (k : ℕ). k + 1) found.row_is.indent) (ends_value indent (trees.out-Tree value) tail under) in
+      let one = claim (indent + 1) deep value from tail fit begun (ap (λ (k : ℕ). k + 1) found.row_is.indent) (ends_value indent (trees.out-Tree value) tail under) (under_deeper indent (indent + 1) tail (omega arith) under) in
       let there : node_in indent true at (from_content at.below) ≡ Some from =
       ap (node_in indent true at) (all_content at.below ((deep, first.text) ∷ (first.others ++ tail)) split ∙ found.is)
       ∙ cond-true (begins_below indent true found.row) _ _ (begins_there indent (trees.out-Tree value) found.row first.text below found.row_is first.item) in
@@ -182,7 +189,7 @@ module _ (l : Layout) (levels : ℕ) (claim : BlockClaim l levels) where
 
   value_by : (in_line : Bool) (indent : ℕ) (value : Tree) (at : Rest) (tail : List Line) → is_in_line value ≡ in_line → IsWritableIn levels value → at.here ≡ value_text l in_line value
       → AreRows at.below (value_below l Node indent in_line value ++ tail) → UnderOrKey indent tail → ValueRead indent value at tail
-  value_by true indent value at tail is fit here rows under = value_in_line indent value at tail fit here rows
+  value_by true indent value at tail is fit here rows under = value_in_line indent value at tail fit here rows (under_deeper indent (indent + 1) tail (omega arith) under)
   value_by false indent value at tail is fit here rows under = value_from_below indent value at tail fit is here rows under
 
   -- ---- turns
@@ -197,7 +204,7 @@ module _ (l : Layout) (levels : ℕ) (claim : BlockClaim l levels) where
   others_under indent [] tail under = under_or_key indent tail under
   others_under indent (y ∷ ys) tail under =
       let text : List ℕ = 58 ∷ value_text l (is_in_line y.value) y.value in
-      let no_item : is_item (written l.flow y.key ++ text) ≡ false = tree_no_item l.flow y.key text (written l.flow y.key ++ text) refl in
+      let no_item : is_item (written l.style y.key ++ text) ≡ false = tree_no_item l.style y.key text (written l.style y.key ++ text) refl in
       subst (λ (ls : List Line). UnderOrKey indent (ls ++ tail)) (sym (entries_split l levels (first_line l levels) indent y ys)) (inr (refl, no_item))
 
   turn_by : (indent : ℕ) (before : List Pair) (key value : Tree) (at : Rest) (tail : List Line) (one : ValueRead indent value at tail) (found : Option Rest) (turn : Turn Pair (Tree × Rest))
@@ -206,7 +213,7 @@ module _ (l : Layout) (levels : ℕ) (claim : BlockClaim l levels) where
       (Ok (one.read, one.left), one.form, subst (λ (o : Option Rest). NextEntry levels before (entry key one.read) one.left o turn) (sym is) next)
 
   -- the key of the next entry
-  next_key : (before earlier : List Pair) (pair : Pair) (left from : Rest) (key : Tree) (rest : List ℕ) (one : KeyRead l.flow false false levels key from rest)
+  next_key : (before earlier : List Pair) (pair : Pair) (left from : Rest) (key : Tree) (rest : List ℕ) (one : KeyRead l.style false levels key from rest)
       → map pair_codes (before ++ pair ∷ []) ≡ map pair_codes earlier → stands_before key earlier ≡ false → NextEntry levels before pair left (Some from) (More pair (one.read, on 1 (skip_blanks one.to)))
   next_key before earlier pair left from key rest one known fresh =
       let other : stands_before one.read (before ++ pair ∷ []) ≡ false = stands_alike key one.read (before ++ pair ∷ []) earlier one.same known ∙ fresh in (
@@ -231,13 +238,13 @@ module _ (l : Layout) (levels : ℕ) (claim : BlockClaim l levels) where
       let value_rows : AreRows at.below (below ++ (lines indent (y ∷ ys) ++ tail)) = subst (AreRows at.below) (append_assoc below (lines indent (y ∷ ys)) tail) rows in
       let one = value_by (is_in_line x.value) indent x.value at (lines indent (y ∷ ys) ++ tail) refl fit.0.1.2 here value_rows (others_under indent (y ∷ ys) tail under) in
       let rest : List ℕ = value_text l (is_in_line y.value) y.value in
-      let text : List ℕ = written l.flow y.key ++ 58 ∷ rest in
+      let text : List ℕ = written l.style y.key ++ 58 ∷ rest in
       let others : List Line = value_below l Node indent (is_in_line y.value) y.value ++ lines indent ys in
       let split : lines indent (y ∷ ys) ≡ (indent, text) ∷ others = entries_split l levels (first_line l levels) indent y ys in
       let found = first_row one.left.below (indent, text) (others ++ tail) (subst (λ (ls : List Line). AreRows one.left.below (ls ++ tail)) split one.below) in
       let from : Rest = front one.left found.row found.others in
       let there : entry_in indent one.left one.left.below ≡ Some from = ap (entry_in indent one.left) found.is ∙ entry_in_row indent one.left found.row found.others (indent, text) found.row_is refl in
-      let next = key_read l.flow false false levels y.key from rest fit.1.0.1.0 fit.1.0.1.1 found.row_is.text (ends_key (is_in_line y.value) y.value) in
+      let next = key_read l.style false levels y.key from rest fit.1.0.1.0 fit.1.0.1.1 found.row_is.text (ends_key (is_in_line y.value) y.value) in
       let pair : Pair = entry key one.read in
       let known_more : map pair_codes (before ++ pair ∷ []) ≡ map pair_codes (earlier ++ x ∷ []) =
       map-push pair_codes before pair ∙ (λ i. known i ++ (sym same_key i, sym one.same i) ∷ []) ∙ sym (map-push pair_codes earlier x) in
@@ -255,7 +262,7 @@ module _ (l : Layout) (levels : ℕ) (claim : BlockClaim l levels) where
   map_node least indent tree at x xs from tail is fit begun_at column under =
       let rest : List ℕ = value_text l (is_in_line x.value) x.value in
       let split = subst (λ (ls : List Line). BeginsAt from ls tail) (entries_split l levels (first_line l levels) indent x xs) begun_at in
-      let one = key_read l.flow false true (suc levels) x.key from rest (one_level_more levels x.key fit.0.1.0) fit.0.1.1 split.0 (ends_key (is_in_line x.value) x.value) in
+      let one = key_read l.style true (suc levels) x.key from rest (one_level_more levels x.key fit.0.1.0) fit.0.1.1 split.0 (ends_key (is_in_line x.value) x.value) in
       let behind : Rest = on 1 (skip_blanks one.to) in
       let rows : AreRows one.to.below ((value_below l Node indent (is_in_line x.value) x.value ++ lines indent xs) ++ tail) =
       subst (λ (rs : List Row). AreRows rs ((value_below l Node indent (is_in_line x.value) x.value ++ lines indent xs) ++ tail)) (sym one.below) split.1 in
@@ -267,13 +274,13 @@ module _ (l : Layout) (levels : ℕ) (claim : BlockClaim l levels) where
       let whole : BlockMap (BlockNode levels) levels from one.read behind (Ok (made.Map (place from) entries, all.left)) =
       (Ok (entries, all.left), subst (λ (k : ℕ). Repeats (Turn_of k) (one.read, behind) (Ok (entries, all.left))) same_indent repeats, refl) in
       let may : may_be_block_key (opening false true from) (from.line == one.to.line) ≡ true =
-      may_form l.flow (trees.out-Tree x.key) from.ragged (from.line == one.to.line) from.here (58 ∷ rest) fit.0.1.1
-      (split.0 ∙ ap (λ (t : List ℕ). t ++ 58 ∷ rest) (written-form l.flow x.key (trees.out-Tree x.key) refl)) one.line in
+      may_form l.style (trees.out-Tree x.key) from.ragged (from.line == one.to.line) from.here (58 ∷ rest) fit.0.1.1
+      (split.0 ∙ ap (λ (t : List ℕ). t ++ 58 ∷ rest) (written-form l.style x.key (trees.out-Tree x.key) refl)) one.line in
       let is_key : is_block_key from one.to ≡ true = (λ i. may i && one.colon i) in
       record {
         read = made.Map (place from) entries;
         left = all.left;
-        node = MatchBool-no (is_item from.here) _ _ (tree_no_item l.flow x.key (58 ∷ rest) from.here split.0) (
+        node = MatchBool-no (is_item from.here) _ _ (tree_no_item l.style x.key (58 ∷ rest) from.here split.0) (
           Ok (one.read, one.to),
           one.form,
           MatchBool-yes (is_block_key from one.to) _ _ is_key

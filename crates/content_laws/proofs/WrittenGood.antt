@@ -1,5 +1,6 @@
 -- The lines of a tree in block style are good: UTF-8, with something in front and at the end, and no line that marks documents.
-use Rattle.std.proofs.Common.{◌≡◌, ℕ, zero, suc, ◌+◌, Bool, true, false, ◌&&◌, ◌==◌, List, [], ◌∷◌, ◌++◌, refl, sym, ap, ◌∙◌, append_assoc, arith}
+use Rattle.std.proofs.Common.{◌≡◌, ℕ, zero, suc, ◌+◌, Bool, true, false, ◌&&◌, ◌==◌, List, [], ◌∷◌, ◌++◌, refl, sym, ap, ◌∙◌, append_assoc, append-nil, arith}
+use Rattle.std.specs.Prelude.{codes}
 use Rattle.std.specs.List.{All, flat_map}
 use Rattle.std.specs.Str.{bytes_eq}
 use Rattle.std.proofs.lemmas.List.Elements.{All-head, All-tail}
@@ -7,7 +8,7 @@ use Rattle.dp_base.specs.Bytes.{is_blank}
 use Rattle.yaml_tree.specs.declared.tree.Tree.{Tree}
 use Rattle.yaml_tree.specs.declared.tree.Tree as trees
 use Rattle.yaml_tree.specs.declared.tree.Pair.{Pair}
-use Rattle.content_laws.specs.Writing.{spaces, written, IsNoMap, WritableForm, IsWritableIn}
+use Rattle.content_laws.specs.Writing.{Style, spaces, written, IsNoMap, WritableForm, IsWritableIn}
 use Rattle.content_laws.specs.BlockWriting.{Layout, Line, is_in_line, behind_front, item_lines, value_lines, entry_lines, block_lines}
 use Rattle.content_laws.proofs.WrittenForms.{Begun, begun, begun_then}
 use Rattle.content_laws.proofs.WrittenBytes.{IsLine, Ended, ended, tree_line, spaces_line, one_line, both}
@@ -16,8 +17,8 @@ use Rattle.content_laws.proofs.WrittenScan.{IsGood, AllGood, all_good}
 
 -- ---- one line
 
-module _ (n : ℕ) where
-  good_text : (text : List ℕ) → IsLine text → Begun n text → Ended n text → IsGood text
+module _ (s : Style) where
+  good_text : (text : List ℕ) → IsLine text → Begun s text → Ended s text → IsGood text
   good_text text line first end = record {
     line = line;
     byte = first.byte;
@@ -27,7 +28,7 @@ module _ (n : ℕ) where
     no_space = first.first.no_space;
     no_mark = first.first.no_mark;
     no_directive = first.first.no_directive;
-    no_start = other_text 45 (45 ∷ 45 ∷ []) first.first.no_item;
+    no_start = ap (λ (t : List ℕ). bytes_eq t (codes "---")) (sym (append-nil text)) ∙ first.no_start [];
     no_end = other_text 46 (46 ∷ 46 ∷ []) first.first.no_dot;
     front = end.front;
     last = end.last;
@@ -38,17 +39,17 @@ module _ (n : ℕ) where
     other_text : (b : ℕ) (rest : List ℕ) → (first.byte == b) ≡ false → bytes_eq text (b ∷ rest) ≡ false
     other_text b rest e = ap (λ (t : List ℕ). bytes_eq t (b ∷ rest)) first.is ∙ ap (λ (c : Bool). c && bytes_eq first.more rest) e
 
-  good_tree : (levels : ℕ) (tree : Tree) → IsWritableIn levels tree → IsGood (written n tree)
-  good_tree levels tree fit = good_text (written n tree) (tree_line n levels tree fit) (begun n tree) (ended n tree)
+  good_tree : (levels : ℕ) (tree : Tree) → IsWritableIn levels tree → IsGood (written s tree)
+  good_tree levels tree fit = good_text (written s tree) (tree_line s levels tree fit) (begun s tree) (ended s tree)
 
   -- a key, `:` and what stands behind that
-  good_key : (levels : ℕ) (key : Tree) (rest front : List ℕ) (last : ℕ) → IsWritableIn levels key → IsLine (58 ∷ rest) → 58 ∷ rest ≡ front ++ last ∷ [] → is_blank last ≡ false → (last == 13) ≡ false → IsGood (written n key ++ 58 ∷ rest)
+  good_key : (levels : ℕ) (key : Tree) (rest front : List ℕ) (last : ℕ) → IsWritableIn levels key → IsLine (58 ∷ rest) → 58 ∷ rest ≡ front ++ last ∷ [] → is_blank last ≡ false → (last == 13) ≡ false → IsGood (written s key ++ 58 ∷ rest)
   good_key levels key rest front last fit line ends no_blank no_return =
-      good_text (written n key ++ 58 ∷ rest) (both (written n key) (58 ∷ rest) (tree_line n levels key fit) line) (begun_then n (written n key) (58 ∷ rest) (begun n key))
+      good_text (written s key ++ 58 ∷ rest) (both (written s key) (58 ∷ rest) (tree_line s levels key fit) line) (begun_then s (written s key) (58 ∷ rest) (begun s key))
       (record {
-        front = written n key ++ front;
+        front = written s key ++ front;
         last = last;
-        is = ap (λ (t : List ℕ). written n key ++ t) ends ∙ sym (append_assoc (written n key) front (last ∷ []));
+        is = ap (λ (t : List ℕ). written s key ++ t) ends ∙ sym (append_assoc (written s key) front (last ∷ []));
         no_blank = no_blank;
         no_return = no_return;
       })
@@ -91,16 +92,16 @@ module _ (l : Layout) where
         (good_behind indent (Node deeper x) (each deeper x (All-head (IsWritableIn levels) x xs fits)))
         (good_items indent xs (All-tail (IsWritableIn levels) x xs fits))
 
-    good_value : (in_line : Bool) (indent : ℕ) (key value : Tree) → IsWritableIn levels key → IsWritableIn levels value → AllGood (value_lines l Node indent (written l.flow key) in_line value)
+    good_value : (in_line : Bool) (indent : ℕ) (key value : Tree) → IsWritableIn levels key → IsWritableIn levels value → AllGood (value_lines l Node indent (written l.style key) in_line value)
     good_value true indent key value fit value_fit =
-        let end = ended l.flow value in
-        let rest : List ℕ = spaces (suc l.behind) ++ written l.flow value in
-        let line : IsLine (58 ∷ rest) = both (58 ∷ []) rest (one_line 58 (omega arith) refl) (both (spaces (suc l.behind)) (written l.flow value) (spaces_line (suc l.behind)) (tree_line l.flow levels value value_fit)) in
+        let end = ended l.style value in
+        let rest : List ℕ = spaces (suc l.behind) ++ written l.style value in
+        let line : IsLine (58 ∷ rest) = both (58 ∷ []) rest (one_line 58 (omega arith) refl) (both (spaces (suc l.behind)) (written l.style value) (spaces_line (suc l.behind)) (tree_line l.style levels value value_fit)) in
         let ends : 58 ∷ rest ≡ (58 ∷ (spaces (suc l.behind) ++ end.front)) ++ end.last ∷ [] =
         ap (λ (t : List ℕ). 58 ∷ (spaces (suc l.behind) ++ t)) end.is ∙ ap (λ (t : List ℕ). 58 ∷ t) (sym (append_assoc (spaces (suc l.behind)) end.front (end.last ∷ []))) in
-        (good_key l.flow levels key rest (58 ∷ (spaces (suc l.behind) ++ end.front)) end.last fit line ends end.no_blank end.no_return, tt)
+        (good_key l.style levels key rest (58 ∷ (spaces (suc l.behind) ++ end.front)) end.last fit line ends end.no_blank end.no_return, tt)
     good_value false indent key value fit value_fit =
-        (good_key l.flow levels key [] [] 58 fit (one_line 58 (omega arith) refl) refl refl refl, each _ value value_fit)
+        (good_key l.style levels key [] [] 58 fit (one_line 58 (omega arith) refl) refl refl refl, each _ value value_fit)
 
     good_entries : (indent : ℕ) (xs : List Pair) → All (λ (entry : Pair). IsWritableIn levels entry.key × IsNoMap entry.key × IsWritableIn levels entry.value) xs → AllGood (flat_map (entry_lines l Node indent) xs)
     good_entries indent [] fits = tt
@@ -109,11 +110,11 @@ module _ (l : Layout) where
         let fit = All-head P x xs fits in
         all_good (entry_lines l Node indent x) (flat_map (entry_lines l Node indent) xs) (good_value (is_in_line x.value) indent x.key x.value fit.0 fit.2) (good_entries indent xs (All-tail P x xs fits))
 
-    good_form : (indent : ℕ) (tree : Tree) (form : trees.Tree-F Tree Pair) → IsWritableIn (suc levels) tree → WritableForm (IsWritableIn levels) form → AllGood (lines_of l Node indent (written l.flow tree) form)
-    good_form indent tree (trees.Tree-F.Scalar at text) fit form = (good_tree l.flow (suc levels) tree fit, tt)
-    good_form indent tree (trees.Tree-F.List at []) fit form = (good_tree l.flow (suc levels) tree fit, tt)
+    good_form : (indent : ℕ) (tree : Tree) (form : trees.Tree-F Tree Pair) → IsWritableIn (suc levels) tree → WritableForm (IsWritableIn levels) form → AllGood (lines_of l Node indent (written l.style tree) form)
+    good_form indent tree (trees.Tree-F.Scalar at text) fit form = (good_tree l.style (suc levels) tree fit, tt)
+    good_form indent tree (trees.Tree-F.List at []) fit form = (good_tree l.style (suc levels) tree fit, tt)
     good_form indent tree (trees.Tree-F.List at (x ∷ xs)) fit form = good_items indent (x ∷ xs) form
-    good_form indent tree (trees.Tree-F.Map at []) fit form = (good_tree l.flow (suc levels) tree fit, tt)
+    good_form indent tree (trees.Tree-F.Map at []) fit form = (good_tree l.style (suc levels) tree fit, tt)
     good_form indent tree (trees.Tree-F.Map at (x ∷ xs)) fit form = good_entries indent (x ∷ xs) form.0
 
   pub good_lines : (levels indent : ℕ) (tree : Tree) → IsWritableIn levels tree → AllGood (block_lines l levels indent tree)

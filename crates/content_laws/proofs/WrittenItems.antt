@@ -63,11 +63,10 @@ module _ (l : Layout) (levels : ℕ) (claim : BlockClaim l levels) where
   lines indent xs = flat_map (item_lines l Node indent) xs
 
   -- what follows an item stands less deep
-  rest_under : (indent : ℕ) (xs : List Tree) (tail : List Line) → All (IsWritableIn levels) xs → UnderOrKey indent tail → Under (indent + 2 + l.behind) (lines indent xs ++ tail)
-  rest_under indent [] tail fit under = under_deeper indent (indent + 2 + l.behind) tail (omega arith) under
-  rest_under indent (x ∷ xs) tail fit under =
-      let less : indent < indent + 2 + l.behind = omega arith in
-      subst (λ (ls : List Line). Under (indent + 2 + l.behind) (ls ++ tail)) (sym (items_split l levels (first_line l levels) indent x xs (All-head (IsWritableIn levels) x xs fit))) less
+  rest_under : (indent deeper : ℕ) (xs : List Tree) (tail : List Line) → indent < deeper → All (IsWritableIn levels) xs → UnderOrKey indent tail → Under deeper (lines indent xs ++ tail)
+  rest_under indent deeper [] tail less fit under = under_deeper indent deeper tail less under
+  rest_under indent deeper (x ∷ xs) tail less fit under =
+      subst (λ (ls : List Line). Under deeper (ls ++ tail)) (sym (items_split l levels (first_line l levels) indent x xs (All-head (IsWritableIn levels) x xs fit))) less
 
   record ItemRead (indent : ℕ) (x : Tree) (from : Rest) (tail : List Line) : Type 0 where
     read : Tree
@@ -78,8 +77,8 @@ module _ (l : Layout) (levels : ℕ) (claim : BlockClaim l levels) where
 
   -- the node behind `-`
   behind_dash : (indent : ℕ) (x : Tree) (others : List Line) (from : Rest) (tail : List Line) (first : FirstLine l (indent + 2 + l.behind) (trees.out-Tree x) (Node (indent + 2 + l.behind) x)) → IsWritableIn levels x
-      → from.here ≡ 45 ∷ (spaces (suc l.behind) ++ first.text) → AreRows from.below ((first.others ++ others) ++ tail) → from.column ≡ indent + 1 → EndsBlock x (indent + 2 + l.behind) (others ++ tail) → ItemRead indent x from (others ++ tail)
-  behind_dash indent x others from tail first fit here rows column ends =
+      → from.here ≡ 45 ∷ (spaces (suc l.behind) ++ first.text) → AreRows from.below ((first.others ++ others) ++ tail) → from.column ≡ indent + 1 → EndsBlock x (indent + 2 + l.behind) (others ++ tail) → Under (indent + 1) (others ++ tail) → ItemRead indent x from (others ++ tail)
+  behind_dash indent x others from tail first fit here rows column ends under =
       let inside : drop 1 from.here ≡ spaces (suc l.behind) ++ first.text = ap (drop 1) here in
       let past : past_blanks (drop 1 from.here) ≡ first.text =
       ap past_blanks inside ∙ past_spaces (suc l.behind) first.text ∙ ap past_blanks first.starts.is ∙ past_solid first.starts.byte first.starts.more first.starts.solid ∙ sym first.starts.is in
@@ -89,7 +88,7 @@ module _ (l : Layout) (levels : ℕ) (claim : BlockClaim l levels) where
       let begun : BeginsAt nested (Node (indent + 2 + l.behind) x) (others ++ tail) =
       subst (λ (ls : List Line). BeginsAt nested ls (others ++ tail)) (sym first.is)
       (past, subst (AreRows from.below) (append_assoc first.others others tail) rows) in
-      let one = claim (indent + 1) (indent + 2 + l.behind) x nested (others ++ tail) fit begun deeper ends in
+      let one = claim (indent + 1) (indent + 2 + l.behind) x nested (others ++ tail) fit begun deeper ends under in
       record {
         read = one.read;
         left = one.left;
@@ -104,7 +103,8 @@ module _ (l : Layout) (levels : ℕ) (claim : BlockClaim l levels) where
       let first = first_line l levels (indent + 2 + l.behind) x fit in
       let split = subst (λ (ls : List Line). BeginsAt from ls tail) (items_split l levels (first_line l levels) indent x xs fit) begun in
       behind_dash indent x (lines indent xs) from tail first fit split.0 split.1 column
-      (ends_under (trees.out-Tree x) (indent + 2 + l.behind) (lines indent xs ++ tail) (rest_under indent xs tail fits under))
+      (ends_under (trees.out-Tree x) (indent + 2 + l.behind) (lines indent xs ++ tail) (rest_under indent (indent + 2 + l.behind) xs tail (omega arith) fits under))
+      (rest_under indent (indent + 1) xs tail (omega arith) fits under)
 
   abbrev Turns : (indent : ℕ) (tail : List Line) (before xs : List Tree) → Rest → Type 0
   Turns indent tail before xs from = InTurns tree_codes (ItemTurn (BlockNode levels) levels indent) (λ left. AreRows left.below tail) before xs from

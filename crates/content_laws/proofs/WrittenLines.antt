@@ -14,6 +14,7 @@ use Rattle.yaml_scan.specs.Faults.{bad_byte, is_filled, tab_in, tab_or, tab_from
 use Rattle.yaml_scan.specs.Lines.{line_at, lines_from}
 use Rattle.yaml_scan.specs.Scan.{told, scan}
 use Rattle.yaml_tree.specs.Rest.{row_of}
+use Rattle.content_laws.specs.Writing.{Style}
 use Rattle.content_laws.proofs.WrittenForms.{Begun}
 use Rattle.content_laws.proofs.WrittenBytes.{no_feed, IsLine, Ended}
 
@@ -50,7 +51,7 @@ whole_line (byte ∷ next ∷ more ∷ bytes) plain =
     let parts = and_parts (no_feed byte) (list_all no_feed (next ∷ more ∷ bytes)) plain in
     ap (λ (l : List ℕ). byte ∷ l) (whole_line (next ∷ more ∷ bytes) parts.1)
 
-module _ (n : ℕ) (bytes : List ℕ) (line : IsLine bytes) (begun : Begun n bytes) (ended : Ended n bytes) where
+module _ (s : Style) (bytes : List ℕ) (line : IsLine bytes) (begun : Begun s bytes) (ended : Ended s bytes) where
   -- ---- no fault
 
   unmarked : mark_length bytes ≡ 0

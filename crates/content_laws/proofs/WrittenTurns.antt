@@ -1,7 +1,8 @@
 -- Parts between brackets, read in turns.
-use Rattle.std.proofs.Common.{◌≡◌, ℕ, List, [], ◌∷◌, ◌++◌, drop, map, Result, Ok, refl, sym, ap, ◌∙◌, subst, append_assoc}
+use Rattle.std.proofs.Common.{◌≡◌, ℕ, true, List, [], ◌∷◌, ◌++◌, drop, map, Result, Ok, refl, sym, ap, ◌∙◌, subst, append_assoc}
 use Rattle.std.proofs.lemmas.List.{append-nil}
 use Rattle.yaml_tree.specs.Rest.{Rest, on, skip_blanks}
+use Rattle.yaml_tree.specs.Characters.{is_flow_mark}
 use Rattle.yaml_tree.specs.Lines.{flow_point}
 use Rattle.yaml_tree.specs.Repeats.{Turn, Last, InTurn, Repeats}
 use Rattle.yaml_tree.specs.Flow.{next_turn, FromNext}
@@ -56,7 +57,7 @@ module _ {A C : Type 0} (code : A → C) (text : A → List ℕ) (Fits : List A 
 
   abbrev pub Steps : Type 0
   Steps = (earlier before : List A) (x : A) (from : Rest) (k byte : ℕ) (more : List ℕ)
-      → map code before ≡ map code earlier → Fits earlier x → IsSolid byte → from.here ≡ text x ++ (spaces k ++ byte ∷ more) → Step before x from byte more
+      → map code before ≡ map code earlier → Fits earlier x → IsSolid byte → is_flow_mark byte ≡ true → from.here ≡ text x ++ (spaces k ++ byte ∷ more) → Step before x from byte more
 
   -- parts were read up to the bracket that closes
   pub record Turns (before : List A) (xs : List A) (from : Rest) (behind : List ℕ) : Type 0 where
@@ -71,7 +72,7 @@ module _ {A C : Type 0} (code : A → C) (text : A → List ℕ) (Fits : List A 
     pub below : left.below ≡ from.below
     pub same : map code xs ≡ map code (read ++ last ∷ [])
 
-  module _ (starts : (x : A) → Starts (text x)) (solid : IsSolid close) (step : Steps) where
+  module _ (starts : (x : A) → Starts (text x)) (solid : IsSolid close) (mark : is_flow_mark close ≡ true) (step : Steps) where
     first_part : (x : A) (xs : List A) → (others : List ℕ) × (with_commas n (map text (x ∷ xs)) ≡ text x ++ others)
     first_part x [] = ([], sym (append-nil (text x)))
     first_part x (y ∷ ys) = (44 ∷ (spaces n ++ with_commas n (map text (y ∷ ys))), refl)
@@ -117,13 +118,13 @@ module _ {A C : Type 0} (code : A → C) (text : A → List ℕ) (Fits : List A 
 
     turns : (x : A) (xs earlier before : List A) (from : Rest) (behind : List ℕ) → map code before ≡ map code earlier → AllFit Fits earlier (x ∷ xs)
         → from.here ≡ with_commas n (map text (x ∷ xs)) ++ (spaces n ++ close ∷ behind) → Turns before (x ∷ xs) from behind
-    turns x [] earlier before from behind known fit is = turn_last before x from behind (step earlier before x from n close behind known fit.0 solid is)
+    turns x [] earlier before from behind known fit is = turn_last before x from behind (step earlier before x from n close behind known fit.0 solid mark is)
     turns x (y ∷ ys) earlier before from behind known fit is =
         let others : List ℕ = with_commas n (map text (y ∷ ys)) in
         let tail : List ℕ = spaces n ++ close ∷ behind in
         let split : from.here ≡ text x ++ (44 ∷ (spaces n ++ (others ++ tail))) =
         is ∙ append_assoc (text x) (44 ∷ (spaces n ++ others)) tail ∙ ap (λ (l : List ℕ). text x ++ (44 ∷ l)) (append_assoc (spaces n) others tail) in
-        let one = step earlier before x from 0 44 (spaces n ++ (others ++ tail)) known fit.0 comma_solid split in
+        let one = step earlier before x from 0 44 (spaces n ++ (others ++ tail)) known fit.0 comma_solid refl split in
         let point = next_point (on 1 one.next) n (others ++ tail) (starts_with others tail (starts_parts y ys)) (ap (drop 1) one.here) in
         turn_more before x (y ∷ ys) from (spaces n ++ (others ++ tail)) (others ++ tail) behind one point
         (turns y ys (earlier ++ x ∷ []) (before ++ one.read ∷ []) point.next behind (known_more before earlier one.read x known one.same) fit.1 point.here_is)

@@ -9,15 +9,15 @@ use Rattle.yaml_tree.specs.declared.tree.Tree.{Tree}
 use Rattle.yaml_tree.specs.declared.tree.Tree as trees
 use Rattle.yaml_tree.specs.declared.tree.Tree.TheVariants as made
 use Rattle.yaml_tree.specs.declared.tree.Pair.{Pair}
-use Rattle.content_laws.specs.Writing.{spaces, written, IsWritable, scalar}
+use Rattle.content_laws.specs.Writing.{Style, spaces, written, IsWritable, scalar}
 
 -- How a text is laid out. A map stands `maps` + 1 columns deeper than its key, a list `lists` columns deeper; `behind` + 1 spaces
--- stand behind `-` and behind the `:` of a key; and `flow` spaces at the marks of keys that are lists.
+-- stand behind `-` and behind the `:` of a key; and `style` says how scalars and keys are written.
 pub record Layout : Type 0 where
   pub maps : ℕ
   pub lists : ℕ
   pub behind : ℕ
-  pub flow : ℕ
+  pub style : Style
 
 -- a line: how many spaces lead it, and what stands behind them
 abbrev pub Line : Type 0
@@ -61,11 +61,11 @@ item_lines l Node indent item = behind_front indent (45 ∷ spaces (suc l.behind
 
 -- an entry: its key and `:`, and its value behind spaces, or on the lines below
 abbrev pub value_lines : Layout → (Node : ℕ → Tree → List Line) → (indent : ℕ) (key : List ℕ) (in_line : Bool) → Tree → List Line
-value_lines l Node indent key true value = (indent, key ++ 58 ∷ (spaces (suc l.behind) ++ written l.flow value)) ∷ []
+value_lines l Node indent key true value = (indent, key ++ 58 ∷ (spaces (suc l.behind) ++ written l.style value)) ∷ []
 value_lines l Node indent key false value = (indent, key ++ 58 ∷ []) ∷ Node (indent + depth l value) value
 
 abbrev pub entry_lines : Layout → (Node : ℕ → Tree → List Line) → (indent : ℕ) → Pair → List Line
-entry_lines l Node indent pair = value_lines l Node indent (written l.flow pair.key) (is_in_line pair.value) pair.value
+entry_lines l Node indent pair = value_lines l Node indent (written l.style pair.key) (is_in_line pair.value) pair.value
 
 abbrev pub form_lines : Layout → (Node : ℕ → Tree → List Line) → (indent : ℕ) → trees.Tree-F Tree Pair → List Line
 form_lines l Node indent (trees.Tree-F.Scalar at text) = []
@@ -76,7 +76,7 @@ form_lines l Node indent (trees.Tree-F.Map at entries) = flat_map (entry_lines l
 unfoldable pub block_lines : Layout → (levels indent : ℕ) → Tree → List Line
 block_lines l zero indent tree = []
 block_lines l (suc levels) indent tree =
-    if is_in_line tree then (indent, written l.flow tree) ∷ [] else form_lines l (block_lines l levels) indent (trees.out-Tree tree)
+    if is_in_line tree then (indent, written l.style tree) ∷ [] else form_lines l (block_lines l levels) indent (trees.out-Tree tree)
 
 abbrev pub written_block : Layout → Tree → List ℕ
 written_block l tree = flat_map line_text (block_lines l most_levels 0 tree)
@@ -91,22 +91,33 @@ LawBlockAlone = (file : ℕ) (l : Layout) (tree : Tree) → IsWritable tree → 
 
 -- ---- how it looks
 
+-- as models are mostly written
 abbrev pub narrow : Layout
-narrow = record { maps = 1; lists = 0; behind = 0; flow = 0 }
+narrow = record { maps = 1; lists = 0; behind = 0; style = record { gap = 0; plain = true } }
 
--- "a": "x"
--- "b":
--- - "1"
--- - "k": ""
---   "m": []
--- "c":
---   "d": {}
-abbrev pub stairs : Place → Tree
-stairs at =
+-- reduce: min
+-- transitions:
+-- - "#"
+-- - name: go
+--   cost: (+ cost -1)
+--   preconditions: []
+-- target:
+--   x: {}
+abbrev pub route_item : Place → Tree
+route_item at =
     made.Map at (
-    entry (scalar at (codes "a")) (scalar at (codes "x"))
-    ∷ entry (scalar at (codes "b")) (made.List at (scalar at (codes "1") ∷ made.Map at (entry (scalar at (codes "k")) (scalar at []) ∷ entry (scalar at (codes "m")) (made.List at []) ∷ []) ∷ []))
-    ∷ entry (scalar at (codes "c")) (made.Map at (entry (scalar at (codes "d")) (made.Map at []) ∷ [])) ∷ [])
+    entry (scalar at (codes "name")) (scalar at (codes "go"))
+    ∷ entry (scalar at (codes "cost")) (scalar at (codes "(+ cost -1)"))
+    ∷ entry (scalar at (codes "preconditions")) (made.List at []) ∷ [])
 
+abbrev pub route : Place → Tree
+route at =
+    made.Map at (
+    entry (scalar at (codes "reduce")) (scalar at (codes "min"))
+    ∷ entry (scalar at (codes "transitions")) (made.List at (scalar at (codes "#") ∷ route_item at ∷ []))
+    ∷ entry (scalar at (codes "target")) (made.Map at (entry (scalar at (codes "x")) (made.Map at []) ∷ [])) ∷ [])
+
+-- It may be written, and so it looks.
 abbrev pub LawBlockSample : Type 0
-LawBlockSample = (at : Place) → written_block narrow (stairs at) ≡ codes "\"a\": \"x\"\n\"b\":\n- \"1\"\n- \"k\": \"\"\n  \"m\": []\n\"c\":\n  \"d\": {}\n"
+LawBlockSample = (at : Place) → IsWritable (route at)
+    × (written_block narrow (route at) ≡ codes "reduce: min\ntransitions:\n- \"#\"\n- name: go\n  cost: (+ cost -1)\n  preconditions: []\ntarget:\n  x: {}\n")
