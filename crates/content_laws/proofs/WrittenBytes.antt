@@ -24,7 +24,7 @@ pub record IsLine (text : List ℕ) : Type 0 where
   pub utf8 : IsUtf8 text
   pub no_feeds : list_all no_feed text ≡ true
 
-none_fed : (xs ys : List ℕ) → list_all no_feed xs ≡ true → list_all no_feed ys ≡ true → list_all no_feed (xs ++ ys) ≡ true
+pub none_fed : (xs ys : List ℕ) → list_all no_feed xs ≡ true → list_all no_feed ys ≡ true → list_all no_feed (xs ++ ys) ≡ true
 none_fed [] ys a b = b
 none_fed (x ∷ xs) ys a b =
     let parts = and_parts (no_feed x) (list_all no_feed xs) a in

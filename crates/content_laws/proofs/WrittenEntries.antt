@@ -26,8 +26,8 @@ use Rattle.content_laws.proofs.WrittenCodes.{tree_codes, pair_codes, map_codes, 
 use Rattle.content_laws.proofs.WrittenTurns.{AllFit, map-push}
 use Rattle.content_laws.proofs.WrittenForms.{its_plain, written_form, written-form, starts_tree, reads_back, FitsEntry}
 use Rattle.content_laws.proofs.WrittenNodes.{whole_read, line_read}
-use Rattle.content_laws.proofs.WrittenRows.{IsRow, AreRows, all_content, first_row, InTurns, last_turn, more_turns, all_turns, Under, UnderOrKey, under_or_key, under_deeper}
-use Rattle.content_laws.proofs.WrittenBlocks.{BeginsAt, Settled, EndsForm, BlockClaim, first_line, entries_split, value_text, value_below, is_item_list, tree_no_item}
+use Rattle.content_laws.proofs.WrittenRows.{IsRow, AreRows, FirstRow, Stands, settle_rows, InTurns, last_turn, more_turns, all_turns, Under, UnderOrKey, under_or_key, under_deeper}
+use Rattle.content_laws.proofs.WrittenBlocks.{no_line, BeginsAt, Settled, EndsForm, BlockClaim, first_line, entries_split, value_text, value_below, is_item_list, tree_no_item}
 use Rattle.content_laws.proofs.WrittenItems.{MatchBool-yes}
 
 or_true : (b : Bool) → (b || true) ≡ true
@@ -36,12 +36,12 @@ or_true false = refl
 
 -- ---- after a value
 
-no_entry_in : (indent : ℕ) (left : Rest) (rows : List Row) (tail : List Line) → AreRows rows tail → Under indent tail → entry_in indent left rows ≡ None
-no_entry_in indent left [] tail are under = refl
-no_entry_in indent left (row ∷ rows) [] are under = absurd are
-no_entry_in indent left (row ∷ rows) (line ∷ tail) are under =
-    cond-false (not (is_marker row) && row.indent == indent) _ _
-    (ap (λ (b : Bool). not (is_marker row) && b) (ne_eqb row.indent indent (λ e. omega (arith, are.0.indent))) ∙ and-false (not (is_marker row)))
+no_entry_in : (indent : ℕ) (left : Rest) (rows : List Row) (tail : List Line) → Stands rows tail → Under indent tail → entry_in indent left rows ≡ None
+no_entry_in indent left rows [] are under = ap (entry_in indent left) are
+no_entry_in indent left rows (line ∷ tail) are under =
+    ap (entry_in indent left) are.is
+    ∙ cond-false (not (is_marker are.row) && are.row.indent == indent) _ _
+    (ap (λ (b : Bool). not (is_marker are.row) && b) (ne_eqb are.row.indent indent (λ e. omega (arith, are.row_is.indent))) ∙ and-false (not (is_marker are.row)))
 
 entry_in_row : (indent : ℕ) (left : Rest) (row : Row) (rows : List Row) (line : Line) → IsRow row line → line.0 ≡ indent → entry_in indent left (row ∷ rows) ≡ Some (front left row rows)
 entry_in_row indent left row rows line is here =
@@ -111,7 +111,7 @@ module _ (l : Layout) (levels : ℕ) (claim : BlockClaim l levels) where
     read : Tree
     left : Rest
     form : Value (BlockNode levels) levels indent at (Ok (read, left))
-    below : AreRows left.below tail
+    below : Stands left.below tail
     same : tree_codes value ≡ tree_codes read
 
   -- in the line of its key
@@ -126,7 +126,7 @@ module _ (l : Layout) (levels : ℕ) (claim : BlockClaim l levels) where
         read = one.read;
         left = settle one.left;
         form = MatchBool-no (is_clear at.here) _ _ (not_clear at.here s.byte s.more s.solid past) (line_read l.style levels (indent + 1) value from one);
-        below = subst (λ (rs : List Row). AreRows rs tail) (sym (all_content one.left.below tail left_rows)) left_rows;
+        below = settle_rows one.left.below tail left_rows;
         same = one.same;
       }
 
@@ -140,7 +140,7 @@ module _ (l : Layout) (levels : ℕ) (claim : BlockClaim l levels) where
       (λ i. not (is.no_marker i) && (nat_lt indent row.indent || (true && eq-eqb row.indent indent (is.indent ∙ here) i && (ap is_item is.text ∙ item) i)))
       ∙ or_true (nat_lt indent row.indent)
 
-  begins_there : (indent : ℕ) (form : trees.Tree-F Tree Pair) (row : Row) (text : List ℕ) → form_in_line form ≡ false → IsRow row (indent + form_depth l form, text) → (is_item_list form ≡ true → is_item text ≡ true)
+  begins_there : (indent : ℕ) (form : trees.Tree-F Tree Pair) (row : Row) (text : List ℕ) → form_in_line form ≡ false → IsRow row (indent + form_depth l form, text) → (is_item_list false form ≡ true → is_item text ≡ true)
       → begins_below indent true row ≡ true
   begins_there indent (trees.Tree-F.Scalar at scalar) row text below is item = absurd (false≢true (sym below))
   begins_there indent (trees.Tree-F.List at []) row text below is item = absurd (false≢true (sym below))
@@ -165,19 +165,19 @@ module _ (l : Layout) (levels : ℕ) (claim : BlockClaim l levels) where
     map_ends (line ∷ tail) (inl less) = omega arith
     map_ends (line ∷ tail) (inr key) = omega (arith, key.0)
 
-  value_from_below : (indent : ℕ) (value : Tree) (at : Rest) (tail : List Line) → IsWritableIn levels value → is_in_line value ≡ false → at.here ≡ [] → AreRows at.below (Node (indent + depth l value) value ++ tail)
+  value_from_below : (indent : ℕ) (value : Tree) (at : Rest) (tail : List Line) → IsWritableIn levels value → is_in_line l value ≡ false → at.here ≡ [] → AreRows at.below (Node (indent + depth l value) value ++ tail)
       → UnderOrKey indent tail → ValueRead indent value at tail
   value_from_below indent value at tail fit below here rows under =
       let deep : ℕ = indent + depth l value in
       let first = first_line l levels deep value fit in
       let split : AreRows at.below ((deep, first.text) ∷ (first.others ++ tail)) = subst (λ (ls : List Line). AreRows at.below (ls ++ tail)) first.is rows in
-      let found = first_row at.below (deep, first.text) (first.others ++ tail) split in
+      let found : FirstRow (from_content at.below) (deep, first.text) (first.others ++ tail) = settle_rows at.below ((deep, first.text) ∷ (first.others ++ tail)) split in
       let from : Rest = front at found.row found.others in
       let begun : BeginsAt from (Node deep value) tail = subst (λ (ls : List Line). BeginsAt from ls tail) (sym first.is) (found.row_is.text, found.others_are) in
       let one = claim (indent + 1) deep value from tail fit begun (ap (λ (k : ℕ). k + 1) found.row_is.indent) (ends_value indent (trees.out-Tree value) tail under) (under_deeper indent (indent + 1) tail (omega arith) under) in
       let there : node_in indent true at (from_content at.below) ≡ Some from =
-      ap (node_in indent true at) (all_content at.below ((deep, first.text) ∷ (first.others ++ tail)) split ∙ found.is)
-      ∙ cond-true (begins_below indent true found.row) _ _ (begins_there indent (trees.out-Tree value) found.row first.text below found.row_is first.item) in
+      ap (node_in indent true at) found.is
+      ∙ cond-true (begins_below indent true found.row) _ _ (begins_there indent (trees.out-Tree value) found.row first.text (no_line l value below) found.row_is (λ e. first.item (ap (λ (b : Bool). is_item_list b (trees.out-Tree value)) below ∙ e))) in
       record {
         read = one.read;
         left = one.left;
@@ -187,7 +187,7 @@ module _ (l : Layout) (levels : ℕ) (claim : BlockClaim l levels) where
         same = one.same;
       }
 
-  value_by : (in_line : Bool) (indent : ℕ) (value : Tree) (at : Rest) (tail : List Line) → is_in_line value ≡ in_line → IsWritableIn levels value → at.here ≡ value_text l in_line value
+  value_by : (in_line : Bool) (indent : ℕ) (value : Tree) (at : Rest) (tail : List Line) → is_in_line l value ≡ in_line → IsWritableIn levels value → at.here ≡ value_text l in_line value
       → AreRows at.below (value_below l Node indent in_line value ++ tail) → UnderOrKey indent tail → ValueRead indent value at tail
   value_by true indent value at tail is fit here rows under = value_in_line indent value at tail fit here rows (under_deeper indent (indent + 1) tail (omega arith) under)
   value_by false indent value at tail is fit here rows under = value_from_below indent value at tail fit is here rows under
@@ -198,12 +198,12 @@ module _ (l : Layout) (levels : ℕ) (claim : BlockClaim l levels) where
   Turn_of indent = EntryTurn (BlockNode levels) levels indent
 
   abbrev Turns : (indent : ℕ) (tail : List Line) (before xs : List Pair) → Tree × Rest → Type 0
-  Turns indent tail before xs keyed = InTurns pair_codes (Turn_of indent) (λ left. AreRows left.below tail) before xs keyed
+  Turns indent tail before xs keyed = InTurns pair_codes (Turn_of indent) (λ left. Stands left.below tail) before xs keyed
 
   others_under : (indent : ℕ) (xs : List Pair) (tail : List Line) → Under indent tail → UnderOrKey indent (lines indent xs ++ tail)
   others_under indent [] tail under = under_or_key indent tail under
   others_under indent (y ∷ ys) tail under =
-      let text : List ℕ = 58 ∷ value_text l (is_in_line y.value) y.value in
+      let text : List ℕ = 58 ∷ value_text l (is_in_line l y.value) y.value in
       let no_item : is_item (written l.style y.key ++ text) ≡ false = tree_no_item l.style y.key text (written l.style y.key ++ text) refl in
       subst (λ (ls : List Line). UnderOrKey indent (ls ++ tail)) (sym (entries_split l levels (first_line l levels) indent y ys)) (inr (refl, no_item))
 
@@ -224,32 +224,32 @@ module _ (l : Layout) (levels : ℕ) (claim : BlockClaim l levels) where
       )
 
   pub entry_turns : (indent : ℕ) (x : Pair) (xs earlier before : List Pair) (key : Tree) (at : Rest) (tail : List Line) → map pair_codes before ≡ map pair_codes earlier → tree_codes x.key ≡ tree_codes key
-      → AllFit (FitsEntry levels) earlier (x ∷ xs) → at.here ≡ value_text l (is_in_line x.value) x.value → AreRows at.below ((value_below l Node indent (is_in_line x.value) x.value ++ lines indent xs) ++ tail)
+      → AllFit (FitsEntry levels) earlier (x ∷ xs) → at.here ≡ value_text l (is_in_line l x.value) x.value → AreRows at.below ((value_below l Node indent (is_in_line l x.value) x.value ++ lines indent xs) ++ tail)
       → Under indent tail → Turns indent tail before (x ∷ xs) (key, at)
   entry_turns indent x [] earlier before key at tail known same_key fit here rows under =
-      let below : List Line = value_below l Node indent (is_in_line x.value) x.value in
+      let below : List Line = value_below l Node indent (is_in_line l x.value) x.value in
       let value_rows : AreRows at.below (below ++ tail) = subst (λ (ls : List Line). AreRows at.below (ls ++ tail)) (append-nil below) rows in
-      let one = value_by (is_in_line x.value) indent x.value at tail refl fit.0.1.2 here value_rows (under_or_key indent tail under) in
-      last_turn pair_codes (Turn_of indent) (λ left. AreRows left.below tail) before x (entry key one.read) (key, at) one.left
+      let one = value_by (is_in_line l x.value) indent x.value at tail refl fit.0.1.2 here value_rows (under_or_key indent tail under) in
+      last_turn pair_codes (Turn_of indent) (λ left. Stands left.below tail) before x (entry key one.read) (key, at) one.left
       (turn_by indent before key x.value at tail one None (Last (entry key one.read ∷ []) one.left) (no_entry_in indent one.left one.left.below tail one.below under) refl)
       one.below (λ i. (same_key i, one.same i))
   entry_turns indent x (y ∷ ys) earlier before key at tail known same_key fit here rows under =
-      let below : List Line = value_below l Node indent (is_in_line x.value) x.value in
+      let below : List Line = value_below l Node indent (is_in_line l x.value) x.value in
       let value_rows : AreRows at.below (below ++ (lines indent (y ∷ ys) ++ tail)) = subst (AreRows at.below) (append_assoc below (lines indent (y ∷ ys)) tail) rows in
-      let one = value_by (is_in_line x.value) indent x.value at (lines indent (y ∷ ys) ++ tail) refl fit.0.1.2 here value_rows (others_under indent (y ∷ ys) tail under) in
-      let rest : List ℕ = value_text l (is_in_line y.value) y.value in
+      let one = value_by (is_in_line l x.value) indent x.value at (lines indent (y ∷ ys) ++ tail) refl fit.0.1.2 here value_rows (others_under indent (y ∷ ys) tail under) in
+      let rest : List ℕ = value_text l (is_in_line l y.value) y.value in
       let text : List ℕ = written l.style y.key ++ 58 ∷ rest in
-      let others : List Line = value_below l Node indent (is_in_line y.value) y.value ++ lines indent ys in
+      let others : List Line = value_below l Node indent (is_in_line l y.value) y.value ++ lines indent ys in
       let split : lines indent (y ∷ ys) ≡ (indent, text) ∷ others = entries_split l levels (first_line l levels) indent y ys in
-      let found = first_row one.left.below (indent, text) (others ++ tail) (subst (λ (ls : List Line). AreRows one.left.below (ls ++ tail)) split one.below) in
+      let found : FirstRow one.left.below (indent, text) (others ++ tail) = subst (λ (ls : List Line). Stands one.left.below (ls ++ tail)) split one.below in
       let from : Rest = front one.left found.row found.others in
       let there : entry_in indent one.left one.left.below ≡ Some from = ap (entry_in indent one.left) found.is ∙ entry_in_row indent one.left found.row found.others (indent, text) found.row_is refl in
-      let next = key_read l.style false levels y.key from rest fit.1.0.1.0 fit.1.0.1.1 found.row_is.text (ends_key (is_in_line y.value) y.value) in
+      let next = key_read l.style false levels y.key from rest fit.1.0.1.0 fit.1.0.1.1 found.row_is.text (ends_key (is_in_line l y.value) y.value) in
       let pair : Pair = entry key one.read in
       let known_more : map pair_codes (before ++ pair ∷ []) ≡ map pair_codes (earlier ++ x ∷ []) =
       map-push pair_codes before pair ∙ (λ i. known i ++ (sym same_key i, sym one.same i) ∷ []) ∙ sym (map-push pair_codes earlier x) in
       let next_rows : AreRows next.to.below (others ++ tail) = subst (λ (rs : List Row). AreRows rs (others ++ tail)) (sym next.below) found.others_are in
-      more_turns pair_codes (Turn_of indent) (λ left. AreRows left.below tail) before x pair (y ∷ ys) (key, at) (next.read, on 1 (skip_blanks next.to))
+      more_turns pair_codes (Turn_of indent) (λ left. Stands left.below tail) before x pair (y ∷ ys) (key, at) (next.read, on 1 (skip_blanks next.to))
       (turn_by indent before key x.value at (lines indent (y ∷ ys) ++ tail) one (Some from) (More pair (next.read, on 1 (skip_blanks next.to))) there
       (next_key before (earlier ++ x ∷ []) pair one.left from y.key rest next known_more fit.1.0.0))
       (λ i. (same_key i, one.same i))
@@ -260,17 +260,17 @@ module _ (l : Layout) (levels : ℕ) (claim : BlockClaim l levels) where
   pub map_node : (least indent : ℕ) (tree : Tree) (at : Place) (x : Pair) (xs : List Pair) (from : Rest) (tail : List Line) → trees.out-Tree tree ≡ trees.Tree-F.Map at (x ∷ xs) → AllFit (FitsEntry levels) [] (x ∷ xs)
       → BeginsAt from (lines indent (x ∷ xs)) tail → from.column ≡ indent + 1 → Under indent tail → Settled (BlockNode (suc levels) least) tree from tail
   map_node least indent tree at x xs from tail is fit begun_at column under =
-      let rest : List ℕ = value_text l (is_in_line x.value) x.value in
+      let rest : List ℕ = value_text l (is_in_line l x.value) x.value in
       let split = subst (λ (ls : List Line). BeginsAt from ls tail) (entries_split l levels (first_line l levels) indent x xs) begun_at in
-      let one = key_read l.style true (suc levels) x.key from rest (one_level_more levels x.key fit.0.1.0) fit.0.1.1 split.0 (ends_key (is_in_line x.value) x.value) in
+      let one = key_read l.style true (suc levels) x.key from rest (one_level_more levels x.key fit.0.1.0) fit.0.1.1 split.0 (ends_key (is_in_line l x.value) x.value) in
       let behind : Rest = on 1 (skip_blanks one.to) in
-      let rows : AreRows one.to.below ((value_below l Node indent (is_in_line x.value) x.value ++ lines indent xs) ++ tail) =
-      subst (λ (rs : List Row). AreRows rs ((value_below l Node indent (is_in_line x.value) x.value ++ lines indent xs) ++ tail)) (sym one.below) split.1 in
+      let rows : AreRows one.to.below ((value_below l Node indent (is_in_line l x.value) x.value ++ lines indent xs) ++ tail) =
+      subst (λ (rs : List Row). AreRows rs ((value_below l Node indent (is_in_line l x.value) x.value ++ lines indent xs) ++ tail)) (sym one.below) split.1 in
       let all = entry_turns indent x xs [] [] one.read behind tail refl one.same fit one.here rows under in
       let entries : List Pair = all.read ++ all.last ∷ [] in
       let same_indent : indent ≡ from.column - 1 = omega (arith, column) in
       let repeats : Repeats (Turn_of indent) (one.read, behind) (Ok (entries, all.left)) =
-      all_turns pair_codes (Turn_of indent) (λ left. AreRows left.below tail) (x ∷ xs) (one.read, behind) all in
+      all_turns pair_codes (Turn_of indent) (λ left. Stands left.below tail) (x ∷ xs) (one.read, behind) all in
       let whole : BlockMap (BlockNode levels) levels from one.read behind (Ok (made.Map (place from) entries, all.left)) =
       (Ok (entries, all.left), subst (λ (k : ℕ). Repeats (Turn_of k) (one.read, behind) (Ok (entries, all.left))) same_indent repeats, refl) in
       let may : may_be_block_key (opening false true from) (from.line == one.to.line) ≡ true =

@@ -4,15 +4,17 @@ use Rattle.std.specs.Prelude.{codes}
 use Rattle.std.specs.List.{All, flat_map}
 use Rattle.std.specs.Str.{bytes_eq}
 use Rattle.std.proofs.lemmas.List.Elements.{All-head, All-tail}
+use Rattle.std.proofs.lemmas.Bool.{false≢true}
 use Rattle.dp_base.specs.Bytes.{is_blank}
+use Rattle.yaml_tree.specs.Characters.{begins}
 use Rattle.yaml_tree.specs.declared.tree.Tree.{Tree}
 use Rattle.yaml_tree.specs.declared.tree.Tree as trees
 use Rattle.yaml_tree.specs.declared.tree.Pair.{Pair}
 use Rattle.content_laws.specs.Writing.{Style, spaces, written, IsNoMap, WritableForm, IsWritableIn}
-use Rattle.content_laws.specs.BlockWriting.{Layout, Line, is_in_line, behind_front, item_lines, value_lines, entry_lines, block_lines}
+use Rattle.content_laws.specs.BlockWriting.{Layout, Line, form_in_line, is_in_line, behind_front, item_lines, value_lines, entry_lines, block_lines}
 use Rattle.content_laws.proofs.WrittenForms.{Begun, begun, begun_then}
 use Rattle.content_laws.proofs.WrittenBytes.{IsLine, Ended, ended, tree_line, spaces_line, one_line, both}
-use Rattle.content_laws.proofs.WrittenBlocks.{lines_of}
+use Rattle.content_laws.proofs.WrittenBlocks.{no_line, lines_of}
 use Rattle.content_laws.proofs.WrittenScan.{IsGood, AllGood, all_good}
 
 -- ---- one line
@@ -20,24 +22,24 @@ use Rattle.content_laws.proofs.WrittenScan.{IsGood, AllGood, all_good}
 module _ (s : Style) where
   good_text : (text : List ℕ) → IsLine text → Begun s text → Ended s text → IsGood text
   good_text text line first end = record {
-    line = line;
-    byte = first.byte;
-    more = first.more;
-    is = first.is;
-    solid = first.first.solid;
-    no_space = first.first.no_space;
-    no_mark = first.first.no_mark;
-    no_directive = first.first.no_directive;
+    text_is = record {
+      line = line;
+      byte = first.byte;
+      more = first.more;
+      is = first.is;
+      solid = first.first.solid;
+      no_space = first.first.no_space;
+      no_mark = first.first.no_mark;
+      front = end.front;
+      last = end.last;
+      ends = end.is;
+      no_blank = end.no_blank;
+      no_return = end.no_return;
+    };
+    no_directive = ap (begins 37) first.is ∙ first.first.no_directive;
     no_start = ap (λ (t : List ℕ). bytes_eq t (codes "---")) (sym (append-nil text)) ∙ first.no_start [];
-    no_end = other_text 46 (46 ∷ 46 ∷ []) first.first.no_dot;
-    front = end.front;
-    last = end.last;
-    ends = end.is;
-    no_blank = end.no_blank;
-    no_return = end.no_return;
-  } where
-    other_text : (b : ℕ) (rest : List ℕ) → (first.byte == b) ≡ false → bytes_eq text (b ∷ rest) ≡ false
-    other_text b rest e = ap (λ (t : List ℕ). bytes_eq t (b ∷ rest)) first.is ∙ ap (λ (c : Bool). c && bytes_eq first.more rest) e
+    no_end = ap (λ (t : List ℕ). bytes_eq t (codes "...")) first.is ∙ ap (λ (c : Bool). c && bytes_eq first.more (46 ∷ 46 ∷ [])) first.first.no_dot;
+  }
 
   good_tree : (levels : ℕ) (tree : Tree) → IsWritableIn levels tree → IsGood (written s tree)
   good_tree levels tree fit = good_text (written s tree) (tree_line s levels tree fit) (begun s tree) (ended s tree)
@@ -55,23 +57,27 @@ module _ (s : Style) where
       })
 
 good_item : (k : ℕ) (text : List ℕ) → IsGood text → IsGood (45 ∷ (spaces (suc k) ++ text))
-good_item k text good = record {
-  line = both (45 ∷ []) (spaces (suc k) ++ text) (one_line 45 (omega arith) refl) (both (spaces (suc k)) text (spaces_line (suc k)) good.line);
-  byte = 45;
-  more = spaces (suc k) ++ text;
-  is = refl;
-  solid = record { no_blank = refl; no_comment = refl };
-  no_space = refl;
-  no_mark = refl;
-  no_directive = refl;
-  no_start = refl;
-  no_end = refl;
-  front = 45 ∷ (spaces (suc k) ++ good.front);
-  last = good.last;
-  ends = ap (λ (t : List ℕ). 45 ∷ (spaces (suc k) ++ t)) good.ends ∙ ap (λ (t : List ℕ). 45 ∷ t) (sym (append_assoc (spaces (suc k)) good.front (good.last ∷ [])));
-  no_blank = good.no_blank;
-  no_return = good.no_return;
-}
+good_item k text good =
+    let t = good.text_is in
+    record {
+      text_is = record {
+        line = both (45 ∷ []) (spaces (suc k) ++ text) (one_line 45 (omega arith) refl) (both (spaces (suc k)) text (spaces_line (suc k)) t.line);
+        byte = 45;
+        more = spaces (suc k) ++ text;
+        is = refl;
+        solid = record { no_blank = refl; no_comment = refl };
+        no_space = refl;
+        no_mark = refl;
+        front = 45 ∷ (spaces (suc k) ++ t.front);
+        last = t.last;
+        ends = ap (λ (x : List ℕ). 45 ∷ (spaces (suc k) ++ x)) t.ends ∙ ap (λ (x : List ℕ). 45 ∷ x) (sym (append_assoc (spaces (suc k)) t.front (t.last ∷ [])));
+        no_blank = t.no_blank;
+        no_return = t.no_return;
+      };
+      no_directive = refl;
+      no_start = refl;
+      no_end = refl;
+    }
 
 -- ---- all lines
 
@@ -108,16 +114,16 @@ module _ (l : Layout) where
     good_entries indent (x ∷ xs) fits =
         let P : Pair → Type 0 = λ entry. IsWritableIn levels entry.key × IsNoMap entry.key × IsWritableIn levels entry.value in
         let fit = All-head P x xs fits in
-        all_good (entry_lines l Node indent x) (flat_map (entry_lines l Node indent) xs) (good_value (is_in_line x.value) indent x.key x.value fit.0 fit.2) (good_entries indent xs (All-tail P x xs fits))
+        all_good (entry_lines l Node indent x) (flat_map (entry_lines l Node indent) xs) (good_value (is_in_line l x.value) indent x.key x.value fit.0 fit.2) (good_entries indent xs (All-tail P x xs fits))
 
-    good_form : (indent : ℕ) (tree : Tree) (form : trees.Tree-F Tree Pair) → IsWritableIn (suc levels) tree → WritableForm (IsWritableIn levels) form → AllGood (lines_of l Node indent (written l.style tree) form)
-    good_form indent tree (trees.Tree-F.Scalar at text) fit form = (good_tree l.style (suc levels) tree fit, tt)
-    good_form indent tree (trees.Tree-F.List at []) fit form = (good_tree l.style (suc levels) tree fit, tt)
-    good_form indent tree (trees.Tree-F.List at (x ∷ xs)) fit form = good_items indent (x ∷ xs) form
-    good_form indent tree (trees.Tree-F.Map at []) fit form = (good_tree l.style (suc levels) tree fit, tt)
-    good_form indent tree (trees.Tree-F.Map at (x ∷ xs)) fit form = good_entries indent (x ∷ xs) form.0
+    good_form : (indent : ℕ) (tree : Tree) (in_line : Bool) (form : trees.Tree-F Tree Pair) → (in_line ≡ false → form_in_line form ≡ false) → IsWritableIn (suc levels) tree → WritableForm (IsWritableIn levels) form
+        → AllGood (lines_of l Node indent (written l.style tree) in_line form)
+    good_form indent tree true form block fit parts = (good_tree l.style (suc levels) tree fit, tt)
+    good_form indent tree false (trees.Tree-F.Scalar at text) block fit parts = absurd (false≢true (sym (block refl)))
+    good_form indent tree false (trees.Tree-F.List at items) block fit parts = good_items indent items parts
+    good_form indent tree false (trees.Tree-F.Map at entries) block fit parts = good_entries indent entries parts.0
 
   pub good_lines : (levels indent : ℕ) (tree : Tree) → IsWritableIn levels tree → AllGood (block_lines l levels indent tree)
   unfolding IsWritableIn block_lines
   good_lines zero indent tree fit = absurd fit
-  good_lines (suc levels) indent tree fit = good_form levels (good_lines levels) indent tree (trees.out-Tree tree) fit fit
+  good_lines (suc levels) indent tree fit = good_form levels (good_lines levels) indent tree (is_in_line l tree) (trees.out-Tree tree) (no_line l tree) fit fit

@@ -16,10 +16,10 @@ use Rattle.yaml_tree.specs.declared.tree.Tree as trees
 use Rattle.yaml_tree.specs.declared.tree.Tree.TheVariants as made
 use Rattle.yaml_tree.proofs.BaseText.{MatchBool-no}
 use Rattle.content_laws.specs.Writing.{spaces, IsWritableIn}
-use Rattle.content_laws.specs.BlockWriting.{Layout, Line, item_lines, block_lines}
+use Rattle.content_laws.specs.BlockWriting.{Layout, Line, is_in_line, item_lines, block_lines}
 use Rattle.content_laws.proofs.WrittenBlanks.{past_blanks, past_spaces, past_solid, not_clear, blanks_count}
 use Rattle.content_laws.proofs.WrittenCodes.{tree_codes, list_codes, listed_codes}
-use Rattle.content_laws.proofs.WrittenRows.{IsRow, AreRows, first_row, InTurns, last_turn, more_turns, all_turns, Under, UnderOrKey, under_deeper}
+use Rattle.content_laws.proofs.WrittenRows.{IsRow, AreRows, FirstRow, Stands, InTurns, last_turn, more_turns, all_turns, Under, UnderOrKey, under_deeper}
 use Rattle.content_laws.proofs.WrittenBlocks.{BeginsAt, Settled, EndsBlock, ends_under, BlockClaim, FirstLine, first_line, items_split}
 
 pub MatchBool-yes : (b : Bool) (P Q : Type 0) → b ≡ true → P → MatchBool b P Q
@@ -45,10 +45,9 @@ ends_row indent left row rows line is (inr key) =
     cond-false (not (is_marker row) && row.indent == indent && is_item row.text) _ _
     (last_false (not (is_marker row)) (row.indent == indent) (is_item row.text) (ap is_item is.text ∙ key.1))
 
-no_item_in : (indent : ℕ) (left : Rest) (rows : List Row) (tail : List Line) → AreRows rows tail → UnderOrKey indent tail → item_in indent left rows ≡ None
-no_item_in indent left [] tail are under = refl
-no_item_in indent left (row ∷ rows) [] are under = absurd are
-no_item_in indent left (row ∷ rows) (line ∷ tail) are under = ends_row indent left row rows line are.0 under
+no_item_in : (indent : ℕ) (left : Rest) (rows : List Row) (tail : List Line) → Stands rows tail → UnderOrKey indent tail → item_in indent left rows ≡ None
+no_item_in indent left rows [] are under = ap (item_in indent left) are
+no_item_in indent left rows (line ∷ tail) are under = ap (item_in indent left) are.is ∙ ends_row indent left are.row are.others line are.row_is under
 
 item_in_row : (indent : ℕ) (left : Rest) (row : Row) (rows : List Row) (line : Line) → IsRow row line → line.0 ≡ indent → is_item line.1 ≡ true → item_in indent left (row ∷ rows) ≡ Some (front left row rows)
 item_in_row indent left row rows line is here item =
@@ -72,11 +71,11 @@ module _ (l : Layout) (levels : ℕ) (claim : BlockClaim l levels) where
     read : Tree
     left : Rest
     item : Item (BlockNode levels) levels indent (on 1 from) (Ok (read, left))
-    below : AreRows left.below tail
+    below : Stands left.below tail
     same : tree_codes x ≡ tree_codes read
 
   -- the node behind `-`
-  behind_dash : (indent : ℕ) (x : Tree) (others : List Line) (from : Rest) (tail : List Line) (first : FirstLine l (indent + 2 + l.behind) (trees.out-Tree x) (Node (indent + 2 + l.behind) x)) → IsWritableIn levels x
+  behind_dash : (indent : ℕ) (x : Tree) (others : List Line) (from : Rest) (tail : List Line) (first : FirstLine l (indent + 2 + l.behind) (is_in_line l x) (trees.out-Tree x) (Node (indent + 2 + l.behind) x)) → IsWritableIn levels x
       → from.here ≡ 45 ∷ (spaces (suc l.behind) ++ first.text) → AreRows from.below ((first.others ++ others) ++ tail) → from.column ≡ indent + 1 → EndsBlock x (indent + 2 + l.behind) (others ++ tail) → Under (indent + 1) (others ++ tail) → ItemRead indent x from (others ++ tail)
   behind_dash indent x others from tail first fit here rows column ends under =
       let inside : drop 1 from.here ≡ spaces (suc l.behind) ++ first.text = ap (drop 1) here in
@@ -107,7 +106,7 @@ module _ (l : Layout) (levels : ℕ) (claim : BlockClaim l levels) where
       (rest_under indent (indent + 1) xs tail (omega arith) fits under)
 
   abbrev Turns : (indent : ℕ) (tail : List Line) (before xs : List Tree) → Rest → Type 0
-  Turns indent tail before xs from = InTurns tree_codes (ItemTurn (BlockNode levels) levels indent) (λ left. AreRows left.below tail) before xs from
+  Turns indent tail before xs from = InTurns tree_codes (ItemTurn (BlockNode levels) levels indent) (λ left. Stands left.below tail) before xs from
 
   turn_read : (indent : ℕ) (x : Tree) (before : List Tree) (from : Rest) (tail : List Line) (one : ItemRead indent x from tail) (found : Option Rest) → item_in indent one.left one.left.below ≡ found
       → ItemTurn (BlockNode levels) levels indent before from (item_then one.read one.left found)
@@ -117,7 +116,7 @@ module _ (l : Layout) (levels : ℕ) (claim : BlockClaim l levels) where
       → from.column ≡ indent + 1 → UnderOrKey indent tail → Turns indent tail before (x ∷ xs) from
   item_turns indent x [] before from tail fit fits begun column under =
       let one = item_read indent x [] from tail fit fits begun column under in
-      last_turn tree_codes (ItemTurn (BlockNode levels) levels indent) (λ left. AreRows left.below tail) before x one.read from one.left
+      last_turn tree_codes (ItemTurn (BlockNode levels) levels indent) (λ left. Stands left.below tail) before x one.read from one.left
       (turn_read indent x before from tail one None (no_item_in indent one.left one.left.below tail one.below under)) one.below one.same
   item_turns indent x (y ∷ ys) before from tail fit fits begun column under =
       let one = item_read indent x (y ∷ ys) from tail fit fits begun column under in
@@ -126,12 +125,12 @@ module _ (l : Layout) (levels : ℕ) (claim : BlockClaim l levels) where
       let text : List ℕ = 45 ∷ (spaces (suc l.behind) ++ next_first.text) in
       let others : List Line = next_first.others ++ lines indent ys in
       let split : lines indent (y ∷ ys) ≡ (indent, text) ∷ others = items_split l levels (first_line l levels) indent y ys next_fit in
-      let rows = first_row one.left.below (indent, text) (others ++ tail) (subst (λ (ls : List Line). AreRows one.left.below (ls ++ tail)) split one.below) in
+      let rows : FirstRow one.left.below (indent, text) (others ++ tail) = subst (λ (ls : List Line). Stands one.left.below (ls ++ tail)) split one.below in
       let next : Rest = front one.left rows.row rows.others in
       let there : item_in indent one.left one.left.below ≡ Some next =
       ap (item_in indent one.left) rows.is ∙ item_in_row indent one.left rows.row rows.others (indent, text) rows.row_is refl refl in
       let next_begun : BeginsAt next (lines indent (y ∷ ys)) tail = subst (λ (ls : List Line). BeginsAt next ls tail) (sym split) (rows.row_is.text, rows.others_are) in
-      more_turns tree_codes (ItemTurn (BlockNode levels) levels indent) (λ left. AreRows left.below tail) before x one.read (y ∷ ys) from next
+      more_turns tree_codes (ItemTurn (BlockNode levels) levels indent) (λ left. Stands left.below tail) before x one.read (y ∷ ys) from next
       (turn_read indent x before from (lines indent (y ∷ ys) ++ tail) one (Some next) there) one.same
       (item_turns indent y ys (before ++ one.read ∷ []) next tail next_fit (All-tail (IsWritableIn levels) y ys fits) next_begun (ap (λ (k : ℕ). k + 1) rows.row_is.indent) under)
 
@@ -146,7 +145,7 @@ module _ (l : Layout) (levels : ℕ) (claim : BlockClaim l levels) where
       let same_indent : indent ≡ from.column - 1 = omega (arith, column) in
       let split = subst (λ (ls : List Line). BeginsAt from ls tail) (items_split l levels (first_line l levels) indent x xs fit) begun in
       let repeats : Repeats (ItemTurn (BlockNode levels) levels indent) from (Ok (items, all.left)) =
-      all_turns tree_codes (ItemTurn (BlockNode levels) levels indent) (λ left. AreRows left.below tail) (x ∷ xs) from all in
+      all_turns tree_codes (ItemTurn (BlockNode levels) levels indent) (λ left. Stands left.below tail) (x ∷ xs) from all in
       let whole : BlockList (BlockNode levels) levels from (Ok (made.List (place from) items, all.left)) =
       (Ok (items, all.left), subst (λ (k : ℕ). Repeats (ItemTurn (BlockNode levels) levels k) from (Ok (items, all.left))) same_indent repeats, refl) in
       record {

@@ -1,5 +1,5 @@
 -- A node that is written in flow style, where in block style a node may begin.
-use Rattle.std.proofs.Common.{◌≡◌, ℕ, zero, suc, Bool, true, false, not, ◌&&◌, ◌||◌, ◌==◌, nat_lt, List, [], ◌∷◌, ◌++◌, length, Option, Ok, refl, sym, ap, ◌∙◌, arith}
+use Rattle.std.proofs.Common.{◌≡◌, ℕ, zero, suc, Bool, true, false, not, ◌&&◌, ◌||◌, ◌==◌, nat_lt, List, [], ◌∷◌, ◌++◌, length, Option, inl, inr, Ok, refl, sym, ap, ◌∙◌, arith}
 use Rattle.std.proofs.lemmas.Bool.{cond-true, cond-false, false≢true, ne_eqb, lt-ltb}
 use Rattle.std.proofs.lemmas.List.{append-nil}
 use Rattle.std.proofs.Math.Bool.{and-false}
@@ -36,14 +36,21 @@ has_text row full = by row.text full where
   by [] e = absurd (false≢true e)
   by (byte ∷ bytes) e = full_text (byte ∷ bytes) (λ none. omega arith)
 
-no_lines : (least : ℕ) (r : Rest) (rows : List Row) (tail : List Line) → AreRows rows tail → Under least tail → lines_added false least r 0 rows ≡ Ok ([], r)
+past_row : (least : ℕ) (r : Rest) (row : Row) (rows : List Row) (blanks : ℕ) (b : Bool) → is_empty row.text ≡ b → has_content row ≡ false → ((n : ℕ) → lines_added false least r n rows ≡ Ok ([], r)) → lines_added false least r blanks (row ∷ rows) ≡ Ok ([], r)
 unfolding lines_added
-no_lines least r [] tail are under = refl
-no_lines least r (row ∷ rows) [] are under = absurd are
-no_lines least r (row ∷ rows) (line ∷ tail) are under =
-    let shallow : nat_lt row.indent least ≡ true = lt-ltb row.indent least (omega (arith, are.0.indent)) in
+past_row least r row rows blanks true empty none others = cond-true (is_empty row.text) _ _ empty ∙ others (suc blanks)
+past_row least r row rows blanks false empty none others =
+    cond-false (is_empty row.text) _ _ empty ∙ cond-true (not (goes_on false least row)) _ _ (ap (λ (b : Bool). not (b && (false || not (nat_lt row.indent least)))) none)
+
+no_lines : (least : ℕ) (r : Rest) (rows : List Row) (tail : List Line) → AreRows rows tail → Under least tail → (blanks : ℕ) → lines_added false least r blanks rows ≡ Ok ([], r)
+unfolding lines_added
+no_lines least r [] tail are under blanks = refl
+no_lines least r (row ∷ rows) tail (inl past) under blanks = past_row least r row rows blanks (is_empty row.text) refl past.0 (no_lines least r rows tail past.1 under)
+no_lines least r (row ∷ rows) [] (inr none) under blanks = absurd none
+no_lines least r (row ∷ rows) (line ∷ tail) (inr first) under blanks =
+    let shallow : nat_lt row.indent least ≡ true = lt-ltb row.indent least (omega (arith, first.0.indent)) in
     let stops : goes_on false least row ≡ false = ap (λ (b : Bool). has_content row && (false || not b)) shallow ∙ and-false (has_content row) in
-    cond-false (is_empty row.text) _ _ (has_text row are.0.content) ∙ cond-true (not (goes_on false least row)) _ _ (ap not stops)
+    cond-false (is_empty row.text) _ _ (has_text row first.0.content) ∙ cond-true (not (goes_on false least row)) _ _ (ap not stops)
 
 at_end : (tree : Tree) (left : Rest) → left.here ≡ [] → ended (Ok (tree, left)) ≡ Ok (tree, settle left)
 at_end tree left here = ap (settled tree) (cond-true (is_clear left.here) _ _ (ap is_clear here))
@@ -94,7 +101,7 @@ module _ (s : Style) where
       let left : Rest = on (length text) from in
       let read : Tree = made.Scalar (place from) text in
       let nothing : left.here ≡ [] = behind_plain from text [] p here in
-      let none : added false least left ≡ Ok ([], left) = cond-true (is_empty left.here) _ _ (ap is_empty nothing) ∙ no_lines least left from.below tail rows under in
+      let none : added false least left ≡ Ok ([], left) = cond-true (is_empty left.here) _ _ (ap is_empty nothing) ∙ no_lines least left from.below tail rows under 0 in
       record {
         read = read;
         left = left;

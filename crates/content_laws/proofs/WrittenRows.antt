@@ -1,6 +1,6 @@
 -- Rows that lines of a text give, and turns that are taken over them.
 use Rattle.std.proofs.Common.{◌≡◌, ℕ, ◌<◌, true, false, List, [], ◌∷◌, ◌++◌, map, Ok, ◌⊎◌, inl, inr, refl, sym, ap, subst, append_assoc, arith}
-use Rattle.std.proofs.lemmas.Bool.{cond-true}
+use Rattle.std.proofs.lemmas.Bool.{cond-true, cond-false}
 use Rattle.std.proofs.lemmas.List.{append-nil}
 use Rattle.yaml_tree.specs.Rest.{Row, Rest}
 use Rattle.yaml_tree.specs.Characters.{is_item}
@@ -15,21 +15,15 @@ pub record IsRow (row : Row) (line : Line) : Type 0 where
   pub content : has_content row ≡ true
   pub no_marker : is_marker row ≡ false
 
+abbrev pub FirstIs : (Others : List Line → Type 0) → Row → List Line → Type 0
+FirstIs Others row [] = ⊥
+FirstIs Others row (line ∷ lines) = IsRow row line × Others lines
+
+-- These rows give these lines, and others give none: they have no content.
 abbrev pub AreRows : List Row → List Line → Type 0
 AreRows [] [] = Unit {0}
 AreRows [] (line ∷ lines) = ⊥
-AreRows (row ∷ rows) [] = ⊥
-AreRows (row ∷ rows) (line ∷ lines) = IsRow row line × AreRows rows lines
-
-pub no_rows : (rows : List Row) → AreRows rows [] → rows ≡ []
-no_rows [] are = refl
-no_rows (row ∷ rows) are = absurd are
-
--- each of them has content
-pub all_content : (rows : List Row) (lines : List Line) → AreRows rows lines → from_content rows ≡ rows
-all_content [] lines are = refl
-all_content (row ∷ rows) [] are = absurd are
-all_content (row ∷ rows) (line ∷ lines) are = cond-true (has_content row) _ _ are.0.content
+AreRows (row ∷ rows) lines = ((has_content row ≡ false) × AreRows rows lines) ⊎ FirstIs (AreRows rows) row lines
 
 -- the first row and the others
 pub record FirstRow (rows : List Row) (line : Line) (lines : List Line) : Type 0 where
@@ -39,9 +33,17 @@ pub record FirstRow (rows : List Row) (line : Line) (lines : List Line) : Type 0
   pub row_is : IsRow row line
   pub others_are : AreRows others lines
 
-pub first_row : (rows : List Row) (line : Line) (lines : List Line) → AreRows rows (line ∷ lines) → FirstRow rows line lines
-first_row [] line lines are = absurd are
-first_row (row ∷ rows) line lines are = record { row = row; others = rows; is = refl; row_is = are.0; others_are = are.1 }
+-- rows that begin with the first line
+abbrev pub Stands : List Row → List Line → Type 0
+Stands rows [] = rows ≡ []
+Stands rows (line ∷ lines) = FirstRow rows line lines
+
+pub settle_rows : (rows : List Row) (lines : List Line) → AreRows rows lines → Stands (from_content rows) lines
+settle_rows [] [] are = refl
+settle_rows [] (line ∷ lines) are = absurd are
+settle_rows (row ∷ rows) lines (inl past) = subst (λ (rs : List Row). Stands rs lines) (sym (cond-false (has_content row) _ _ past.0)) (settle_rows rows lines past.1)
+settle_rows (row ∷ rows) [] (inr none) = absurd none
+settle_rows (row ∷ rows) (line ∷ lines) (inr first) = record { row = row; others = rows; is = cond-true (has_content row) _ _ first.0.content; row_is = first.0; others_are = first.1 }
 
 -- ---- turns
 

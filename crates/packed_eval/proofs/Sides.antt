@@ -1,5 +1,5 @@
 -- What the sides of a comparison stand for, and the cells of a row.
-use Rattle.std.proofs.Common.{◌≡◌, ℕ, ◌<◌, ◌&&◌, Bool, true, false, List, [], ◌∷◌, ◌++◌, length, get_or, Result, Ok, Err, ℤ, pos, ◌+ℤ◌, Bor, refl, sym, ap, ◌∙◌, arith}
+use Rattle.std.proofs.Common.{◌≡◌, ℕ, suc, ◌+◌, ◌<◌, add-one, ◌&&◌, Bool, true, false, List, [], ◌∷◌, ◌++◌, length, get_or, Result, Ok, Err, ℤ, pos, ◌+ℤ◌, Bor, refl, sym, ap, ◌∙◌, arith}
 use Rattle.std.specs.Prelude.{Option, Some, None, IfSome, option_and_then, slice_get, slice_index, neg_ℤ, int_le, if◌then◌else◌}
 use Rattle.std.specs.Result.{result_ok}
 use Rattle.std.proofs.Math.Seq.{get_or-append_seam}
@@ -7,7 +7,7 @@ use Rattle.std.proofs.lemmas.Int.{ints}
 use Rattle.std.proofs.lemmas.List.{get_or_append_left}
 use Rattle.dp_base.specs.Results.{◌>>=◌}
 use Rattle.dp_model.specs.Costs.{greatest, ranged}
-use Rattle.dp_model.specs.Evaluation.{operate, compares, num_value, cond_value, ArgValue, CondValue, NumValue, SetValue, arg_step, cond_step, num_step, set_step}
+use Rattle.dp_model.specs.Evaluation.{operate, compares, each_holds, num_value, cond_value, ArgValue, CondValue, NumValue, SetValue, arg_step, cond_step, num_step, set_step}
 use Rattle.dp_model.specs.declared.answers.FaultKind.TheVariants.{Range}
 use Rattle.dp_model.specs.declared.trees.Num as nums
 use Rattle.dp_model.specs.declared.trees.Cond as conds
@@ -16,7 +16,7 @@ use Rattle.dp_model.specs.declared.trees.Compare.{Compare}
 use Rattle.dp_model.specs.declared.parts.PlainState.{PlainState}
 use Rattle.dp_model.specs.declared.whole.Model.{Model}
 use Rattle.packed_eval.proofs.Arguments.{one_value, two_values}
-use Rattle.packed_eval.specs.Rows.{sum_at, side_at, met_by, IsSideOf, IsSumOf, AreSidesOf, IsAlone, HasCells, IsRowOf}
+use Rattle.packed_eval.specs.Rows.{sum_at, side_at, met_by, all_met, IsSideOf, IsSumOf, AreSidesOf, IsAlone, HasCells, IsRowOf}
 use Rattle.packed_eval.specs.declared.rows.Side.{Side}
 use Rattle.packed_eval.specs.declared.rows.Sides.{Sides}
 
@@ -113,9 +113,21 @@ two_items (a ∷ []) d e x y n p q = absurd (omega (arith, n))
 two_items (a ∷ b ∷ []) d e x y n p q = rw (p, q) refl
 two_items (a ∷ b ∷ c ∷ cs) d e x y n p q = absurd (omega (arith, n))
 
--- ---- an answer that is known
+-- ---- members one after another
 
-pub known_told : (m : Model) (s : PlainState) (given : List ℕ) (c : conds.Cond) (o : Option Sides) (k : ℕ) (r : Option Bool) → r ≡ option_and_then (λ (x : Sides). met_by x k) o → IfSome o (λ sides. AreSidesOf m s given c sides) → IfSome r (λ held. cond_value m s c (given ++ k ∷ []) ≡ Ok held)
-known_told m s given c (Some sides) k (Some held) e h = h k held (sym e)
-known_told m s given c None k (Some held) e h = absurd (cc)
-known_told m s given c o k None e h = tt
+pub met_step : (sides : Sides) (members : ℕ → List ℕ) (from k : ℕ) → members from ≡ k ∷ members (suc k) → met_by sides k ≡ Some true → all_met sides (members (k + 1)) ≡ all_met sides (members from)
+met_step sides members from k p e = rw (add-one, p, e) refl
+
+module _ (m : Model) (s : PlainState) (given : List ℕ) (c : conds.Cond) (sides : Sides) (told : AreSidesOf m s given c sides) where
+  met_all : (held : Bool) (ks : List ℕ) → all_met sides ks ≡ Some held → each_holds (λ k. cond_value m s c (given ++ k ∷ [])) ks ≡ Ok held
+  met_all held [] h = let e : true ≡ held = cc in ap Ok e
+  met_all held (k ∷ ks) h = by (met_by sides k) refl h (met_all held ks)
+    where
+      by : (o : Option Bool) → met_by sides k ≡ o → option_and_then (λ (x : Bool). if x then all_met sides ks else Some false) o ≡ Some held → (all_met sides ks ≡ Some held → each_holds (λ k. cond_value m s c (given ++ k ∷ [])) ks ≡ Ok held) → each_holds (λ k. cond_value m s c (given ++ k ∷ [])) (k ∷ ks) ≡ Ok held
+      by None e h more = absurd (cc)
+      by (Some true) e h more = rw (told k true e) (more h)
+      by (Some false) e h more = rw (told k false e) (let f : false ≡ held = cc in ap Ok f)
+
+  pub met_told : (o : Option Bool) (ks : List ℕ) → o ≡ all_met sides ks → IfSome o (λ held. each_holds (λ k. cond_value m s c (given ++ k ∷ [])) ks ≡ Ok held)
+  met_told (Some held) ks e = met_all held ks (sym e)
+  met_told None ks e = tt

@@ -2,7 +2,7 @@
 //! operation is tested. Sets of at most 64 members are one word; larger ones that an operation needs at once lie one behind
 //! another in a stack of words.
 
-ghost use Rattle.std.specs.Prelude.{◌≡◌, ◌≤◌, ◌+◌, ◌-◌, ◌∷◌, ◌++◌, [], ℕ, Ok, length, take, drop, IfOk, IfSome, OnOk, IsTrue};
+ghost use Rattle.std.specs.Prelude.{◌≡◌, ◌≤◌, ◌+◌, ◌-◌, ◌∷◌, ◌++◌, [], length, take, drop, IfOk, OnOk, IsTrue};
 ghost use Rattle.dp_model.specs.Evaluation.{count_of, table_counts, cells_of, cells_object, number_cell, truth_cell, set_cell, each_holds, num_value, set_value, cond_value};
 ghost use Rattle.bit_sets.specs.Sets.{members_of};
 ghost use Rattle.state_layout.specs.Signatures.{word_count};
@@ -21,7 +21,7 @@ use crate::cells::{
     write_word,
 };
 use crate::places::{place_of_one, place_of_two};
-use crate::rows::{met_in, sides_of};
+use crate::rows::held_along;
 use crate::sums::{first_of, one_member, sum_at, sum_held, sum_word};
 use dp_base::Seq;
 use dp_model::{Arg, Cond, FaultKind, Num, SetEx, SetOp};
@@ -468,48 +468,40 @@ fn all_hold(at: &Scene<'_>, range: Range, c: &Cond, stack: &mut [u64]) -> Result
         (λ k. cond_value at.now.model.now (state_in at.now.words.now) c.now (at.now.args.now ++ k ∷ []))
         (range_members (state_in at.now.words.now) range) }
 {
+    match held_along(at, range, c) {
+        Some(held) => Ok(held),
+        None => all_in_turn(at, range, c, stack),
+    }
+}
+
+/// The same, where the members are tested one after another.
+#[cycle(eval)]
+#[inline(never)]
+fn all_in_turn(at: &Scene<'_>, range: Range, c: &Cond, stack: &mut [u64]) -> Result<bool, FaultKind>
+    requires words { IsRange at.now.model.now range }
+    requires fits { IsTrue (more_fits (cond_fits at.now.model.now c.now) (length at.now.args.now) (length stack.old)) }
+    ensures { result ≡ each_holds
+        (λ k. cond_value at.now.model.now (state_in at.now.words.now) c.now (at.now.args.now ++ k ∷ []))
+        (range_members (state_in at.now.words.now) range) }
+{
     let (mine, rest) = stack.split_at_mut(at.args.len() + 1);
     start_more(at.args, mine);
-    let sides = sides_of(at, c);
     let mut from = 0;
     while let Some(member) = next_of(at, range, from) {
-        if !holds_with(at, member, met_in(&sides, member), c, mine, rest)? {
+        write_more(at.args, member, mine);
+        let there = Scene {
+            model: at.model,
+            tables: at.tables,
+            slots: at.slots,
+            words: at.words,
+            args: mine,
+        };
+        if !holds(&there, c, rest)? {
             return Ok(false);
         }
         from = member + 1;
     }
     Ok(true)
-}
-
-/// Whether a condition holds with a member as one more parameter, where that may be known. It is written behind the others.
-#[cycle(eval)]
-#[inline(always)]
-fn holds_with(
-    at: &Scene<'_>,
-    member: u32,
-    known: Option<bool>,
-    c: &Cond,
-    mine: &mut [u64],
-    stack: &mut [u64],
-) -> Result<bool, FaultKind>
-    requires known { IfSome known (λ held. cond_value at.now.model.now (state_in at.now.words.now) c.now (at.now.args.now ++ member ∷ []) ≡ Ok held) }
-    requires one_more { (k : ℕ) × (mine.old ≡ at.now.args.now ++ k ∷ []) }
-    requires fits { IsTrue (cond_fits at.now.model.now c.now (length at.now.args.now + 1) (length stack.old)) }
-    ensures value { result ≡ cond_value at.now.model.now (state_in at.now.words.now) c.now (at.now.args.now ++ member ∷ []) }
-    ensures one_more { (k : ℕ) × (mine.new ≡ at.now.args.now ++ k ∷ []) }
-{
-    if let Some(held) = known {
-        return Ok(held);
-    }
-    write_more(at.args, member, mine);
-    let there = Scene {
-        model: at.model,
-        tables: at.tables,
-        slots: at.slots,
-        words: at.words,
-        args: mine,
-    };
-    holds(&there, c, stack)
 }
 
 /// Whether a number is a member of a set.

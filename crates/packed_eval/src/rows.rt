@@ -1,18 +1,20 @@
 //! Comparisons along a row of a table, as the members of a `forall` see them: what is the same for each member is found
 //! once, and of each member only its cell is read.
 
-ghost use Rattle.std.specs.Prelude.{◌≡◌, ℕ, ◌+◌, ◌++◌, ◌∷◌, [], Ok, pos, length, ◌+ℤ◌, option_and_then, IfSome, IsTrue};
+ghost use Rattle.std.specs.Prelude.{◌≡◌, ℕ, ◌+◌, ◌++◌, ◌∷◌, [], Ok, pos, length, ◌+ℤ◌, IfSome, IsTrue};
 ghost use Rattle.std.specs.Result.{result_ok};
 ghost use Rattle.dp_model.specs.Costs.{ranged};
-ghost use Rattle.dp_model.specs.Evaluation.{num_value};
+ghost use Rattle.dp_model.specs.Evaluation.{num_value, cond_value, each_holds};
 ghost use Rattle.state_layout.specs.Packing.{state_in};
 ghost use Rattle.eval_room.specs.Fits.{num_fits, cond_fits, all_fit};
-ghost use Rattle.packed_eval.specs.declared.rows.Sides.{Sides};
-ghost use Rattle.packed_eval.specs.Rows.{sum_at, side_at, met_by, IsSideOf, IsSumOf, AreSidesOf, IsAlone, HasCells, IsRowOf, IsPart};
+ghost use Rattle.packed_words.specs.Ranges.{range_members, IsRange};
+ghost use Rattle.packed_eval.specs.Rows.{sum_at, side_at, met_by, all_met, IsSideOf, IsSumOf, AreSidesOf, IsAlone, HasCells, IsRowOf, IsPart};
 
 use dp_base::Seq;
 use dp_model::{Compare, Cond, Num, NumOp};
-use packed_words::{Scene, compares, counts, member_of, number_in, numbers_in, parameter};
+use packed_words::{
+    Range, Scene, compares, counts, member_of, next_of, number_in, numbers_in, parameter,
+};
 
 /// Every number of a model lies between the negative of this one and it.
 const GREATEST: i64 = 4_611_686_018_427_387_903;
@@ -34,10 +36,24 @@ pub struct Sides<'a> {
     pub right: Side<'a>,
 }
 
-/// The sides of a comparison whose members are one more parameter. `None` stands for a condition of another form, and for
-/// one with a part that no member could evaluate.
+/// Whether a condition holds with each of these members as one more parameter, up to the first where it does not. `None`
+/// stands for a condition of another form, for a row that has no cell for a member, and for a sum out of range.
 #[inline(always)]
-pub fn sides_of<'a>(at: &Scene<'a>, c: &Cond) -> Option<Sides<'a>>
+pub fn held_along(at: &Scene<'_>, range: Range, c: &Cond) -> Option<bool>
+    requires words { IsRange at.now.model.now range }
+    requires fits { (room : ℕ) × IsTrue (cond_fits at.now.model.now c.now (length at.now.args.now + 1) room) }
+    ensures { IfSome result (λ held. each_holds
+        (λ k. cond_value at.now.model.now (state_in at.now.words.now) c.now (at.now.args.now ++ k ∷ []))
+        (range_members (state_in at.now.words.now) range) ≡ Ok held) }
+{
+    let sides = sides_of(at, c)?;
+    all_met(at, range, &sides)
+}
+
+/// The sides of a comparison in which the member is one more parameter. `None` stands for a condition or a side of another
+/// form, and for a row that its table does not have whole.
+#[inline(always)]
+fn sides_of<'a>(at: &Scene<'a>, c: &Cond) -> Option<Sides<'a>>
     requires { (room : ℕ) × IsTrue (cond_fits at.now.model.now c.now (length at.now.args.now + 1) room) }
     ensures { IfSome result (λ sides. AreSidesOf at.now.model.now (state_in at.now.words.now) at.now.args.now c.now sides) }
 {
@@ -55,15 +71,20 @@ pub fn sides_of<'a>(at: &Scene<'a>, c: &Cond) -> Option<Sides<'a>>
     }
 }
 
-/// Whether a condition holds for a member, as far as sides say it.
-#[inline(always)]
-pub fn met_in(sides: &Option<Sides<'_>>, member: u32) -> Option<bool>
-    ensures { result ≡ option_and_then (λ (s : Sides). met_by s member) sides.now }
+/// Whether a comparison holds for each of these members, up to the first where it does not.
+#[inline(never)]
+fn all_met(at: &Scene<'_>, range: Range, sides: &Sides<'_>) -> Option<bool>
+    requires { IsRange at.now.model.now range }
+    ensures { result ≡ all_met sides.now (range_members (state_in at.now.words.now) range) }
 {
-    match sides {
-        Some(sides) => met_by(sides, member),
-        None => None,
+    let mut from = 0;
+    while let Some(member) = next_of(at, range, from) {
+        if !met_by(sides, member)? {
+            return Some(false);
+        }
+        from = member + 1;
     }
+    Some(true)
 }
 
 /// Whether a comparison holds for a member. `None` where a row has no cell for it, and where a sum is out of range.

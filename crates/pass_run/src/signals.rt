@@ -10,7 +10,7 @@ const LONGEST_SLEEP: u64 = 500;
 /// What the threads of a pass share beside the board and the mailboxes.
 #[derive(Drop)]
 pub struct Signals {
-    refused: AtomicU32,
+    refused: AtomicU64,
     sleepers: AtomicU32,
     news: AtomicU64,
 }
@@ -19,20 +19,20 @@ impl Signals {
     /// No start was refused, no thread sleeps, and there are no news.
     pub(crate) fn new() -> Signals {
         Signals {
-            refused: AtomicU32::new(u32::MAX),
+            refused: AtomicU64::new(u64::MAX),
             sleepers: AtomicU32::new(0),
             news: AtomicU64::new(0),
         }
     }
 
-    /// The start of a thread for this shard was refused.
-    pub(crate) fn refuse(&self, shard: u32) {
-        self.refused.store(shard, Ordering::SeqCst);
+    /// The start of a thread for the block at this place was refused.
+    pub(crate) fn refuse(&self, place: u64) {
+        self.refused.store(place, Ordering::SeqCst);
     }
 
-    /// Whether the start of a thread for this shard was refused.
-    pub(crate) fn is_refused(&self, shard: u32) -> bool {
-        self.refused.load(Ordering::SeqCst) == shard
+    /// Whether the start of a thread for the block at this place was refused.
+    pub(crate) fn is_refused(&self, place: u64) -> bool {
+        self.refused.load(Ordering::SeqCst) == place
     }
 
     /// A number that is another one once those who sleep were woken.

@@ -13,7 +13,6 @@ use Rattle.eval_room.specs.Fits.{all_fit, num_fits, set_fits, operand_fits, term
 use Rattle.packed_words.specs.Places.{member_on}
 use Rattle.packed_words.specs.Ranges.{range_members}
 use Rattle.packed_words.specs.Sets.{members_from}
-use Rattle.packed_eval.proofs.Sides.{known_told}
 use Rattle.packed_eval.proofs.Foralls.{all_is, all_step, from_start}
 use Rattle.packed_eval.proofs.Arguments.{fit_at, place_fault, place_step, set_cell_tells}
 use Rattle.packed_words.specs.Totals.{arg_value, sum_value}
@@ -153,23 +152,16 @@ holds-returns-in-All t c =
     let p : conds.out-Cond c.args.e.now ≡ conds.Cond-F.All c.in-All.over c.get-in-All.result.now = search (rules, conds.the_lemmas) in
     all_is c.args.at.now.model.now (state_in c.args.at.now.words.now) c.in-All.over c.args.e.now c.get-in-All.result.now c.args.at.now.args.now _ c.all_hold.result p c.range_of.ensures.value c.all_hold.ensures
 
-pub all_hold-sides_of-sides-requires : goal.all_hold-sides_of-sides-requires
-all_hold-sides_of-sides-requires t c =
+pub all_hold-held_along-requires-clause-fits : goal.all_hold-held_along-requires-clause-fits
+all_hold-held_along-requires-clause-fits t c =
     (length c.args.stack.now - (length c.args.at.now.args.now + 1), (more_parts c.args.at.now.model.now (length c.args.at.now.args.now) (length c.args.stack.now) c.args.c.now c.requires.fits).1)
 
-pub all_hold-holds_with-requires : goal.all_hold-holds_with-requires
-all_hold-holds_with-requires t c =
-    let known = known_told c.args.at.now.model.now (state_in c.args.at.now.words.now) c.args.at.now.args.now c.args.c.now c.sides_of-sides.result c.in-Some.member c.met_in.result c.met_in.ensures c.sides_of-sides.ensures in
-    let parts = more_parts c.args.at.now.model.now (length c.args.at.now.args.now) (length c.args.stack.now) c.args.c.now c.requires.fits in
-    let one = c.loop-member.invariant.one_more in
-    (search (rules, args.the_lemmas, conds.the_lemmas, nums.the_lemmas, sets.the_lemmas), search (rules, known, one, parts.0, parts.1))
-
-pub all_hold-loop-member-preserved : goal.all_hold-loop-member-preserved
-all_hold-loop-member-preserved t c =
+pub all_in_turn-loop-member-preserved : goal.all_in_turn-loop-member-preserved
+all_in_turn-loop-member-preserved t c =
     let held : cond_value c.args.at.now.model.now (state_in c.args.at.now.words.now) c.args.c.now (c.args.at.now.args.now ++ c.in-Some.member ∷ []) ≡ Ok true = search rules in
     record {
       left = all_step (λ k. cond_value c.args.at.now.model.now (state_in c.args.at.now.words.now) c.args.c.now (c.args.at.now.args.now ++ k ∷ [])) (λ from. members_from from (range_members (state_in c.args.at.now.words.now) c.args.range)) c.loop-member.from c.in-Some.member c.in-Some.ensures.value held ∙ c.loop-member.invariant.left;
-      one_more = c.holds_with.ensures.one_more;
+      one_more = (c.in-Some.member, search rules);
       within = omega (arith, c.in-Some.ensures.below.1);
     }
 
@@ -187,8 +179,8 @@ set_wide-returns-in_ok-z-in-Without-clause-members t c =
     let fits : FitsSigned w64 c.in_ok-z-in-Without.z = search rules in
     without_answers c.args.at.now.model.now (state_in c.args.at.now.words.now) c.args.at.now.args.now _ c.without_member.result c.args.count c.args.e.now c.get-in-Without.result.now c.get-in-Without-2.result.now c.in_ok-z-in-Without.z p c.requires.count (search rules) (rw (to_z-of_z w64 c.in_ok-z-in-Without.z fits) at c.without_member.ensures.members)
 
-pub all_hold-loop-member-init : goal.all_hold-loop-member-init
-all_hold-loop-member-init t c = record {
+pub all_in_turn-loop-member-init : goal.all_in_turn-loop-member-init
+all_in_turn-loop-member-init t c = record {
   left = ap (each_holds (λ k. cond_value c.args.at.now.model.now (state_in c.args.at.now.words.now) c.args.c.now (c.args.at.now.args.now ++ k ∷ []))) (from_start (range_members (state_in c.args.at.now.words.now) c.args.range));
   one_more = (0, search rules);
   within = omega arith;

@@ -16,16 +16,16 @@ invariant-place_of_all-loop-n l =
     placed_from l.left (num_values l.at.model.now (state_in l.at.words.now) (drop l.n-index l.n-items) l.at.args.now) l.led
     ≡ placed_at (table_counts l.at.model.now l.t) (num_values l.at.model.now (state_in l.at.words.now) l.n-items l.at.args.now)
 
-abbrev pub invariant-all_hold-loop-member : goal.invariant-all_hold-loop-member
-invariant-all_hold-loop-member l = record {
+abbrev pub invariant-all_in_turn-loop-member : goal.invariant-all_in_turn-loop-member
+invariant-all_in_turn-loop-member l = record {
   left : each_holds (λ k. cond_value l.at.model.now (state_in l.at.words.now) l.c (l.at.args.now ++ k ∷ [])) (members_from l.from (range_members (state_in l.at.words.now) l.range))
       ≡ each_holds (λ k. cond_value l.at.model.now (state_in l.at.words.now) l.c (l.at.args.now ++ k ∷ [])) (range_members (state_in l.at.words.now) l.range);
   one_more : (k : ℕ) × (l.mine ≡ l.at.args.now ++ k ∷ []);
   within : l.from ≤ 8192;
 }
 
-abbrev pub decreases-all_hold-loop-member : goal.decreases-all_hold-loop-member
-decreases-all_hold-loop-member l = 8192 - l.from
+abbrev pub decreases-all_in_turn-loop-member : goal.decreases-all_in_turn-loop-member
+decreases-all_in_turn-loop-member l = 8192 - l.from
 
 -- the sets so far lie one behind another, and give the sum with what is left
 abbrev pub invariant-sum_all-loop-e : goal.invariant-sum_all-loop-e

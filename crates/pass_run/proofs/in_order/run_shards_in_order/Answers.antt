@@ -25,7 +25,7 @@ begun g c some =
 -- after the last one
 turned : (g : Over) (c : After-turn_all g) (some : 1 ≤ c.args.options.now.workers) → KeepAll (pass_of c.args.model.now c.args.options.now c.args.share some) c.args.board.now c.in-Ok.crew.boxes.items c.in-Ok.crew.turners.items c.in-Ok-split_seats.seats.items → KeepAll (pass_of c.args.model.now c.args.options.now c.args.share some) c.args.board.now c.in-Ok.crew.boxes.items c.turn_all.new.turners.items c.turn_all.new.seats.items
 turned g c some first =
-    c.turn_all.ensures.keep (pass_of c.args.model.now c.args.options.now c.args.share some) c.args.options.now.workers (record { law = c.requires.law; covering = c.requires.covering; prune_is = c.requires.prune }) first
+    c.turn_all.ensures.keep (pass_of c.args.model.now c.args.options.now c.args.share some) 0 c.args.options.now.workers (record { law = c.requires.law; covering = c.requires.covering; prune_is = c.requires.prune }) first
 
 over : (g : Over) (c : After-gather-left g) (some : 1 ≤ c.args.options.now.workers) → KeepAll (pass_of c.args.model.now c.args.options.now c.args.share some) c.args.board.now c.in-Ok.crew.boxes.items c.turn_all.new.turners.items c.turn_all.new.seats.items
     → IsOver (pass_of c.args.model.now c.args.options.now c.args.share some) c.args.options.now.budget c.visits_so_far-before.result c.args.seat.now.view c.gather-left.new.seat.view c.turn_all.new.seats.items c.gather-left.result.ends.items c.gather-left.result.logs.items
@@ -50,7 +50,7 @@ returns-in_default-split_seats-clause-answer g c = λ some.
 pub turn_all-requires-after_bounds : goal.turn_all-requires-after_bounds
 turn_all-requires-after_bounds g c κs within =
     let some = c.requires.options.some_workers in
-    (pass_of c.args.model.now c.args.options.now c.args.share some, c.args.options.now.workers, record { law = c.requires.law; covering = c.requires.covering; prune_is = c.requires.prune }, begun g (goal.at.turn_all-requires-after_bounds g c).In-Ok-split_seats some)
+    (pass_of c.args.model.now c.args.options.now c.args.share some, 0, c.args.options.now.workers, record { law = c.requires.law; covering = c.requires.covering; prune_is = c.requires.prune }, begun g (goal.at.turn_all-requires-after_bounds g c).In-Ok-split_seats some)
 
 pub gather-left-requires-clause-keep : goal.gather-left-requires-clause-keep
 gather-left-requires-clause-keep g c =
