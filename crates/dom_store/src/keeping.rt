@@ -16,6 +16,7 @@ use crate::glance::Glance;
 use crate::places::{covers_at, covers_in_chain, put_node};
 use crate::rising::raise_long;
 use crate::stairs::Stairs;
+use dp_base::Boxed;
 use state_layout::{Layout, Node};
 use std::alloc::AllocError;
 
@@ -33,11 +34,11 @@ pub(crate) fn add_node<K: Covers>(
     one_resource: bool,
     chains: &mut Chains,
     stairs: &mut Stairs,
-    places: &mut Vec<Option<Node>>,
+    places: &mut Vec<Option<Boxed<Node>>>,
     glances: &mut Vec<Glance>,
     count: &mut usize,
-    node: Node,
-) -> Result<Added, Node>
+    node: Boxed<Node>,
+) -> Result<Added, Boxed<Node>>
     requires kept { IsKept K.prune K.minimize K.operator layout.now (row_in chains.old.newest chains.old.older.items) (length chains.old.older.items) places.old.items glances.old.items count.old }
     requires steps { AreSteps K.prune K.minimize K.operator layout.now stairs.old.row stairs.old.steps places.old.items }
     requires node { IsNodeFor layout.now node }
@@ -47,10 +48,11 @@ pub(crate) fn add_node<K: Covers>(
     ensures nodes { OnOk result (nodes_of places.new.items ≡ (if is_covered (covers K.prune K.minimize K.operator layout.now) (nodes_of places.old.items) node then nodes_of places.old.items else with_node (covers K.prune K.minimize K.operator layout.now) (nodes_of places.old.items) node)) }
     ensures err { IfErr result (λ back. (back ≡ node) × (nodes_of places.new.items ≡ nodes_of places.old.items)) }
 {
-    let key = K::key(layout, &node);
-    let glance = K::glance(layout, &node);
+    let seen = node.get();
+    let key = K::key(layout, seen);
+    let glance = K::glance(layout, seen);
     let Some(covering) = covers_by_steps::<K>(
-        layout, chains, stairs, places, glances, &node, key, glance,
+        layout, chains, stairs, places, glances, seen, key, glance,
     ) else {
         return Ok(Added::Covered);
     };
@@ -66,7 +68,7 @@ pub(crate) fn add_node<K: Covers>(
 fn covers_held<K: Covers>(
     layout: &Layout,
     chains: &Chains,
-    places: &[Option<Node>],
+    places: &[Option<Boxed<Node>>],
     glances: &[Glance],
     node: &Node,
     key: u64,
@@ -90,7 +92,7 @@ fn covers_by_steps<K: Covers>(
     layout: &Layout,
     chains: &Chains,
     stairs: &Stairs,
-    places: &[Option<Node>],
+    places: &[Option<Boxed<Node>>],
     glances: &[Glance],
     node: &Node,
     key: u64,
@@ -123,13 +125,13 @@ fn keep_node<K: Covers>(
     layout: &Layout,
     chains: &mut Chains,
     stairs: &mut Stairs,
-    places: &mut Vec<Option<Node>>,
+    places: &mut Vec<Option<Boxed<Node>>>,
     glances: &mut Vec<Glance>,
     covering: bool,
-    node: Node,
+    node: Boxed<Node>,
     key: u64,
     glance: Glance,
-) -> Result<usize, Node>
+) -> Result<usize, Boxed<Node>>
     requires node { IsNodeFor layout.now node }
     requires key { key ≡ key_of K.prune layout.now node }
     requires glance { IsGlanceOf K.minimize K.operator layout.now node glance }
@@ -160,7 +162,7 @@ fn keep_node<K: Covers>(
 // a new place without a node, with this glance, which stands first in the chain of the key
 fn open_place(
     chains: &mut Chains,
-    places: &mut Vec<Option<Node>>,
+    places: &mut Vec<Option<Boxed<Node>>>,
     glances: &mut Vec<Glance>,
     key: u64,
     glance: Glance,
@@ -183,7 +185,7 @@ fn open_place(
 }
 
 // appends a place without a node and its glance, where there is room for them, so that neither fails
-fn push_within(places: &mut Vec<Option<Node>>, glances: &mut Vec<Glance>, glance: Glance)
+fn push_within(places: &mut Vec<Option<Boxed<Node>>>, glances: &mut Vec<Glance>, glance: Glance)
     requires places { vec_len places.old < vec_capacity places.old }
     requires glances { vec_len glances.old < vec_capacity glances.old }
     ensures places { places.new.items ≡ places.old.items ++ None ∷ [] }

@@ -15,6 +15,7 @@ use crate::chains::Chains;
 use crate::covers::Covers;
 use crate::glance::{Glance, may_be_covered_at, may_cover_at};
 use crate::stairs::Stairs;
+use dp_base::Boxed;
 use state_layout::{Layout, Node};
 
 /// Whether the node with this glance covers one at the places of a chain, from this one on; `None` where one of these covers it.
@@ -22,7 +23,7 @@ use state_layout::{Layout, Node};
 pub(crate) fn covers_in_chain<K: Covers>(
     layout: &Layout,
     chains: &Chains,
-    places: &[Option<Node>],
+    places: &[Option<Boxed<Node>>],
     glances: &[Glance],
     newest: Option<usize>,
     node: &Node,
@@ -58,7 +59,7 @@ fn either(a: bool, b: bool) -> bool
 /// Whether the node at a place covers the node with this glance.
 pub(crate) fn covers_at<K: Covers>(
     layout: &Layout,
-    places: &[Option<Node>],
+    places: &[Option<Boxed<Node>>],
     glances: &[Glance],
     place: usize,
     node: &Node,
@@ -77,7 +78,7 @@ pub(crate) fn covers_at<K: Covers>(
         return false;
     }
     match &places[place] {
-        Some(held) => K::covers(layout, held, node),
+        Some(held) => K::covers(layout, held.get(), node),
         None => false,
     }
 }
@@ -87,7 +88,7 @@ pub(crate) fn covers_at<K: Covers>(
 fn clear_covered<K: Covers>(
     layout: &Layout,
     chains: &mut Chains,
-    places: &mut Vec<Option<Node>>,
+    places: &mut Vec<Option<Boxed<Node>>>,
     glances: &[Glance],
     place: usize,
     node: &Node,
@@ -121,7 +122,7 @@ fn clear_if<K: Covers>(
     layout: &Layout,
     chains: &mut Chains,
     stairs: &mut Stairs,
-    places: &mut Vec<Option<Node>>,
+    places: &mut Vec<Option<Boxed<Node>>>,
     glances: &[Glance],
     covering: bool,
     place: usize,
@@ -157,7 +158,7 @@ fn clear_row<K: Covers>(
     layout: &Layout,
     chains: &mut Chains,
     stairs: &mut Stairs,
-    places: &mut Vec<Option<Node>>,
+    places: &mut Vec<Option<Boxed<Node>>>,
     glances: &[Glance],
     place: usize,
     node: &Node,
@@ -190,7 +191,7 @@ fn clear_row<K: Covers>(
 fn clear_steps<K: Covers>(
     layout: &Layout,
     stairs: &mut Stairs,
-    places: &mut Vec<Option<Node>>,
+    places: &mut Vec<Option<Boxed<Node>>>,
     glances: &[Glance],
     node: &Node,
     key: u64,
@@ -223,7 +224,7 @@ fn clear_steps<K: Covers>(
 // whether a node was there that the node covers; it is gone then
 fn clear_at<K: Covers>(
     layout: &Layout,
-    places: &mut Vec<Option<Node>>,
+    places: &mut Vec<Option<Boxed<Node>>>,
     glances: &[Glance],
     place: usize,
     node: &Node,
@@ -248,7 +249,7 @@ fn clear_at<K: Covers>(
 // whether the node with this glance covers the one at a place
 fn is_covered_at<K: Covers>(
     layout: &Layout,
-    places: &[Option<Node>],
+    places: &[Option<Boxed<Node>>],
     glances: &[Glance],
     place: usize,
     node: &Node,
@@ -268,7 +269,7 @@ fn is_covered_at<K: Covers>(
         return false;
     }
     match &places[place] {
-        Some(held) => K::covers(layout, node, held),
+        Some(held) => K::covers(layout, node, held.get()),
         None => false,
     }
 }
@@ -279,11 +280,11 @@ pub(crate) fn put_node<K: Covers>(
     layout: &Layout,
     chains: &mut Chains,
     stairs: &mut Stairs,
-    places: &mut Vec<Option<Node>>,
+    places: &mut Vec<Option<Boxed<Node>>>,
     glances: &[Glance],
     covering: bool,
     place: usize,
-    node: Node,
+    node: Boxed<Node>,
     key: u64,
     glance: Glance,
 ) -> usize
@@ -304,7 +305,16 @@ pub(crate) fn put_node<K: Covers>(
     ensures links { length chains.new.older.items ≡ length chains.old.older.items }
 {
     let gone = clear_if::<K>(
-        layout, chains, stairs, places, glances, covering, place, &node, key, glance,
+        layout,
+        chains,
+        stairs,
+        places,
+        glances,
+        covering,
+        place,
+        node.get(),
+        key,
+        glance,
     );
     stairs.add(key, glance, place);
     places[place] = Some(node);
