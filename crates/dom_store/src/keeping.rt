@@ -1,6 +1,7 @@
 //! A node is added to the places of a store.
 
 ghost use Rattle.std.specs.Prelude.{◌≡◌, ℕ, ◌<◌, ◌+◌, ◌++◌, ◌∷◌, [], true, false, length, vec_len, vec_capacity, if◌then◌else◌, None, IfNone, IfSome, IfOk, OnOk, IfErr, OnErr};
+ghost use Rattle.dp_claims.specs.Enough.{Has};
 ghost use Rattle.state_layout.specs.Conditions.{IsNodeFor};
 ghost use Rattle.state_layout.specs.declared.node.Node.{Node};
 ghost use Rattle.dom_store.specs.Chains.{older_at, chain_from, row_in};
@@ -39,10 +40,10 @@ pub(crate) fn add_node<K: Covers>(
     count: &mut usize,
     node: Boxed<Node>,
 ) -> Result<Added, Boxed<Node>>
-    requires kept { IsKept K.prune K.minimize K.operator layout.now (row_in chains.old.newest chains.old.older.items) (length chains.old.older.items) places.old.items glances.old.items count.old }
+    requires kept { IsKept K.prune K.minimize K.operator layout.now (row_in chains.old.heads.items chains.old.older.items chains.old.keys.items) (length chains.old.older.items) places.old.items glances.old.items count.old }
     requires steps { AreSteps K.prune K.minimize K.operator layout.now stairs.old.row stairs.old.steps places.old.items }
     requires node { IsNodeFor layout.now node }
-    ensures kept { IsKept K.prune K.minimize K.operator layout.now (row_in chains.new.newest chains.new.older.items) (length chains.new.older.items) places.new.items glances.new.items count.new }
+    ensures kept { IsKept K.prune K.minimize K.operator layout.now (row_in chains.new.heads.items chains.new.older.items chains.new.keys.items) (length chains.new.older.items) places.new.items glances.new.items count.new }
     ensures steps { AreSteps K.prune K.minimize K.operator layout.now stairs.new.row stairs.new.steps places.new.items }
     ensures answer { IfOk result (λ added. added ≡ (if is_covered (covers K.prune K.minimize K.operator layout.now) (nodes_of places.old.items) node then Added.Covered else Added.Kept)) }
     ensures nodes { OnOk result (nodes_of places.new.items ≡ (if is_covered (covers K.prune K.minimize K.operator layout.now) (nodes_of places.old.items) node then nodes_of places.old.items else with_node (covers K.prune K.minimize K.operator layout.now) (nodes_of places.old.items) node)) }
@@ -75,7 +76,7 @@ fn covers_held<K: Covers>(
     glance: Glance,
 ) -> Option<bool>
     requires node { IsNodeFor layout.now node.now }
-    requires filed { AreFiled (key_of K.prune layout.now) layout.now (row_in chains.now.newest chains.now.older.items) places.now }
+    requires filed { AreFiled (key_of K.prune layout.now) layout.now (row_in chains.now.heads.items chains.now.older.items chains.now.keys.items) places.now }
     requires glanced { AreGlanced K.minimize K.operator layout.now places.now glances.now }
     requires key { key ≡ key_of K.prune layout.now node.now }
     requires glance { IsGlanceOf K.minimize K.operator layout.now node.now glance }
@@ -99,7 +100,7 @@ fn covers_by_steps<K: Covers>(
     glance: Glance,
 ) -> Option<bool>
     requires node { IsNodeFor layout.now node.now }
-    requires filed { AreFiled (key_of K.prune layout.now) layout.now (row_in chains.now.newest chains.now.older.items) places.now }
+    requires filed { AreFiled (key_of K.prune layout.now) layout.now (row_in chains.now.heads.items chains.now.older.items chains.now.keys.items) places.now }
     requires glanced { AreGlanced K.minimize K.operator layout.now places.now glances.now }
     requires steps { AreSteps K.prune K.minimize K.operator layout.now stairs.now.row stairs.now.steps places.now }
     requires key { key ≡ key_of K.prune layout.now node.now }
@@ -135,7 +136,7 @@ fn keep_node<K: Covers>(
     requires node { IsNodeFor layout.now node }
     requires key { key ≡ key_of K.prune layout.now node }
     requires glance { IsGlanceOf K.minimize K.operator layout.now node glance }
-    requires filed { AreFiled (key_of K.prune layout.now) layout.now (row_in chains.old.newest chains.old.older.items) places.old.items }
+    requires filed { AreFiled (key_of K.prune layout.now) layout.now (row_in chains.old.heads.items chains.old.older.items chains.old.keys.items) places.old.items }
     requires glanced { AreGlanced K.minimize K.operator layout.now places.old.items glances.old.items }
     requires level { length glances.old.items ≡ length places.old.items }
     requires linked { length chains.old.older.items ≡ length places.old.items }
@@ -144,7 +145,7 @@ fn keep_node<K: Covers>(
     ensures nodes { OnOk result (nodes_of places.new.items ≡ with_node (covers K.prune K.minimize K.operator layout.now) (nodes_of places.old.items) node) }
     ensures counted { IfOk result (λ gone. length (nodes_of places.new.items) + gone ≡ length (nodes_of places.old.items) + 1) }
     ensures err { IfErr result (λ back. (back ≡ node) × (places.new.items ≡ places.old.items)) }
-    ensures filed { AreFiled (key_of K.prune layout.now) layout.now (row_in chains.new.newest chains.new.older.items) places.new.items }
+    ensures filed { AreFiled (key_of K.prune layout.now) layout.now (row_in chains.new.heads.items chains.new.older.items chains.new.keys.items) places.new.items }
     ensures glanced { AreGlanced K.minimize K.operator layout.now places.new.items glances.new.items }
     ensures steps { AreSteps K.prune K.minimize K.operator layout.now stairs.new.row stairs.new.steps places.new.items }
     ensures level { length glances.new.items ≡ length places.new.items }
@@ -159,7 +160,7 @@ fn keep_node<K: Covers>(
     ))
 }
 
-// a new place without a node, with this glance, which stands first in the chain of the key
+// a new place without a node, with this glance, which stands in the row of the key, before its others
 fn open_place(
     chains: &mut Chains,
     places: &mut Vec<Option<Boxed<Node>>>,
@@ -167,14 +168,13 @@ fn open_place(
     key: u64,
     glance: Glance,
 ) -> Result<(), AllocError>
-    ensures left { OnOk result (chain_from chains.new.older.items (older_at chains.new.older.items (length chains.old.older.items)) ≡ row_in chains.old.newest chains.old.older.items key) }
-    ensures row { OnOk result (row_in chains.new.newest chains.new.older.items key ≡ length chains.old.older.items ∷ row_in chains.old.newest chains.old.older.items key) }
-    ensures others { OnOk result ((k : ℕ) → (key ≡ k → ⊥) → row_in chains.new.newest chains.new.older.items k ≡ row_in chains.old.newest chains.old.older.items k) }
+    ensures left { OnOk result ((p : ℕ) → Has (row_in chains.old.heads.items chains.old.older.items chains.old.keys.items key) p → Has (chain_from chains.new.older.items (older_at chains.new.older.items (length chains.old.older.items))) p) }
+    ensures first { OnOk result (Has (row_in chains.new.heads.items chains.new.older.items chains.new.keys.items key) (length chains.old.older.items)) }
+    ensures rows { (k : ℕ) (p : ℕ) → Has (row_in chains.old.heads.items chains.old.older.items chains.old.keys.items k) p → Has (row_in chains.new.heads.items chains.new.older.items chains.new.keys.items k) p }
     ensures linked { OnOk result (length chains.new.older.items ≡ length chains.old.older.items + 1) }
     ensures places { OnOk result (places.new.items ≡ places.old.items ++ None ∷ []) }
     ensures glances { OnOk result (glances.new.items ≡ glances.old.items ++ glance ∷ []) }
     ensures err { OnErr result ((places.new.items ≡ places.old.items) × (glances.new.items ≡ glances.old.items)) }
-    ensures err_rows { OnErr result ((k : ℕ) → row_in chains.new.newest chains.new.older.items k ≡ row_in chains.old.newest chains.old.older.items k) }
     ensures err_linked { OnErr result (length chains.new.older.items ≡ length chains.old.older.items) }
 {
     places.reserve(1)?;

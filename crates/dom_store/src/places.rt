@@ -101,7 +101,7 @@ fn clear_covered<K: Covers>(
     requires glance { IsGlanceOf K.minimize K.operator layout.now node.now glance }
     ensures places { places.new.items ≡ fold (cleared (λ (held : Node). covers K.prune K.minimize K.operator layout.now node.now held)) places.old.items (chain_from chains.old.older.items (older_at chains.old.older.items place)) }
     ensures counted { length (nodes_of places.new.items) + result ≡ length (nodes_of places.old.items) }
-    ensures rows { KeepsRows (row_in chains.old.newest chains.old.older.items) (row_in chains.new.newest chains.new.older.items) place places.new.items }
+    ensures rows { KeepsRows (row_in chains.old.heads.items chains.old.older.items chains.old.keys.items) (row_in chains.new.heads.items chains.new.older.items chains.new.keys.items) place places.new.items }
     ensures links { length chains.new.older.items ≡ length chains.old.older.items }
 {
     let mut gone = 0;
@@ -141,7 +141,7 @@ fn clear_if<K: Covers>(
     requires complete { (p : ℕ) (n : Node) → StandsAt places.old.items p n → covers K.prune K.minimize K.operator layout.now node.now n ≡ true → Has (chain_from chains.old.older.items (older_at chains.old.older.items place)) p }
     ensures places { places.new.items ≡ fold (cleared (λ (held : Node). covers K.prune K.minimize K.operator layout.now node.now held)) places.old.items (chain_from chains.old.older.items (older_at chains.old.older.items place)) }
     ensures counted { length (nodes_of places.new.items) + result ≡ length (nodes_of places.old.items) }
-    ensures rows { KeepsRows (row_in chains.old.newest chains.old.older.items) (row_in chains.new.newest chains.new.older.items) place places.new.items }
+    ensures rows { KeepsRows (row_in chains.old.heads.items chains.old.older.items chains.old.keys.items) (row_in chains.new.heads.items chains.new.older.items chains.new.keys.items) place places.new.items }
     ensures steps { AreSteps K.prune K.minimize K.operator layout.now stairs.new.row stairs.new.steps places.new.items }
     ensures links { length chains.new.older.items ≡ length chains.old.older.items }
 {
@@ -175,7 +175,7 @@ fn clear_row<K: Covers>(
     requires complete { (p : ℕ) (n : Node) → StandsAt places.old.items p n → covers K.prune K.minimize K.operator layout.now node.now n ≡ true → Has (chain_from chains.old.older.items (older_at chains.old.older.items place)) p }
     ensures places { places.new.items ≡ fold (cleared (λ (held : Node). covers K.prune K.minimize K.operator layout.now node.now held)) places.old.items (chain_from chains.old.older.items (older_at chains.old.older.items place)) }
     ensures counted { length (nodes_of places.new.items) + result ≡ length (nodes_of places.old.items) }
-    ensures rows { KeepsRows (row_in chains.old.newest chains.old.older.items) (row_in chains.new.newest chains.new.older.items) place places.new.items }
+    ensures rows { KeepsRows (row_in chains.old.heads.items chains.old.older.items chains.old.keys.items) (row_in chains.new.heads.items chains.new.older.items chains.new.keys.items) place places.new.items }
     ensures steps { AreSteps K.prune K.minimize K.operator layout.now stairs.new.row stairs.new.steps places.new.items }
     ensures links { length chains.new.older.items ≡ length chains.old.older.items }
 {
@@ -300,7 +300,7 @@ pub(crate) fn put_node<K: Covers>(
     requires complete { (p : ℕ) (n : Node) → StandsAt places.old.items p n → covers K.prune K.minimize K.operator layout.now node n ≡ true → Has (chain_from chains.old.older.items (older_at chains.old.older.items place)) p }
     ensures places { places.new.items ≡ slice_set (fold (cleared (λ (held : Node). covers K.prune K.minimize K.operator layout.now node held)) places.old.items (chain_from chains.old.older.items (older_at chains.old.older.items place))) place (Some node) }
     ensures counted { length (nodes_of places.new.items) + result ≡ length (nodes_of places.old.items) + 1 }
-    ensures rows { KeepsRows (row_in chains.old.newest chains.old.older.items) (row_in chains.new.newest chains.new.older.items) place places.new.items }
+    ensures rows { KeepsRows (row_in chains.old.heads.items chains.old.older.items chains.old.keys.items) (row_in chains.new.heads.items chains.new.older.items chains.new.keys.items) place places.new.items }
     ensures steps { AreSteps K.prune K.minimize K.operator layout.now stairs.new.row stairs.new.steps places.new.items }
     ensures links { length chains.new.older.items ≡ length chains.old.older.items }
 {

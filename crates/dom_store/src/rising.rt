@@ -53,7 +53,7 @@ pub(crate) fn raise_long<K: Covers>(
     glances: &[Glance],
     key: u64,
 )
-    requires filed { AreFiled (key_of K.prune layout.now) layout.now (row_in chains.now.newest chains.now.older.items) places.now }
+    requires filed { AreFiled (key_of K.prune layout.now) layout.now (row_in chains.now.heads.items chains.now.older.items chains.now.keys.items) places.now }
     requires glanced { AreGlanced K.minimize K.operator layout.now places.now glances.now }
     requires steps { AreSteps K.prune K.minimize K.operator layout.now stairs.old.row stairs.old.steps places.now }
     ensures { AreSteps K.prune K.minimize K.operator layout.now stairs.new.row stairs.new.steps places.now }
@@ -85,7 +85,7 @@ fn raise<K: Covers>(
     glances: &[Glance],
     key: u64,
 )
-    requires filed { AreFiled (key_of K.prune layout.now) layout.now (row_in chains.now.newest chains.now.older.items) places.now }
+    requires filed { AreFiled (key_of K.prune layout.now) layout.now (row_in chains.now.heads.items chains.now.older.items chains.now.keys.items) places.now }
     requires glanced { AreGlanced K.minimize K.operator layout.now places.now glances.now }
     ensures { AreSteps K.prune K.minimize K.operator layout.now stairs.new.row stairs.new.steps places.now }
 {

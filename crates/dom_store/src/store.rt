@@ -50,7 +50,7 @@ impl<K: Covers> Model for DomStore<K> {
 
     ghost view = { λ s. record { layout = s.layout; nodes = nodes_of s.places.items } };
 
-    ghost invariant = { λ s. IsKept K.prune K.minimize K.operator s.layout (row_in s.chains.newest s.chains.older.items) (length s.chains.older.items) s.places.items s.glances.items s.count × AreSteps K.prune K.minimize K.operator s.layout s.stairs.row s.stairs.steps s.places.items };
+    ghost invariant = { λ s. IsKept K.prune K.minimize K.operator s.layout (row_in s.chains.heads.items s.chains.older.items s.chains.keys.items) (length s.chains.older.items) s.places.items s.glances.items s.count × AreSteps K.prune K.minimize K.operator s.layout s.stairs.row s.stairs.steps s.places.items };
 }
 
 impl<K: Covers> DomStore<K> {
