@@ -1,5 +1,6 @@
 //! Letters: states for the next layer, and the marks that end a layer.
 
+use dp_base::Boxed;
 use state_layout::Node;
 
 /// What a shard sends to a shard: the node of a state of a layer, or the mark that ends a layer. A mark tells how many
@@ -9,7 +10,7 @@ pub enum Letter {
     State {
         from: u32,
         layer: u64,
-        node: Node,
+        node: Boxed<Node>,
     },
     Mark {
         from: u32,

@@ -1,6 +1,7 @@
 //! What a shard's pass was: the data of the definitions.
 
 use crate::mail::Letter;
+use dp_base::Boxed;
 use dp_model::{FaultKind, Seq, Spot};
 use path_log::StepId;
 use state_layout::Node;
@@ -30,7 +31,7 @@ pub struct Visit {
 #[derive(Debug, Drop)]
 pub struct Unsent {
     pub to: u32,
-    pub node: Node,
+    pub node: Boxed<Node>,
 }
 
 /// A solution that is held: its cost, and the visit and the ground transition that led to its base state.

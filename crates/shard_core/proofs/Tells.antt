@@ -184,6 +184,9 @@ module _ {A B : Type 0} where
     λ ready. h.1 (subst (λ (xs : List ℕ). (j : ℕ) → j < length xs → s.layer < get_or xs j 1) (sym e) (past_all p s r st ready)),
   )
 
+  pub never_past : (p : Pass) (s : Shard A B) (r : ShardRecord) → Stands p s r → (layers : List ℕ) → layers ≡ s.open_layers.items → (IsTrue false ↔ ((j : ℕ) → j < length layers → s.layer < get_or layers j 1)) → IsTrue false ↔ IsReady p s.me r
+  never_past p s r st layers e h = is_never (IsReady p s.me r) (λ ready. (let no : false ≡ true = h.1 (subst (λ (xs : List ℕ). (j : ℕ) → j < length xs → s.layer < get_or xs j 1) (sym e) (past_all p s r st ready)) in cc))
+
   pub by_calm : (p : Pass) (s : Shard A B) (r : ShardRecord) → Stands p s r → IsReady p s.me r → 0 < s.layer → (b : Bool) (layers : List (Layer B)) → layers ≡ s.collected.items → b ≡ busy_at layers 0 → IsTrue (not b) ↔ Done p s.me r
   by_calm p s r st ready pos b layers e is = (
     λ t. is_done p s r st ready pos (sym at ∙ not-true b t),

@@ -73,6 +73,9 @@ all_at P (y ∷ xs) all x zero e = subst P (some_is e) (all zero x (omega arith)
     some_is e = cc
 all_at P (y ∷ xs) all x (suc k) e = all_at P xs (λ k d lt. all (suc k) d (omega (arith, lt))) x k e
 
+pub first_is : {A : Type 0} {xs : List A} {x y : A} (rest : List A) → xs ≡ y ∷ rest → x ≡ y → xs ≡ x ∷ rest
+first_is rest e same = e ∙ ap (λ (z : _). z ∷ rest) (sym same)
+
 pub all_has : {A : Type 0} (P : A → Type 0) (xs : List A) → All P xs → (x : A) → Has xs x → P x
 all_has P xs all x h = all_at P xs all x h.0 h.1
 

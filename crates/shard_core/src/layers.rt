@@ -4,12 +4,14 @@ ghost use Rattle.std.specs.Prelude.{◌≡◌, ℕ, ◌+◌, ◌<◌, true, fals
 ghost use Rattle.cost_laws.specs.Orders.{InWideRange, IsLawOf};
 ghost use Rattle.dp_claims.specs.Enough.{Has};
 ghost use Rattle.state_layout.specs.Conditions.{IsLayoutOf, IsNodeFor};
+ghost use Rattle.state_layout.specs.declared.layout.Layout.{Layout};
 ghost use Rattle.state_layout.specs.declared.node.Node.{Node};
 ghost use Rattle.pass_ledger.specs.Passes.{Pass};
 ghost use Rattle.shard_core.specs.Layers.{nodes_at, busy_at, AreOf, Merges, Splits};
 
 use cost_laws::CostLaw;
 use dom_store::{Covers, DomStore, PastStore, Taken};
+use dp_base::Boxed;
 use state_layout::{Layout, Node};
 use std::alloc::{AllocError, Global};
 
@@ -20,8 +22,20 @@ pub struct Layer<K: Covers> {
     pub busy: bool,
 }
 
-/// Room for one more layer.
+/// Puts a layer without nodes behind the others.
 #[tactic(auto, using(crate::proofs::Rows::push_nodes, crate::proofs::Rows::push_busy, crate::proofs::Rows::push_layouts))]
+fn put_behind<K: Covers>(layers: &mut Vec<Layer<K>>, nodes: DomStore<K>) -> Result<(), AllocError>
+    requires { nodes.nodes ≡ [] }
+    ensures layouts { (layout : Layout) → AreOf layout layers.old.items → nodes.layout ≡ layout → AreOf layout layers.new.items }
+    ensures long { OnOk result (length layers.new.items ≡ length layers.old.items + 1) }
+    ensures nodes { (d : ℕ) → nodes_at layers.new.items d ≡ nodes_at layers.old.items d }
+    ensures busy { (d : ℕ) → busy_at layers.new.items d ≡ busy_at layers.old.items d }
+{
+    layers.push(Layer { nodes, busy: false })?;
+    Ok(())
+}
+
+/// Room for one more layer.
 fn push_layer<K: Covers>(
     alloc: Global,
     layout: &Layout,
@@ -34,12 +48,12 @@ fn push_layer<K: Covers>(
     ensures busy { (d : ℕ) → busy_at layers.new.items d ≡ busy_at layers.old.items d }
 {
     let nodes = DomStore::new(alloc, layout)?;
-    layers.push(Layer { nodes, busy: false })?;
-    Ok(())
+    put_behind(layers, nodes)
 }
 
-/// Room for the layer at a place.
-fn open_layers<K: Covers>(
+/// Layers without nodes are put behind the others, up to the place.
+#[inline(never)]
+fn push_layers<K: Covers>(
     alloc: Global,
     layout: &Layout,
     layers: &mut Vec<Layer<K>>,
@@ -57,14 +71,34 @@ fn open_layers<K: Covers>(
     Ok(())
 }
 
+/// Room for the layer at a place. Nearly always there is some.
+#[inline]
+fn open_layers<K: Covers>(
+    alloc: Global,
+    layout: &Layout,
+    layers: &mut Vec<Layer<K>>,
+    place: u64,
+) -> Result<(), AllocError>
+    requires { AreOf layout.now layers.old.items }
+    ensures layouts { AreOf layout.now layers.new.items }
+    ensures long { OnOk result (place < length layers.new.items) }
+    ensures nodes { (d : ℕ) → nodes_at layers.new.items d ≡ nodes_at layers.old.items d }
+    ensures busy { (d : ℕ) → busy_at layers.new.items d ≡ busy_at layers.old.items d }
+{
+    if place < layers.len() as u64 {
+        return Ok(());
+    }
+    push_layers(alloc, layout, layers, place)
+}
+
 /// Adds a node to its layer. On `Err` memory ran out, and the node comes back.
 pub(crate) fn collect<K: Covers>(
     alloc: Global,
     layout: &Layout,
     layers: &mut Vec<Layer<K>>,
     place: u64,
-    node: Node,
-) -> Result<(), Node>
+    node: Boxed<Node>,
+) -> Result<(), Boxed<Node>>
     requires layouts { AreOf layout.now layers.old.items }
     requires node { IsNodeFor layout.now node }
     ensures layouts { AreOf layout.now layers.new.items }
@@ -85,8 +119,8 @@ fn add_at<K: Covers>(
     layout: &Layout,
     layers: &mut Vec<Layer<K>>,
     place: u64,
-    node: Node,
-) -> Result<(), Node>
+    node: Boxed<Node>,
+) -> Result<(), Boxed<Node>>
     requires layouts { AreOf layout.now layers.old.items }
     requires node { IsNodeFor layout.now node }
     requires there { place < length layers.old.items }
@@ -118,7 +152,8 @@ pub(crate) fn first_layers<K: Covers>(
     let Some(node) = start else {
         return Ok(layers);
     };
-    match collect(alloc, layout, &mut layers, 0, node) {
+    let boxed = Boxed::new(alloc, node)?;
+    match collect(alloc, layout, &mut layers, 0, boxed) {
         Ok(()) => Ok(layers),
         Err(_) => Err(AllocError),
     }
@@ -176,7 +211,8 @@ pub(crate) fn is_busy<K: Covers>(layers: &[Layer<K>]) -> bool
     }
 }
 
-/// Takes the first layer out, without the nodes that the past covers, and with its best nodes kept up to the share.
+/// Takes the first layer out, without the nodes that the past covers, and with its best nodes kept up to the share. Its emptied
+/// store goes behind the others, so that its memory serves again.
 #[tactic(auto, using(crate::proofs::Rows::rest_at, crate::proofs::Rows::rest_layouts, crate::proofs::Rows::dropped_full))]
 pub(crate) fn take_layer<L: CostLaw, K: Covers>(
     alloc: Global,
@@ -197,5 +233,7 @@ pub(crate) fn take_layer<L: CostLaw, K: Covers>(
     open_layers(alloc, layout, layers, 0)?;
     let mut layer = layers.remove(0);
     layer.nodes.drop_past(layout, past);
-    layer.nodes.take_best::<L>(alloc, share)
+    let taken = layer.nodes.take_best::<L>(alloc, share)?;
+    put_behind(layers, layer.nodes)?;
+    Ok(taken)
 }

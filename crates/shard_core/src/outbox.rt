@@ -8,6 +8,7 @@ ghost use Rattle.state_layout.specs.declared.node.Node.{Node};
 ghost use Rattle.shard_core.specs.Outgoing.{letter_of, letters_of, is_to, count_to};
 
 use crate::counts::raise;
+use dp_base::Boxed;
 use dp_model::Seq;
 use pass_ledger::Unsent;
 use state_layout::{Layout, Node};
@@ -32,7 +33,7 @@ fn send(
     shards: u32,
     letters: &mut VecDeque<Unsent>,
     sent: &mut Vec<u64>,
-    node: Node,
+    node: Boxed<Node>,
 ) -> Result<(), AllocError>
     requires node { IsNodeFor layout.now node }
     requires some { 1 ≤ shards }
@@ -41,7 +42,7 @@ fn send(
     ensures sent { OnOk result ((j : ℕ) → get_or sent.new.items j 0 ≡ get_or sent.old.items j 0 + is_to j (letter_of layout.now shards node)) }
     ensures long { OnOk result (length sent.new.items ≡ shards) }
 {
-    let to = receiver(layout, shards, &node);
+    let to = receiver(layout, shards, node.get());
     raise(sent, to)?;
     letters.push_back(Unsent { to, node })?;
     Ok(())
@@ -54,8 +55,8 @@ pub(crate) fn send_all(
     shards: u32,
     letters: &mut VecDeque<Unsent>,
     sent: &mut Vec<u64>,
-    nodes: Seq<Node>,
-) -> Result<Seq<Node>, AllocError>
+    nodes: Seq<Boxed<Node>>,
+) -> Result<Seq<Boxed<Node>>, AllocError>
     requires nodes { (n : Node) → Has nodes n → IsNodeFor layout.now n }
     requires some { 1 ≤ shards }
     requires long { length sent.old.items ≡ shards }

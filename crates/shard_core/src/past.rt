@@ -8,6 +8,7 @@ ghost use Rattle.dom_store.specs.Past.{past_node};
 ghost use Rattle.pass_ledger.specs.Past.{past_with};
 
 use dom_store::{Covers, PastStore};
+use dp_base::Boxed;
 use dp_model::Keep;
 use state_layout::{Layout, Node};
 use std::alloc::AllocError;
@@ -17,7 +18,7 @@ pub(crate) fn remember<K: Covers>(
     keep: Keep,
     layout: &Layout,
     past: &mut PastStore<K>,
-    kept: &[Node],
+    kept: &[Boxed<Node>],
 ) -> Result<(), AllocError>
     requires layout { past.old.layout ≡ layout.now }
     requires nodes { (n : Node) → Has kept.now n → IsNodeFor layout.now n }
@@ -34,7 +35,7 @@ pub(crate) fn remember<K: Covers>(
 fn add_all<K: Covers>(
     layout: &Layout,
     past: &mut PastStore<K>,
-    nodes: &[Node],
+    nodes: &[Boxed<Node>],
 ) -> Result<(), AllocError>
     requires layout { past.old.layout ≡ layout.now }
     requires nodes { (n : Node) → Has nodes.now n → IsNodeFor layout.now n }
@@ -42,7 +43,7 @@ fn add_all<K: Covers>(
     ensures layout { past.new.layout ≡ past.old.layout }
 {
     for node in nodes {
-        past.add(layout, node)?;
+        past.add(layout, node.get())?;
     }
     Ok(())
 }

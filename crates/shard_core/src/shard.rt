@@ -31,6 +31,7 @@ use crate::outbox::send_all;
 use crate::past::remember;
 use cost_laws::CostLaw;
 use dom_store::{Covers, PastStore};
+use dp_base::Boxed;
 use dp_model::{Keep, Model as DpModel, Options, Seq};
 use pass_ledger::{FaultHere, Held, Letter, Unsent};
 use path_log::{PathLog, StepId};
@@ -65,7 +66,7 @@ pub struct Shard<'m, L: CostLaw, K: Covers> {
     /// The kept nodes of all closed layers, where they cover those of later layers; else none.
     pub past: PastStore<K>,
     /// The kept nodes of the last closed layer that were neither visited nor pruned.
-    pub waiting: VecDeque<Node>,
+    pub waiting: VecDeque<Boxed<Node>>,
     /// The states that were made and not handed out.
     pub letters: VecDeque<Unsent>,
     /// Room for what a visit makes of a node. Between two visits it says nothing.
@@ -184,7 +185,7 @@ impl<'m, L: CostLaw, K: Covers> Shard<'m, L, K> {
     }
 
     // the node of a state goes to its layer
-    fn accept_state(&mut self, from: u32, layer: u64, node: Node) -> Result<(), Letter>
+    fn accept_state(&mut self, from: u32, layer: u64, node: Boxed<Node>) -> Result<(), Letter>
         requires { (p : Pass) × (r : ShardRecord) × Stands p self.old r × CanTake p r (Letter.State from layer node) }
         ensures taken { (p : Pass) (r : ShardRecord) → Suited p L.minimize L.operator K.prune K.minimize K.operator → Stands p self.old r → CanTake p r (Letter.State from layer node) → OnOk result (Stands p self.new (take r (Letter.State from layer node))) }
         ensures same { (p : Pass) (r : ShardRecord) → Stands p self.old r → OnErr result (Stands p self.new r) }
@@ -227,6 +228,9 @@ impl<'m, L: CostLaw, K: Covers> Shard<'m, L, K> {
     pub fn ready(&self) -> bool
         ensures { (p : Pass) (r : ShardRecord) → Stands p self.now r → IsTrue result ↔ IsReady p self.now.me r }
     {
+        if !are_past(&self.open_layers, self.layer) {
+            return false;
+        }
         if !self.waiting.is_empty() {
             return false;
         }
@@ -236,7 +240,7 @@ impl<'m, L: CostLaw, K: Covers> Shard<'m, L, K> {
         if self.told < self.shards {
             return false;
         }
-        are_past(&self.open_layers, self.layer)
+        true
     }
 
     /// Closes the layer that the shard collects: those of its nodes that the past covers go, the best of the others are kept,
@@ -295,7 +299,7 @@ impl<'m, L: CostLaw, K: Covers> Shard<'m, L, K> {
         let Some(node) = self.waiting.front() else {
             return false;
         };
-        if !is_pruned::<L>(node, best) {
+        if !is_pruned::<L>(node.get(), best) {
             return false;
         }
         self.waiting.pop_front();
@@ -310,18 +314,19 @@ impl<'m, L: CostLaw, K: Covers> Shard<'m, L, K> {
         ensures found { (p : Pass) (r : ShardRecord) → Stands p self.old r → (n : Node) (rest : List Node) → r.waiting ≡ n ∷ rest → Finds p.model (visit_in p self.old.me (length r.visits) n best) result }
         ensures me { self.new.me ≡ self.old.me }
     {
-        let Some(node) = self.waiting.pop_front() else {
+        let Some(first) = self.waiting.pop_front() else {
             unreachable!()
         };
+        let node = first.get();
         let id = StepId {
             shard: self.me,
             place: self.visited,
         };
         match self
             .expander
-            .expand(self.alloc, &node, id, best, &mut self.batch)
+            .expand(self.alloc, node, id, best, &mut self.batch)
         {
-            Ok(()) => match self.take_batch(&node, id) {
+            Ok(()) => match self.take_batch(node, id) {
                 Ok(offer) => Visited::Done { offer },
                 Err(_) => Visited::Memory,
             },
@@ -332,7 +337,7 @@ impl<'m, L: CostLaw, K: Covers> Shard<'m, L, K> {
                     spot,
                     kind,
                 };
-                match self.keep_fault(&node, fault) {
+                match self.keep_fault(node, fault) {
                     Ok(()) => Visited::Fault(SpotFault { spot, kind }),
                     Err(_) => Visited::Memory,
                 }

@@ -143,7 +143,7 @@ impl<'m, L: CostLaw, K: Covers> Turner<'m, L, K> {
         }
     }
 
-    // ends where the shard is done, and else closes its layer where it is ready
+    // closes the shard's layer where it is ready, and ends where it is done; by far most turns find it not ready, and so not done
     fn close(
         &mut self,
         board: &Board,
@@ -159,11 +159,11 @@ impl<'m, L: CostLaw, K: Covers> Turner<'m, L, K> {
         ensures me { self.new.shard.me ≡ self.old.shard.me }
     {
         let _ = boxes;
-        if self.shard.is_done() {
-            return Err(Ended::Done);
-        }
         if !self.shard.ready() {
             return Ok(());
+        }
+        if self.shard.is_done() {
+            return Err(Ended::Done);
         }
         match self.shard.close() {
             Ok(_) => Ok(()),

@@ -1,4 +1,5 @@
 use Rattle.std.proofs.Common.{refl}
+use Rattle.shard_core.proofs.Tells.{finds_done}
 use Rattle.shard_turns.proofs.Acting.{is_done, closes, stays_open, not_true, runs_out}
 use Rattle.shard_turns.proofs.turner.Turner.close.Goals as goal
 
@@ -12,7 +13,7 @@ close-requires g c =
 
 pub returns-then-not-ready-clause-acts : goal.returns-then-not-ready-clause-acts
 returns-then-not-ready-clause-acts g c = λ p suited a.
-    stays_open p c.args.board.now c.args.boxes.now.items c.args.self.now c.args.seat.now a (λ done. not_true ((c.if-is_done.ensures p a.shard_record a.stands).1 done)) (λ ready. not_true ((c.if-not-ready.ensures p a.shard_record a.stands).1 ready))
+    stays_open p c.args.board.now c.args.boxes.now.items c.args.self.now c.args.seat.now a (λ done. not_true ((c.if-not-ready.ensures p a.shard_record a.stands).1 (finds_done p c.args.self.now.shard a.shard_record a.stands done).0)) (λ ready. not_true ((c.if-not-ready.ensures p a.shard_record a.stands).1 ready))
 
 pub returns-in-Ok-clause-acts : goal.returns-in-Ok-clause-acts
 returns-in-Ok-clause-acts g c = λ p suited a.

@@ -1,6 +1,6 @@
 use Rattle.std.proofs.Common.{◌≡◌, ℕ, ◌+◌, ◌-◌, length}
 use Rattle.shard_core.specs.Layers.{nodes_at, busy_at, AreOf}
-use Rattle.shard_core.proofs.layers.open_layers.Given as goal
+use Rattle.shard_core.proofs.layers.push_layers.Given as goal
 
 abbrev pub invariant-loop-alloc : goal.invariant-loop-alloc
 invariant-loop-alloc g l =
