@@ -6,3 +6,5 @@ pub mod Ways
 pub mod Terms
 pub mod Held
 pub mod Sides
+pub mod Firsts
+pub mod Operands

@@ -51,10 +51,13 @@ module _ (m : Model) (given room : ℕ) where
   pub var_fit : (e : nums.Num) (v : ℕ) → nums.out-Num e ≡ nums.Num-F.Num::Var v → num_fits m e given room ≡ true → is_number_kind (kind_at m.variables v) ≡ true
   var_fit e v p h = rw (num_out e, p) at h
 
+  pub cell_fit : (e : nums.Num) (t : ℕ) (ns : List nums.Num) → nums.out-Num e ≡ nums.Num-F.Num::Cell t ns → num_fits m e given room ≡ true → all_fit m ns given room ≡ true
+  cell_fit e t ns p h = rw (num_out e, p) at h
+
   pub param_fit : (e : nums.Num) (k : ℕ) → nums.out-Num e ≡ nums.Num-F.Param k → num_fits m e given room ≡ true → k < given
   param_fit e k p h = let f : nat_lt k given ≡ true = rw (num_out e, p) at h in ltb-true k given f
 
-  abbrev set_out : (e : sets.SetEx) → set_fits m e ≡ set_room m (sets.map-SetEx args.Arg conds.Cond nums.Num sets.SetEx ArgRoom RoomTest RoomTest SetRoom (args.fold-Arg ArgRoom RoomTest RoomTest SetRoom arg_room (cond_room m) (num_room m) (set_room m)) (cond_fits m) (num_fits m) (set_fits m) (sets.out-SetEx e))
+  abbrev pub set_out : (e : sets.SetEx) → set_fits m e ≡ set_room m (sets.map-SetEx args.Arg conds.Cond nums.Num sets.SetEx ArgRoom RoomTest RoomTest SetRoom (args.fold-Arg ArgRoom RoomTest RoomTest SetRoom arg_room (cond_room m) (num_room m) (set_room m)) (cond_fits m) (num_fits m) (set_fits m) (sets.out-SetEx e))
   set_out e = sets.fold_out-SetEx ArgRoom RoomTest RoomTest SetRoom arg_room (cond_room m) (num_room m) (set_room m) e
 
   pub choice_fit : (e : sets.SetEx) (c : conds.Cond) (a b : sets.SetEx) → sets.out-SetEx e ≡ sets.SetEx-F.SetEx::If c a b → (set_fits m e).1 given room ≡ true → (cond_fits m c given room ≡ true) × (((set_fits m a).1 given room ≡ true) × (((set_fits m a).0 ≡ (set_fits m b).0) × ((set_fits m b).1 given room ≡ true)))

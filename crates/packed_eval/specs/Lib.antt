@@ -2,3 +2,4 @@ pub mod Sums
 pub mod Scratches
 pub mod Held
 pub mod Rows
+pub mod Plain

@@ -1,9 +1,9 @@
 //! What stands between two evaluations: the set in a table's cell at a place that may be a fault, whether a number is a member, and how many there are.
 
-ghost use Rattle.std.specs.Prelude.{◌≡◌, ◌≤◌, Result, List, ℤ, pos, Ok, IfOk, OnOk, IsTrue, length};
+ghost use Rattle.std.specs.Prelude.{◌≡◌, ◌≤◌, ◌==◌, Result, List, ℤ, pos, Ok, IfOk, OnOk, IsTrue, length};
 ghost use Rattle.bit_sets.specs.Sets.{members_of};
 ghost use Rattle.dp_model.specs.Typing.{is_set_kind, kind_at};
-ghost use Rattle.dp_model.specs.Evaluation.{count_of, table_counts, cells_of, cells_object, set_cell, set_in};
+ghost use Rattle.dp_model.specs.Evaluation.{count_of, table_counts, cells_of, cells_object, set_cell, set_in, object_of_kind, kind_of};
 ghost use Rattle.dp_model.specs.declared.answers.FaultKind.{FaultKind as Fault};
 ghost use Rattle.state_layout.specs.Packing.{state_in};
 ghost use Rattle.state_layout.specs.Signatures.{word_count};
@@ -15,8 +15,8 @@ ghost use Rattle.packed_words.specs.Sets.{IsClean, one_word};
 use dp_model::{FaultKind, SetEx};
 use eval_room::set_count;
 use packed_words::{
-    Scene, cell_count, cell_word, copy_cell, has_in, has_member, member_of, set_slot, size,
-    word_has, word_size,
+    Scene, cell_count, cell_word, copy_cell, has_in, has_member, is_empty_word, member_of, next_in,
+    set_slot, size, word_has, word_of, word_size,
 };
 
 /// How many members the object type of a set expression has, which fits so much stack. Those of a variable and of a cell are
@@ -113,12 +113,43 @@ pub fn member_in(count: u32, a: &[u64], z: i64) -> Result<bool, FaultKind>
 }
 
 /// Whether a number is a member of the set that a variable holds.
+#[inline(never)]
 pub fn member_at(at: &Scene<'_>, v: u32, count: u32, z: i64) -> Result<bool, FaultKind>
     requires { IsTrue (is_set_kind (kind_at at.now.model.now.variables v)) }
     ensures { result ≡ is_member_in count z (Ok (set_in (state_in at.now.words.now) v)) }
 {
     let member = member_of(count, z)?;
     Ok(has_in(at, v, member))
+}
+
+/// Whether a number is a member of the set that a variable holds, in one word or more.
+#[inline(always)]
+pub fn is_in_var(at: &Scene<'_>, v: u32, z: i64) -> Result<bool, FaultKind>
+    requires { IsTrue (is_set_kind (kind_at at.now.model.now.variables v)) }
+    ensures { result ≡ is_member_in (count_of at.now.model.now (object_of_kind (kind_of at.now.model.now v))) z (Ok (set_in (state_in at.now.words.now) v)) }
+{
+    let count = set_slot(at, v).count;
+    if count <= 64 {
+        word_member(count, word_of(at, v), z)
+    } else {
+        member_at(at, v, count, z)
+    }
+}
+
+/// Whether the set that a variable holds has no members.
+#[inline(always)]
+pub fn is_empty_var(at: &Scene<'_>, v: u32) -> bool
+    requires { IsTrue (is_set_kind (kind_at at.now.model.now.variables v)) }
+    ensures { result ≡ (length (set_in (state_in at.now.words.now) v) == 0) }
+{
+    if set_slot(at, v).count <= 64 {
+        is_empty_word(word_of(at, v))
+    } else {
+        match next_in(at, v, 0) {
+            Some(_) => false,
+            None => true,
+        }
+    }
 }
 
 /// How many members a set has, as a number.

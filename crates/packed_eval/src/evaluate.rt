@@ -13,14 +13,16 @@ ghost use Rattle.packed_words.specs.Operands.{Tells, at_operands, operated_by, w
 ghost use Rattle.packed_words.specs.Places.{placed_at};
 ghost use Rattle.packed_words.specs.Totals.{arg_value, sum_value};
 ghost use Rattle.packed_eval.specs.Held.{held_in};
+ghost use Rattle.packed_eval.specs.Plain.{denied};
 ghost use Rattle.packed_eval.specs.Sums.{Termed};
 ghost use Rattle.packed_words.specs.Ranges.{range_members, IsRange};
 
 use crate::cells::{
-    count_in, member_at, member_in, set_placed, size_in, word_member, word_placed, word_size_in,
-    write_word,
+    count_in, is_empty_var, is_in_var, member_at, member_in, set_placed, size_in, word_member,
+    word_placed, word_size_in, write_word,
 };
 use crate::places::{place_of_one, place_of_two};
+use crate::quick::{plain, plain_compared, plain_number, plain_word, quick_empty, quick_within};
 use crate::rows::held_along;
 use crate::sums::{first_of, one_member, sum_at, sum_held, sum_word};
 use dp_base::Seq;
@@ -44,7 +46,10 @@ pub fn number(at: &Scene<'_>, e: &Num, stack: &mut [u64]) -> Result<i64, FaultKi
         Num::Fixed(n) => Ok(*n),
         Num::Var(v) => Ok(number_in(at, *v)),
         Num::Param(p) => Ok(parameter(at, *p)),
-        Num::Cell(t, ns) => number_cell(at, *t, ns, stack),
+        Num::Cell(t, ns) => match plain_number(at, *t, ns) {
+            Some(z) => Ok(z),
+            None => number_cell(at, *t, ns, stack),
+        },
         _ => composed(at, e, stack),
     }
 }
@@ -119,6 +124,7 @@ fn place_of(at: &Scene<'_>, t: u32, ns: &Seq<Num>, stack: &mut [u64]) -> Result<
         (num_values at.now.model.now (state_in at.now.words.now) ns.now at.now.args.now) }
 {
     match ns.list().as_slice() {
+        [] => Ok(0),
         [n] => {
             let z = number(at, n, stack)?;
             place_of_one(counts(at, t), z)
@@ -195,7 +201,10 @@ fn set_word(at: &Scene<'_>, e: &SetEx, count: u32, stack: &mut [u64]) -> Result<
 {
     match e {
         SetEx::Var(v) => Ok(word_of(at, *v)),
-        SetEx::Cell(t, ns) => cell_in_word(at, *t, ns, stack),
+        SetEx::Cell(t, ns) => match plain_word(at, *t, ns) {
+            Some(word) => Ok(word),
+            None => cell_in_word(at, *t, ns, stack),
+        },
         _ => composed_word(at, e, count, stack),
     }
 }
@@ -251,8 +260,13 @@ fn operand_word(at: &Scene<'_>, e: &SetEx, count: u32, stack: &mut [u64]) -> Res
         ((set_value at.now.model.now (state_in at.now.words.now) e.now).1 at.now.args.now) }
     ensures clean { IfOk result (λ w. IsClean count (one_word w)) }
 {
-    let (_, rest) = stack.split_at_mut(words_for(count));
-    set_word(at, e, count, rest)
+    match e {
+        SetEx::Var(v) => Ok(word_of(at, *v)),
+        _ => {
+            let (_, rest) = stack.split_at_mut(words_for(count));
+            set_word(at, e, count, rest)
+        }
+    }
 }
 
 /// A set operation on a set in one word and its second operand.
@@ -397,10 +411,87 @@ fn operated(
     Ok(())
 }
 
-/// Whether a condition holds.
+/// Whether a condition holds. Each form is one call, and what has no parts is read where it stands.
 #[cycle(eval)]
 #[inline(never)]
 pub fn holds(at: &Scene<'_>, e: &Cond, stack: &mut [u64]) -> Result<bool, FaultKind>
+    requires { IsTrue (cond_fits at.now.model.now e.now (length at.now.args.now) (length stack.old)) }
+    ensures { result ≡ cond_value at.now.model.now (state_in at.now.words.now) e.now at.now.args.now }
+{
+    match e {
+        Cond::Fixed(b) => Ok(*b),
+        Cond::Numbers(op, a, b) => match plain_compared(at, *op, a, b) {
+            Some(held) => Ok(held),
+            None => composed_cond(at, e, stack),
+        },
+        Cond::IsIn(n, a) => match plain(at, n) {
+            Some(z) => is_in(at, z, a, stack),
+            None => composed_cond(at, e, stack),
+        },
+        Cond::Empty(a) => is_empty(at, a, stack),
+        Cond::Not(c) => fails(at, c.get(), stack),
+        Cond::And(_, _) | Cond::Or(_, _) => joined(at, e, stack),
+        Cond::Subset(_, _) => within(at, e, stack),
+        _ => composed_cond(at, e, stack),
+    }
+}
+
+/// Whether a condition fails.
+#[cycle(eval)]
+#[inline(never)]
+fn fails(at: &Scene<'_>, e: &Cond, stack: &mut [u64]) -> Result<bool, FaultKind>
+    requires { IsTrue (cond_fits at.now.model.now e.now (length at.now.args.now) (length stack.old)) }
+    ensures { result ≡ denied (cond_value at.now.model.now (state_in at.now.words.now) e.now at.now.args.now) }
+{
+    Ok(!holds(at, e, stack)?)
+}
+
+/// Whether a condition that joins two others holds.
+#[cycle(eval)]
+#[inline(never)]
+fn joined(at: &Scene<'_>, e: &Cond, stack: &mut [u64]) -> Result<bool, FaultKind>
+    requires { IsTrue (cond_fits at.now.model.now e.now (length at.now.args.now) (length stack.old)) }
+    ensures { result ≡ cond_value at.now.model.now (state_in at.now.words.now) e.now at.now.args.now }
+{
+    match e {
+        Cond::And(a, b) => {
+            if holds(at, a.get(), stack)? {
+                holds(at, b.get(), stack)
+            } else {
+                Ok(false)
+            }
+        }
+        Cond::Or(a, b) => {
+            if holds(at, a.get(), stack)? {
+                Ok(true)
+            } else {
+                holds(at, b.get(), stack)
+            }
+        }
+        _ => composed_cond(at, e, stack),
+    }
+}
+
+/// Whether a condition that compares two sets holds.
+#[cycle(eval)]
+#[inline(never)]
+fn within(at: &Scene<'_>, e: &Cond, stack: &mut [u64]) -> Result<bool, FaultKind>
+    requires { IsTrue (cond_fits at.now.model.now e.now (length at.now.args.now) (length stack.old)) }
+    ensures { result ≡ cond_value at.now.model.now (state_in at.now.words.now) e.now at.now.args.now }
+{
+    match e {
+        Cond::Subset(a, b) => match quick_within(at, a, b) {
+            Some(held) => Ok(held),
+            None => composed_cond(at, e, stack),
+        },
+        _ => composed_cond(at, e, stack),
+    }
+}
+
+/// Whether a condition of any form holds.
+#[cycle(eval)]
+#[inline(never)]
+fn composed_cond(at: &Scene<'_>, e: &Cond, stack: &mut [u64]) -> Result<bool, FaultKind>
     requires { IsTrue (cond_fits at.now.model.now e.now (length at.now.args.now) (length stack.old)) }
     ensures { result ≡ cond_value at.now.model.now (state_in at.now.words.now) e.now at.now.args.now }
 {
@@ -512,6 +603,20 @@ fn is_in(at: &Scene<'_>, z: i64, a: &SetEx, stack: &mut [u64]) -> Result<bool, F
     ensures { result ≡ is_member_in (count_of at.now.model.now (set_fits at.now.model.now a.now).0) z
         ((set_value at.now.model.now (state_in at.now.words.now) a.now).1 at.now.args.now) }
 {
+    match a {
+        SetEx::Var(v) => is_in_var(at, *v, z),
+        _ => is_in_composed(at, z, a, stack),
+    }
+}
+
+/// Whether a number is a member of a set that has parts.
+#[cycle(eval)]
+#[inline(never)]
+fn is_in_composed(at: &Scene<'_>, z: i64, a: &SetEx, stack: &mut [u64]) -> Result<bool, FaultKind>
+    requires { IsTrue (operand_fits at.now.model.now (set_fits at.now.model.now a.now) (length at.now.args.now) (length stack.old)) }
+    ensures { result ≡ is_member_in (count_of at.now.model.now (set_fits at.now.model.now a.now).0) z
+        ((set_value at.now.model.now (state_in at.now.words.now) a.now).1 at.now.args.now) }
+{
     let count = count_in(at, a, stack);
     if count <= 64 {
         let word = operand_word(at, a, count, stack)?;
@@ -598,6 +703,32 @@ fn is_empty(at: &Scene<'_>, a: &SetEx, stack: &mut [u64]) -> Result<bool, FaultK
     requires { IsTrue (operand_fits at.now.model.now (set_fits at.now.model.now a.now) (length at.now.args.now) (length stack.old)) }
     ensures { result ≡ is_empty ((set_value at.now.model.now (state_in at.now.words.now) a.now).1 at.now.args.now) }
 {
+    match a {
+        SetEx::Var(v) => Ok(is_empty_var(at, *v)),
+        _ => is_empty_quick(at, a, stack),
+    }
+}
+
+/// Whether a set has no members, which may have few parts.
+#[cycle(eval)]
+#[inline(never)]
+fn is_empty_quick(at: &Scene<'_>, a: &SetEx, stack: &mut [u64]) -> Result<bool, FaultKind>
+    requires { IsTrue (operand_fits at.now.model.now (set_fits at.now.model.now a.now) (length at.now.args.now) (length stack.old)) }
+    ensures { result ≡ is_empty ((set_value at.now.model.now (state_in at.now.words.now) a.now).1 at.now.args.now) }
+{
+    match quick_empty(at, a) {
+        Some(held) => Ok(held),
+        None => is_empty_composed(at, a, stack),
+    }
+}
+
+/// Whether a set that has parts has no members.
+#[cycle(eval)]
+#[inline(never)]
+fn is_empty_composed(at: &Scene<'_>, a: &SetEx, stack: &mut [u64]) -> Result<bool, FaultKind>
+    requires { IsTrue (operand_fits at.now.model.now (set_fits at.now.model.now a.now) (length at.now.args.now) (length stack.old)) }
+    ensures { result ≡ is_empty ((set_value at.now.model.now (state_in at.now.words.now) a.now).1 at.now.args.now) }
+{
     let count = count_in(at, a, stack);
     if count <= 64 {
         let word = operand_word(at, a, count, stack)?;
@@ -658,7 +789,7 @@ fn size_of_wide(at: &Scene<'_>, a: &SetEx, count: u32, stack: &mut [u64]) -> Res
 
 /// The first of two sets that meet: in one word that comes back, or at the front of the stack.
 #[cycle(eval)]
-#[inline(never)]
+#[inline(always)]
 fn first_set(at: &Scene<'_>, a: &SetEx, count: u32, stack: &mut [u64]) -> Result<u64, FaultKind>
     requires fits { IsTrue (operand_fits at.now.model.now (set_fits at.now.model.now a.now) (length at.now.args.now) (length stack.old)) }
     requires count { count ≡ count_of at.now.model.now (set_fits at.now.model.now a.now).0 }
@@ -668,15 +799,27 @@ fn first_set(at: &Scene<'_>, a: &SetEx, count: u32, stack: &mut [u64]) -> Result
     if count <= 64 {
         operand_word(at, a, count, stack)
     } else {
-        let (mine, rest) = stack.split_at_mut(words_for(count));
-        set_wide(at, a, count, mine, rest)?;
-        Ok(0)
+        first_wide(at, a, count, stack)
     }
+}
+
+/// The first of two sets that meet, which is written word by word at the front of the stack.
+#[cycle(eval)]
+#[inline(never)]
+fn first_wide(at: &Scene<'_>, a: &SetEx, count: u32, stack: &mut [u64]) -> Result<u64, FaultKind>
+    requires fits { IsTrue (operand_fits at.now.model.now (set_fits at.now.model.now a.now) (length at.now.args.now) (length stack.old)) }
+    requires count { count ≡ count_of at.now.model.now (set_fits at.now.model.now a.now).0 }
+    ensures { Tells (λ w. members_of (take (word_count count) stack.new)) result
+        ((set_value at.now.model.now (state_in at.now.words.now) a.now).1 at.now.args.now) }
+{
+    let (mine, rest) = stack.split_at_mut(words_for(count));
+    set_wide(at, a, count, mine, rest)?;
+    Ok(0)
 }
 
 /// Whether each member of a set that is held is one of another.
 #[cycle(eval)]
-#[inline(never)]
+#[inline(always)]
 fn is_within_of(
     at: &Scene<'_>,
     first: u64,
@@ -720,7 +863,7 @@ fn is_within_wide(
 
 /// Whether a set that is held has the members of another.
 #[cycle(eval)]
-#[inline(never)]
+#[inline(always)]
 fn is_same_of(
     at: &Scene<'_>,
     first: u64,

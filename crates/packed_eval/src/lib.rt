@@ -6,6 +6,7 @@ mod calls;
 mod cells;
 mod evaluate;
 mod places;
+mod quick;
 mod rows;
 mod sums;
 

@@ -7,13 +7,16 @@ ghost use Rattle.dp_model.specs.Costs.{ranged};
 ghost use Rattle.dp_model.specs.Evaluation.{num_value, cond_value, each_holds};
 ghost use Rattle.state_layout.specs.Packing.{state_in};
 ghost use Rattle.eval_room.specs.Fits.{num_fits, cond_fits, all_fit};
+ghost use Rattle.bit_sets.specs.Sets.{members_of};
 ghost use Rattle.packed_words.specs.Ranges.{range_members, IsRange};
+ghost use Rattle.packed_words.specs.Sets.{one_word};
 ghost use Rattle.packed_eval.specs.Rows.{sum_at, side_at, met_by, all_met, IsSideOf, IsSumOf, AreSidesOf, IsAlone, HasCells, IsRowOf, IsPart};
 
 use dp_base::Seq;
 use dp_model::{Compare, Cond, Num, NumOp};
 use packed_words::{
-    Range, Scene, compares, counts, member_of, next_of, number_in, numbers_in, parameter,
+    Range, Scene, compares, counts, lowest, member_of, next_of, number_in, numbers_in, parameter,
+    without_lowest,
 };
 
 /// Every number of a model lies between the negative of this one and it.
@@ -72,8 +75,35 @@ fn sides_of<'a>(at: &Scene<'a>, c: &Cond) -> Option<Sides<'a>>
 }
 
 /// Whether a comparison holds for each of these members, up to the first where it does not.
-#[inline(never)]
+#[inline(always)]
 fn all_met(at: &Scene<'_>, range: Range, sides: &Sides<'_>) -> Option<bool>
+    requires { IsRange at.now.model.now range }
+    ensures { result ≡ all_met sides.now (range_members (state_in at.now.words.now) range) }
+{
+    match range {
+        Range::Word(word) => all_met_in(word, sides),
+        _ => all_met_in_turn(at, range, sides),
+    }
+}
+
+/// The same for the members of a set in one word.
+#[inline(never)]
+fn all_met_in(word: u64, sides: &Sides<'_>) -> Option<bool>
+    ensures { result ≡ all_met sides.now (members_of (one_word word)) }
+{
+    let mut left = word;
+    while let Some(member) = lowest(left) {
+        if !met_by(sides, member)? {
+            return Some(false);
+        }
+        left = without_lowest(left, member);
+    }
+    Some(true)
+}
+
+/// The same, where the members are found one after another.
+#[inline(never)]
+fn all_met_in_turn(at: &Scene<'_>, range: Range, sides: &Sides<'_>) -> Option<bool>
     requires { IsRange at.now.model.now range }
     ensures { result ≡ all_met sides.now (range_members (state_in at.now.words.now) range) }
 {

@@ -14,7 +14,8 @@ ghost use Rattle.packed_eval.specs.Sums.{sum_of_one, words_of, sets_in, total_ov
 use bit_sets::next_member;
 use dp_model::{FaultKind, Model};
 use packed_words::{
-    after_first, first_bit, member_of, number_at, numbers_in, ranged, with, word_with, words_for,
+    after_first, lowest, member_of, number_at, numbers_in, ranged, with, without_lowest, word_with,
+    words_for,
 };
 
 /// The first of some counts, or 0 where there is none.
@@ -103,6 +104,7 @@ fn row_of(cells: &[i64], at: usize, count: u32) -> &[i64]
 }
 
 /// The total of a row's cells over a set that lies in words.
+#[inline(never)]
 fn total_held(row: &[i64], set: &[u64]) -> i128
     requires { length set.now ≤ 64 }
     ensures value { result ≡ total_by (cell_at row.now) (members_of set.now) }
@@ -131,6 +133,30 @@ fn total_last(cells: &[i64], at: usize, count: u32, set: &[u64]) -> i128
     }
 }
 
+/// The total of the cells behind a place, over the sets of the last two arguments, which lie in words.
+fn total_of_two(
+    cells: &[i64],
+    at: usize,
+    count: u32,
+    last: u32,
+    set: &[u64],
+    behind: &[u64],
+) -> i128
+    requires first { length set.now ≤ 64 }
+    requires second { length behind.now ≤ 64 }
+    ensures value { (place : ℕ) → at ≡ min most place
+        → result ≡ total_by (λ k. total_by (λ j. cell_at cells.now ((place * count + k) * last + j)) (members_of behind.now)) (members_of set.now) }
+    ensures within { IsWithin (bound_for 2) result }
+{
+    let mut total = 0;
+    let mut from = 0;
+    while let Some(member) = next_held(set, from) {
+        total += total_last(cells, next_place(at, count, member), last, behind);
+        from = member + 1;
+    }
+    total
+}
+
 /// The total of the cells behind a place, over sets that lie in words one behind another.
 fn total_from(cells: &[i64], at: usize, counts: &[u32], held: &[u64]) -> i128
     requires few { AreFew counts.now }
@@ -157,21 +183,28 @@ fn total_from(cells: &[i64], at: usize, counts: &[u32], held: &[u64]) -> i128
     total
 }
 
+/// The total of a table's cells over sets that lie in words one behind another.
+fn total_of(cells: &[i64], counts: &[u32], held: &[u64]) -> i128
+    requires few { AreFew counts.now }
+    requires len { length held.now ≡ words_of counts.now }
+    ensures { result ≡ total_over (cell_at cells.now) 0 counts.now (sets_in counts.now held.now) }
+{
+    match counts {
+        [count, last] => {
+            let (set, behind) = held.split_at(words_for(*count));
+            total_of_two(cells, 0, *count, *last, set, behind)
+        }
+        _ => total_from(cells, 0, counts, held),
+    }
+}
+
 /// The sum of a table over sets of its arguments' object types, which lie in words one behind another.
 pub fn sum_held(model: &Model, t: u32, counts: &[u32], held: &[u64]) -> Result<i64, FaultKind>
     requires counts { counts.now ≡ table_counts model.now t }
     requires len { length held.now ≡ words_of counts.now }
     ensures { result ≡ ranged (total_of model.now t (ways (sets_in counts.now held.now))) }
 {
-    ranged(total_from(numbers_in(model, t), 0, counts, held))
-}
-
-/// The first member of a set in one word that is not below a number.
-fn next_one(word: u64, from: u32) -> Option<u32>
-    ensures value { IsNext result from (members_of (one_word word)) }
-    ensures below { IfSome result (λ k. (from ≤ k) × (k < 8192)) }
-{
-    first_bit(word, from)
+    ranged(total_of(numbers_in(model, t), counts, held))
 }
 
 /// The total of the cells of a set's members, which lie in one word.
@@ -180,10 +213,10 @@ fn total_in(cells: &[i64], word: u64) -> i128
     ensures within { IsWithin (bound_for 1) result }
 {
     let mut total = 0;
-    let mut from = 0;
-    while let Some(member) = next_one(word, from) {
+    let mut left = word;
+    while let Some(member) = lowest(left) {
         total += i128::from(number_at(cells, member as usize));
-        from = member + 1;
+        left = without_lowest(left, member);
     }
     total
 }

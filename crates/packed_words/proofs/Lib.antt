@@ -4,3 +4,4 @@ pub mod Shown
 pub mod Nexts
 pub mod Packs
 pub mod OnePass
+pub mod Firsts

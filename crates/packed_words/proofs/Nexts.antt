@@ -59,7 +59,7 @@ module _ (words : List ℕ) (slot : Slot) (place : ℕ) (held : HoldsSlot slot w
 
 -- ---- the list from the next member on
 
-filtered : (f : ℕ → Bool) (x : ℕ) (xs : List ℕ) (b : Bool) → f x ≡ b → filter f (x ∷ xs) ≡ cond b (x ∷ filter f xs) (filter f xs)
+pub filtered : (f : ℕ → Bool) (x : ℕ) (xs : List ℕ) (b : Bool) → f x ≡ b → filter f (x ∷ xs) ≡ cond b (x ∷ filter f xs) (filter f xs)
 filtered f x xs b e = rw e refl
 
 head_holds_at : (p : ℕ → Bool) (x : ℕ) (xs : List ℕ) (k : ℕ) → (slice_get (filter p xs) 0 ≡ Some k → p k ≡ true) → (b : Bool) → p x ≡ b → slice_get (filter p (x ∷ xs)) 0 ≡ Some k → p k ≡ true

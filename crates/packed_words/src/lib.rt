@@ -24,6 +24,6 @@ pub use sets::{
 pub use steps::{count_of, first_bit, next_of, range_of, start_more, write_more};
 pub use tables::{Shape, Tables};
 pub use word::{
-    is_empty_word, is_same_word, is_within_word, operate_words, other_word, word_has, word_size,
-    word_with, word_without,
+    is_empty_word, is_same_word, is_within_word, lowest, operate_words, other_word, without_lowest,
+    word_has, word_size, word_with, word_without,
 };

@@ -49,6 +49,7 @@ fn range_in(at: &Scene<'_>, v: u32) -> Range
 }
 
 /// The first member that is not below a number.
+#[inline(always)]
 pub fn next_of(at: &Scene<'_>, range: Range, from: u32) -> Option<u32>
     requires { IsRange at.now.model.now range }
     ensures value { IsNext result from (range_members (state_in at.now.words.now) range) }
@@ -90,6 +91,7 @@ pub fn first_bit(word: u64, from: u32) -> Option<u32>
     Some(from + rest.trailing_zeros())
 }
 
+#[inline(never)]
 fn next_wide(at: &Scene<'_>, v: u32, from: u32) -> Option<u32>
     requires { IsTrue (over_fits at.now.model.now (Over.Members v)) }
     ensures value { IsNext result from (range_members (state_in at.now.words.now) (Range.Wide v)) }

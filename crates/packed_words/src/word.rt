@@ -1,6 +1,6 @@
 //! Sets of at most 64 members, each in one word.
 
-ghost use Rattle.std.specs.Prelude.{◌≡◌, ◌≤◌, ◌<◌, ◌==◌, ◌&&◌, ◌||◌, not, length};
+ghost use Rattle.std.specs.Prelude.{◌≡◌, ◌≤◌, ◌<◌, ◌==◌, ◌&&◌, ◌||◌, ◌∷◌, not, length, slice_get, Some, IfSome};
 ghost use Rattle.std.specs.List.{list_all};
 ghost use Rattle.std.specs.Str.{bytes_eq};
 ghost use Rattle.bit_sets.specs.Sets.{members_of, mask_of};
@@ -129,4 +129,26 @@ pub fn is_same_word(a: u64, b: u64) -> bool
     ensures { result ≡ bytes_eq (members_of (one_word a)) (members_of (one_word b)) }
 {
     a == b
+}
+
+/// The first member of a set.
+#[inline(always)]
+pub fn lowest(a: u64) -> Option<u32>
+    ensures first { result ≡ slice_get (members_of (one_word a)) 0 }
+    ensures below { IfSome result (λ k. k < 64) }
+{
+    if a == 0 {
+        return None;
+    }
+    Some(a.trailing_zeros())
+}
+
+/// A set without its first member.
+#[inline(always)]
+pub fn without_lowest(a: u64, first: u32) -> u64
+    requires first { Some first ≡ slice_get (members_of (one_word a)) 0 }
+    requires below { first < 64 }
+    ensures { members_of (one_word a) ≡ first ∷ members_of (one_word result) }
+{
+    a & !(1 << first)
 }

@@ -7,7 +7,7 @@ use Rattle.dp_model.specs.declared.trees.Cond as conds
 use Rattle.dp_model.specs.declared.trees.Num as nums
 use Rattle.dp_model.specs.declared.trees.SetEx as sets
 use Rattle.state_layout.specs.Packing.{state_in}
-use Rattle.packed_eval.proofs.Parts.{var_fit, param_fit, set_var_fit, set_var_object, set_var_is, set_cell_object, set_cell_fit, over_all_fit, operand_parts, more_parts, numbers_fit, is_in_fit, and_fit, or_fit, operands_fit, if_fit, choice_fit, choice_object, is_in_is, op_answers, not_answers, with_answers, without_answers, both_parts, subset_fit, same_fit, other_fit}
+use Rattle.packed_eval.proofs.Parts.{var_fit, param_fit, cell_fit, set_var_fit, set_var_object, set_var_is, set_cell_object, set_cell_fit, over_all_fit, operand_parts, more_parts, numbers_fit, is_in_fit, and_fit, or_fit, operands_fit, if_fit, choice_fit, choice_object, is_in_is, op_answers, not_answers, with_answers, without_answers, both_parts, subset_fit, same_fit, other_fit}
 use Rattle.state_layout.specs.Signatures.{word_count}
 use Rattle.eval_room.specs.Fits.{all_fit, num_fits, set_fits, operand_fits, terms_fit, term_room, arg_fits}
 use Rattle.packed_words.specs.Places.{member_on}
@@ -23,44 +23,44 @@ use Rattle.packed_eval.proofs.Ways.{between}
 use Rattle.packed_eval.proofs.Terms.{only_term, term_at, term_fault, sum_next, sum_told, fault_told, none_left, drop_next, used_next, fits_next, held_long, number_term, set_term, number_termed, set_termed}
 use Rattle.packed_eval.proofs.evaluate.+eval.Goals as goal
 
-pub holds-number-requires-in-Numbers : goal.holds-number-requires-in-Numbers
-holds-number-requires-in-Numbers t c =
+pub composed_cond-number-requires-in-Numbers : goal.composed_cond-number-requires-in-Numbers
+composed_cond-number-requires-in-Numbers t c =
     let p : conds.out-Cond c.args.e.now ≡ conds.Cond-F.Numbers c.in-Numbers.op c.in-Numbers.a c.in-Numbers.b = search (rules, conds.the_lemmas) in
     let f = numbers_fit c.args.at.now.model.now (length c.args.at.now.args.now) (length c.args.stack.now) c.args.e.now c.in-Numbers.op c.in-Numbers.a c.in-Numbers.b p c.requires in
     (search (rules, args.the_lemmas, conds.the_lemmas, nums.the_lemmas, sets.the_lemmas), search (rules, f.0, f.1))
 
-pub holds-number-requires-in-IsIn : goal.holds-number-requires-in-IsIn
-holds-number-requires-in-IsIn t c =
+pub composed_cond-number-requires-in-IsIn : goal.composed_cond-number-requires-in-IsIn
+composed_cond-number-requires-in-IsIn t c =
     let p : conds.out-Cond c.args.e.now ≡ conds.Cond-F.IsIn c.in-IsIn.n c.in-IsIn.a = search (rules, conds.the_lemmas) in
     let f = is_in_fit c.args.at.now.model.now (length c.args.at.now.args.now) (length c.args.stack.now) c.args.e.now c.in-IsIn.n c.in-IsIn.a p c.requires in
     (search (rules, args.the_lemmas, conds.the_lemmas, nums.the_lemmas, sets.the_lemmas), search (rules, f.0, f.1))
 
-pub holds-is_in-requires : goal.holds-is_in-requires
-holds-is_in-requires t c =
+pub composed_cond-is_in-requires : goal.composed_cond-is_in-requires
+composed_cond-is_in-requires t c =
     let p : conds.out-Cond c.args.e.now ≡ conds.Cond-F.IsIn c.in-IsIn.n c.in-IsIn.a = search (rules, conds.the_lemmas) in
     let f = is_in_fit c.args.at.now.model.now (length c.args.at.now.args.now) (length c.args.stack.now) c.args.e.now c.in-IsIn.n c.in-IsIn.a p c.requires in
     (search (rules, args.the_lemmas, conds.the_lemmas, nums.the_lemmas, sets.the_lemmas), search (rules, f.0, f.1))
 
-pub holds-holds-requires-in-And : goal.holds-holds-requires-in-And
-holds-holds-requires-in-And t c =
+pub composed_cond-holds-requires-in-And : goal.composed_cond-holds-requires-in-And
+composed_cond-holds-requires-in-And t c =
     let p : conds.out-Cond c.args.e.now ≡ conds.Cond-F.And c.get-in-And.result.now c.in-And.b = search (rules, conds.the_lemmas) in
     let f = and_fit c.args.at.now.model.now (length c.args.at.now.args.now) (length c.args.stack.now) c.args.e.now c.get-in-And.result.now c.in-And.b p c.requires in
     (search (rules, args.the_lemmas, conds.the_lemmas, nums.the_lemmas, sets.the_lemmas), search (rules, f.0, f.1))
 
-pub holds-holds-requires-then-branch : goal.holds-holds-requires-then-branch
-holds-holds-requires-then-branch t c =
+pub composed_cond-holds-requires-then-branch : goal.composed_cond-holds-requires-then-branch
+composed_cond-holds-requires-then-branch t c =
     let p : conds.out-Cond c.args.e.now ≡ conds.Cond-F.And c.in-And.a c.get-then-branch.result.now = search (rules, conds.the_lemmas) in
     let f = and_fit c.args.at.now.model.now (length c.args.at.now.args.now) (length c.args.stack.now) c.args.e.now c.in-And.a c.get-then-branch.result.now p c.requires in
     (search (rules, args.the_lemmas, conds.the_lemmas, nums.the_lemmas, sets.the_lemmas), search (rules, f.0, f.1))
 
-pub holds-holds-requires-in-Or : goal.holds-holds-requires-in-Or
-holds-holds-requires-in-Or t c =
+pub composed_cond-holds-requires-in-Or : goal.composed_cond-holds-requires-in-Or
+composed_cond-holds-requires-in-Or t c =
     let p : conds.out-Cond c.args.e.now ≡ conds.Cond-F.Or c.get-in-Or.result.now c.in-Or.b = search (rules, conds.the_lemmas) in
     let f = or_fit c.args.at.now.model.now (length c.args.at.now.args.now) (length c.args.stack.now) c.args.e.now c.get-in-Or.result.now c.in-Or.b p c.requires in
     (search (rules, args.the_lemmas, conds.the_lemmas, nums.the_lemmas, sets.the_lemmas), search (rules, f.0, f.1))
 
-pub holds-holds-requires-else-branch-2 : goal.holds-holds-requires-else-branch-2
-holds-holds-requires-else-branch-2 t c =
+pub composed_cond-holds-requires-else-branch-2 : goal.composed_cond-holds-requires-else-branch-2
+composed_cond-holds-requires-else-branch-2 t c =
     let p : conds.out-Cond c.args.e.now ≡ conds.Cond-F.Or c.in-Or.a c.get-else-branch-2.result.now = search (rules, conds.the_lemmas) in
     let f = or_fit c.args.at.now.model.now (length c.args.at.now.args.now) (length c.args.stack.now) c.args.e.now c.in-Or.a c.get-else-branch-2.result.now p c.requires in
     (search (rules, args.the_lemmas, conds.the_lemmas, nums.the_lemmas, sets.the_lemmas), search (rules, f.0, f.1))
@@ -105,8 +105,8 @@ set_wide-set_wide-requires-else-branch t c =
     let k = c.requires.count ∙ ap (count_of c.args.at.now.model.now) (o ∙ f.1.1.0) in
     (search (rules, args.the_lemmas, conds.the_lemmas, nums.the_lemmas, sets.the_lemmas), search (rules, f.1.0, f.1.1.1, k))
 
-pub holds-returns-in_ok-z-in-IsIn : goal.holds-returns-in_ok-z-in-IsIn
-holds-returns-in_ok-z-in-IsIn t c =
+pub composed_cond-returns-in_ok-z-in-IsIn : goal.composed_cond-returns-in_ok-z-in-IsIn
+composed_cond-returns-in_ok-z-in-IsIn t c =
     let p : conds.out-Cond c.args.e.now ≡ conds.Cond-F.IsIn c.in-IsIn.n c.in-IsIn.a = search (rules, conds.the_lemmas) in
     let fits : FitsSigned w64 c.in_ok-z-in-IsIn.z = search rules in
     (rw (to_z-of_z w64 c.in_ok-z-in-IsIn.z fits) at c.is_in.ensures) ∙ sym (is_in_is c.args.at.now.model.now (state_in c.args.at.now.words.now) c.args.at.now.args.now c.args.e.now c.in-IsIn.n c.in-IsIn.a c.in_ok-z-in-IsIn.z p (search rules))
@@ -147,8 +147,8 @@ place_of_all-loop-n-preserved t c =
 
 -- every member
 
-pub holds-returns-in-All : goal.holds-returns-in-All
-holds-returns-in-All t c =
+pub composed_cond-returns-in-All : goal.composed_cond-returns-in-All
+composed_cond-returns-in-All t c =
     let p : conds.out-Cond c.args.e.now ≡ conds.Cond-F.All c.in-All.over c.get-in-All.result.now = search (rules, conds.the_lemmas) in
     all_is c.args.at.now.model.now (state_in c.args.at.now.words.now) c.in-All.over c.args.e.now c.get-in-All.result.now c.args.at.now.args.now _ c.all_hold.result p c.range_of.ensures.value c.all_hold.ensures
 
@@ -245,8 +245,8 @@ set_wide-returns-in-Cell-clause-clean t c =
     let p : sets.out-SetEx c.args.e.now ≡ sets.SetEx-F.SetEx::Cell c.in-Cell.t c.in-Cell.ns = search (rules, sets.the_lemmas) in
     rw (c.requires.count ∙ ap (count_of c.args.at.now.model.now) (set_cell_object c.args.at.now.model.now (length c.args.at.now.args.now) (length c.args.stack.now) c.args.e.now c.in-Cell.t c.in-Cell.ns p)) (c.set_placed.ensures.clean (num_values c.args.at.now.model.now (state_in c.args.at.now.words.now) c.in-Cell.ns c.args.at.now.args.now) c.place_of.ensures)
 
-pub holds-range_of-requires : goal.holds-range_of-requires
-holds-range_of-requires t c =
+pub composed_cond-range_of-requires : goal.composed_cond-range_of-requires
+composed_cond-range_of-requires t c =
     let p : conds.out-Cond c.args.e.now ≡ conds.Cond-F.All c.in-All.over c.in-All.c = search (rules, conds.the_lemmas) in
     (over_all_fit c.args.at.now.model.now (length c.args.at.now.args.now) (length c.args.stack.now) c.args.e.now c.in-All.over c.in-All.c p c.requires).0
 
@@ -431,8 +431,8 @@ composed_word-cell_in_word-requires t c =
 
 -- two sets
 
-pub holds-is_same_of-requires : goal.holds-is_same_of-requires
-holds-is_same_of-requires t c =
+pub composed_cond-is_same_of-requires : goal.composed_cond-is_same_of-requires
+composed_cond-is_same_of-requires t c =
     let p : conds.out-Cond c.args.e.now ≡ conds.Cond-F.SameSet c.in-SameSet.a c.in-SameSet.b = search (rules, conds.the_lemmas) in
     let h = same_fit c.args.at.now.model.now (length c.args.at.now.args.now) (length c.args.stack.now) c.args.e.now c.in-SameSet.a c.in-SameSet.b p c.requires in
     let f = both_parts c.args.at.now.model.now (length c.args.at.now.args.now) (length c.args.stack.now) (set_fits c.args.at.now.model.now c.in-SameSet.a) (set_fits c.args.at.now.model.now c.in-SameSet.b) h in
@@ -444,8 +444,8 @@ holds-is_same_of-requires t c =
     let g : operand_fits c.args.at.now.model.now (set_fits c.args.at.now.model.now c.in-SameSet.b) (length c.args.at.now.args.now) (length c.first_set.new.stack - word_count c.count_in-count.result) ≡ true = rw (long, value) f.1.1 in
     (search (rules, args.the_lemmas, conds.the_lemmas, nums.the_lemmas, sets.the_lemmas), search (rules, room, g, k))
 
-pub holds-is_same_of-requires-in-OtherSet : goal.holds-is_same_of-requires-in-OtherSet
-holds-is_same_of-requires-in-OtherSet t c =
+pub composed_cond-is_same_of-requires-in-OtherSet : goal.composed_cond-is_same_of-requires-in-OtherSet
+composed_cond-is_same_of-requires-in-OtherSet t c =
     let p : conds.out-Cond c.args.e.now ≡ conds.Cond-F.OtherSet c.in-OtherSet.a c.in-OtherSet.b = search (rules, conds.the_lemmas) in
     let h = other_fit c.args.at.now.model.now (length c.args.at.now.args.now) (length c.args.stack.now) c.args.e.now c.in-OtherSet.a c.in-OtherSet.b p c.requires in
     let f = both_parts c.args.at.now.model.now (length c.args.at.now.args.now) (length c.args.stack.now) (set_fits c.args.at.now.model.now c.in-OtherSet.a) (set_fits c.args.at.now.model.now c.in-OtherSet.b) h in
@@ -457,8 +457,8 @@ holds-is_same_of-requires-in-OtherSet t c =
     let g : operand_fits c.args.at.now.model.now (set_fits c.args.at.now.model.now c.in-OtherSet.b) (length c.args.at.now.args.now) (length c.first_set-in-OtherSet.new.stack - word_count c.count_in-count-in-OtherSet.result) ≡ true = rw (long, value) f.1.1 in
     (search (rules, args.the_lemmas, conds.the_lemmas, nums.the_lemmas, sets.the_lemmas), search (rules, room, g, k))
 
-pub holds-is_within_of-requires : goal.holds-is_within_of-requires
-holds-is_within_of-requires t c =
+pub composed_cond-is_within_of-requires : goal.composed_cond-is_within_of-requires
+composed_cond-is_within_of-requires t c =
     let p : conds.out-Cond c.args.e.now ≡ conds.Cond-F.Subset c.in-Subset.a c.in-Subset.b = search (rules, conds.the_lemmas) in
     let h = subset_fit c.args.at.now.model.now (length c.args.at.now.args.now) (length c.args.stack.now) c.args.e.now c.in-Subset.a c.in-Subset.b p c.requires in
     let f = both_parts c.args.at.now.model.now (length c.args.at.now.args.now) (length c.args.stack.now) (set_fits c.args.at.now.model.now c.in-Subset.a) (set_fits c.args.at.now.model.now c.in-Subset.b) h in
@@ -490,16 +490,6 @@ sum-returns-in-len1 t c =
     let f = only_term c.args.at.now.model.now (length c.args.at.now.args.now) (length c.args.stack.now) counts c.as_slice.result.now _ c.e-item.result (omega (arith, c.in-len1.len_at_least, c.in-len1.len_below)) c.e-item.is (rw items c.requires) in
     rw (← items, f.0) c.sum_one.ensures
 
-pub set_word-returns-in-Cell-clause-members : goal.set_word-returns-in-Cell-clause-members
-set_word-returns-in-Cell-clause-members t c =
-    let p : sets.out-SetEx c.args.e.now ≡ sets.SetEx-F.SetEx::Cell c.in-Cell.t c.in-Cell.ns = search (rules, sets.the_lemmas) in
-    set_cell_tells c.args.at.now.model.now (state_in c.args.at.now.words.now) c.args.at.now.args.now _ c.cell_in_word.result c.args.e.now c.in-Cell.t c.in-Cell.ns p c.cell_in_word.ensures.members
-
-pub set_word-returns-in-Cell-clause-clean : goal.set_word-returns-in-Cell-clause-clean
-set_word-returns-in-Cell-clause-clean t c =
-    let p : sets.out-SetEx c.args.e.now ≡ sets.SetEx-F.SetEx::Cell c.in-Cell.t c.in-Cell.ns = search (rules, sets.the_lemmas) in
-    rw (c.requires.count ∙ ap (count_of c.args.at.now.model.now) (set_cell_object c.args.at.now.model.now (length c.args.at.now.args.now) (length c.args.stack.now) c.args.e.now c.in-Cell.t c.in-Cell.ns p)) c.cell_in_word.ensures.clean
-
 pub set_word-cell_in_word-requires : goal.set_word-cell_in_word-requires
 set_word-cell_in_word-requires t c =
     let p : sets.out-SetEx c.args.e.now ≡ sets.SetEx-F.SetEx::Cell c.in-Cell.t c.in-Cell.ns = search (rules, sets.the_lemmas) in
@@ -507,3 +497,89 @@ set_word-cell_in_word-requires t c =
     let few : count_of c.args.at.now.model.now (cells_object (cells_of c.args.at.now.model.now c.in-Cell.t)) ≤ 64 = rw (← k) c.requires.few in
     let fits : all_fit c.args.at.now.model.now c.in-Cell.ns (length c.args.at.now.args.now) (length c.args.stack.now) ≡ true = set_cell_fit c.args.at.now.model.now (length c.args.at.now.args.now) (length c.args.stack.now) c.args.e.now c.in-Cell.t c.in-Cell.ns p c.requires.fits in
     (search (rules, args.the_lemmas, conds.the_lemmas, nums.the_lemmas, sets.the_lemmas), search (rules, few, fits))
+
+-- conditions of few parts
+
+pub joined-holds-requires-then-branch : goal.joined-holds-requires-then-branch
+joined-holds-requires-then-branch t c =
+    let p : conds.out-Cond c.args.e.now ≡ conds.Cond-F.And c.in-And.a c.get-then-branch.result.now = search (rules, conds.the_lemmas) in
+    let f = and_fit c.args.at.now.model.now (length c.args.at.now.args.now) (length c.args.stack.now) c.args.e.now c.in-And.a c.get-then-branch.result.now p c.requires in
+    (search (rules, args.the_lemmas, conds.the_lemmas, nums.the_lemmas, sets.the_lemmas), search (rules, f.0, f.1))
+
+pub joined-holds-requires-in-Or : goal.joined-holds-requires-in-Or
+joined-holds-requires-in-Or t c =
+    let p : conds.out-Cond c.args.e.now ≡ conds.Cond-F.Or c.get-in-Or.result.now c.in-Or.b = search (rules, conds.the_lemmas) in
+    let f = or_fit c.args.at.now.model.now (length c.args.at.now.args.now) (length c.args.stack.now) c.args.e.now c.get-in-Or.result.now c.in-Or.b p c.requires in
+    (search (rules, args.the_lemmas, conds.the_lemmas, nums.the_lemmas, sets.the_lemmas), search (rules, f.0, f.1))
+
+pub joined-holds-requires-else-branch-2 : goal.joined-holds-requires-else-branch-2
+joined-holds-requires-else-branch-2 t c =
+    let p : conds.out-Cond c.args.e.now ≡ conds.Cond-F.Or c.in-Or.a c.get-else-branch-2.result.now = search (rules, conds.the_lemmas) in
+    let f = or_fit c.args.at.now.model.now (length c.args.at.now.args.now) (length c.args.stack.now) c.args.e.now c.in-Or.a c.get-else-branch-2.result.now p c.requires in
+    (search (rules, args.the_lemmas, conds.the_lemmas, nums.the_lemmas, sets.the_lemmas), search (rules, f.0, f.1))
+
+pub holds-is_in-requires : goal.holds-is_in-requires
+holds-is_in-requires t c =
+    let p : conds.out-Cond c.args.e.now ≡ conds.Cond-F.IsIn c.in-IsIn.n c.in-IsIn.a = search (rules, conds.the_lemmas) in
+    let f = is_in_fit c.args.at.now.model.now (length c.args.at.now.args.now) (length c.args.stack.now) c.args.e.now c.in-IsIn.n c.in-IsIn.a p c.requires in
+    (search (rules, args.the_lemmas, conds.the_lemmas, nums.the_lemmas, sets.the_lemmas), search (rules, f.0, f.1))
+
+pub holds-plain-requires : goal.holds-plain-requires
+holds-plain-requires t c =
+    let p : conds.out-Cond c.args.e.now ≡ conds.Cond-F.IsIn c.in-IsIn.n c.in-IsIn.a = search (rules, conds.the_lemmas) in
+    let f = is_in_fit c.args.at.now.model.now (length c.args.at.now.args.now) (length c.args.stack.now) c.args.e.now c.in-IsIn.n c.in-IsIn.a p c.requires in
+    (length c.args.stack.now, f.0)
+
+pub holds-plain_compared-requires-clause-left : goal.holds-plain_compared-requires-clause-left
+holds-plain_compared-requires-clause-left t c =
+    let p : conds.out-Cond c.args.e.now ≡ conds.Cond-F.Numbers c.in-Numbers.op c.in-Numbers.a c.in-Numbers.b = search (rules, conds.the_lemmas) in
+    let f = numbers_fit c.args.at.now.model.now (length c.args.at.now.args.now) (length c.args.stack.now) c.args.e.now c.in-Numbers.op c.in-Numbers.a c.in-Numbers.b p c.requires in
+    (length c.args.stack.now, f.0)
+
+pub holds-plain_compared-requires-clause-right : goal.holds-plain_compared-requires-clause-right
+holds-plain_compared-requires-clause-right t c =
+    let p : conds.out-Cond c.args.e.now ≡ conds.Cond-F.Numbers c.in-Numbers.op c.in-Numbers.a c.in-Numbers.b = search (rules, conds.the_lemmas) in
+    let f = numbers_fit c.args.at.now.model.now (length c.args.at.now.args.now) (length c.args.stack.now) c.args.e.now c.in-Numbers.op c.in-Numbers.a c.in-Numbers.b p c.requires in
+    (length c.args.stack.now, f.1)
+
+pub within-quick_within-requires : goal.within-quick_within-requires
+within-quick_within-requires t c =
+    let p : conds.out-Cond c.args.e.now ≡ conds.Cond-F.Subset c.in-Subset.a c.in-Subset.b = search (rules, conds.the_lemmas) in
+    let h = subset_fit c.args.at.now.model.now (length c.args.at.now.args.now) (length c.args.stack.now) c.args.e.now c.in-Subset.a c.in-Subset.b p c.requires in
+    let f = both_parts c.args.at.now.model.now (length c.args.at.now.args.now) (length c.args.stack.now) (set_fits c.args.at.now.model.now c.in-Subset.a) (set_fits c.args.at.now.model.now c.in-Subset.b) h in
+    let a = operand_parts c.args.at.now.model.now (length c.args.at.now.args.now) (length c.args.stack.now) (set_fits c.args.at.now.model.now c.in-Subset.a) f.0 in
+    let b = operand_parts c.args.at.now.model.now (length c.args.at.now.args.now) (length c.args.stack.now - word_count (count_of c.args.at.now.model.now (set_fits c.args.at.now.model.now c.in-Subset.a).0)) (set_fits c.args.at.now.model.now c.in-Subset.b) f.1.1 in
+    record { left = (_, a.1); right = (_, b.1); same = f.1.0 }
+
+pub is_in-is_in_var-requires : goal.is_in-is_in_var-requires
+is_in-is_in_var-requires t c =
+    let p : sets.out-SetEx c.args.a.now ≡ sets.SetEx-F.SetEx::Var c.in-Var.v = search (rules, sets.the_lemmas) in
+    let o = operand_parts c.args.at.now.model.now (length c.args.at.now.args.now) (length c.args.stack.now) (set_fits c.args.at.now.model.now c.args.a.now) c.requires in
+    set_var_fit c.args.at.now.model.now (length c.args.at.now.args.now) _ c.args.a.now c.in-Var.v p o.1
+
+pub is_empty-is_empty_var-requires : goal.is_empty-is_empty_var-requires
+is_empty-is_empty_var-requires t c =
+    let p : sets.out-SetEx c.args.a.now ≡ sets.SetEx-F.SetEx::Var c.in-Var.v = search (rules, sets.the_lemmas) in
+    let o = operand_parts c.args.at.now.model.now (length c.args.at.now.args.now) (length c.args.stack.now) (set_fits c.args.at.now.model.now c.args.a.now) c.requires in
+    set_var_fit c.args.at.now.model.now (length c.args.at.now.args.now) _ c.args.a.now c.in-Var.v p o.1
+
+pub is_empty_quick-quick_empty-requires : goal.is_empty_quick-quick_empty-requires
+is_empty_quick-quick_empty-requires t c =
+    let o = operand_parts c.args.at.now.model.now (length c.args.at.now.args.now) (length c.args.stack.now) (set_fits c.args.at.now.model.now c.args.a.now) c.requires in
+    (_, o.1)
+
+pub holds-returns-in-Some-plain : goal.holds-returns-in-Some-plain
+holds-returns-in-Some-plain t c =
+    let p : conds.out-Cond c.args.e.now ≡ conds.Cond-F.IsIn c.in-IsIn.n c.in-IsIn.a = search (rules, conds.the_lemmas) in
+    let fits : FitsSigned w64 c.in-Some-plain.z = search rules in
+    (rw (to_z-of_z w64 c.in-Some-plain.z fits) at c.is_in.ensures) ∙ sym (is_in_is c.args.at.now.model.now (state_in c.args.at.now.words.now) c.args.at.now.args.now c.args.e.now c.in-IsIn.n c.in-IsIn.a c.in-Some-plain.z p (search rules))
+
+pub number-plain_number-requires : goal.number-plain_number-requires
+number-plain_number-requires t c =
+    let p : nums.out-Num c.args.e.now ≡ nums.Num-F.Num::Cell c.in-Cell.t c.in-Cell.ns = search (rules, nums.the_lemmas) in
+    (length c.args.stack.now, cell_fit c.args.at.now.model.now (length c.args.at.now.args.now) (length c.args.stack.now) c.args.e.now c.in-Cell.t c.in-Cell.ns p c.requires)
+
+pub set_word-plain_word-requires-clause-fits : goal.set_word-plain_word-requires-clause-fits
+set_word-plain_word-requires-clause-fits t c =
+    let p : sets.out-SetEx c.args.e.now ≡ sets.SetEx-F.SetEx::Cell c.in-Cell.t c.in-Cell.ns = search (rules, sets.the_lemmas) in
+    (length c.args.stack.now, set_cell_fit c.args.at.now.model.now (length c.args.at.now.args.now) (length c.args.stack.now) c.args.e.now c.in-Cell.t c.in-Cell.ns p c.requires.fits)

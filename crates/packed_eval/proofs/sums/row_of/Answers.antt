@@ -1,4 +1,4 @@
-use Rattle.std.proofs.Common.{rules, arith, ◌≡◌, ◌≤◌, ◌*◌, ◌∙◌, length}
+use Rattle.std.proofs.Common.{rules, ◌≤◌, ◌*◌, ◌∙◌, length}
 use Rattle.packed_words.specs.Places.{most}
 use Rattle.packed_eval.proofs.Ways.{place_next, row_cells}
 use Rattle.packed_eval.proofs.sums.row_of.Goals as goal

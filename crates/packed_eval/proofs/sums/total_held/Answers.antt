@@ -1,4 +1,4 @@
-use Rattle.std.proofs.Common.{rules, arith, ◌≡◌, ◌∙◌, sym, to_z, of_z, FitsSigned, w64, ◌+ℤ◌}
+use Rattle.std.proofs.Common.{rules, arith, ◌≡◌, ◌∙◌, to_z, of_z, FitsSigned, w64, ◌+ℤ◌}
 use Rattle.std.specs.Int.{w128}
 use Rattle.std.proofs.lemmas.Int.{ints, to_z-of_z}
 use Rattle.bit_sets.specs.Sets.{members_of}

@@ -6,7 +6,7 @@ use Rattle.packed_words.specs.Sets.{members_from}
 use Rattle.packed_eval.specs.Rows.{met_by, all_met}
 use Rattle.packed_eval.proofs.Foralls.{from_start}
 use Rattle.packed_eval.proofs.Sides.{met_step}
-use Rattle.packed_eval.proofs.rows.all_met.Goals as goal
+use Rattle.packed_eval.proofs.rows.all_met_in_turn.Goals as goal
 
 pub loop-member-init : goal.loop-member-init
 loop-member-init c = record {

@@ -3,7 +3,7 @@ use Rattle.state_layout.specs.Packing.{state_in}
 use Rattle.packed_words.specs.Ranges.{range_members}
 use Rattle.packed_words.specs.Sets.{members_from}
 use Rattle.packed_eval.specs.Rows.{all_met}
-use Rattle.packed_eval.proofs.rows.all_met.Given as goal
+use Rattle.packed_eval.proofs.rows.all_met_in_turn.Given as goal
 
 abbrev pub invariant-loop-member : goal.invariant-loop-member
 invariant-loop-member l = record {

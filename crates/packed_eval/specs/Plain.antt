@@ -1,0 +1,12 @@
+-- What a form makes of the values of its parts, each of which may be a fault.
+use Rattle.std.specs.Prelude.{Bool, not, Result, Ok, ℤ}
+use Rattle.dp_base.specs.Results.{◌>>=◌}
+use Rattle.dp_model.specs.Evaluation.{compares}
+use Rattle.dp_model.specs.declared.answers.FaultKind.{FaultKind}
+use Rattle.dp_model.specs.declared.trees.Compare.{Compare}
+
+abbrev pub compared_by : Compare → Result ℤ FaultKind → Result ℤ FaultKind → Result Bool FaultKind
+compared_by op a b = a >>= λ x. b >>= λ y. Ok (compares op x y)
+
+abbrev pub denied : Result Bool FaultKind → Result Bool FaultKind
+denied r = r >>= λ held. Ok (not held)
