@@ -2,7 +2,7 @@
 
 ghost use Rattle.std.specs.Prelude.{◌≡◌, ℕ, ◌<◌, ◌+◌, ◌++◌, ◌∷◌, [], length, slice_get, vec_len, vec_capacity, Some, IfSome, OnOk, OnErr};
 ghost use Rattle.dp_claims.specs.Enough.{Has};
-ghost use Rattle.dom_store.specs.Chains.{below, older_at, chain_from, bucket_of, head_in, row_in, IsLinked};
+ghost use Rattle.dom_store.specs.Chains.{below, older_at, chain_from, bucket_of, head_in, has_key, row_in, IsLinked};
 
 use std::alloc::{AllocError, Global};
 
@@ -44,6 +44,16 @@ impl Chains {
             bucket_of(self.heads.len(), key),
             self.older.len(),
         )
+    }
+
+    /// Whether a place has this key.
+    pub(crate) fn has(&self, place: usize, key: u64) -> bool
+        ensures { result ≡ has_key self.now.keys.items key place }
+    {
+        match self.keys.get(place) {
+            Some(held) => key == *held,
+            None => false,
+        }
     }
 
     /// The next older place of the same bucket.

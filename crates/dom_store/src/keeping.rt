@@ -85,7 +85,7 @@ fn covers_held<K: Covers>(
     ensures covering { IfSome result (λ covering. covering ≡ false → (p : ℕ) (n : Node) → StandsAt places.now p n → covers K.prune K.minimize K.operator layout.now node.now n ≡ false) }
 {
     let newest = chains.newest(key);
-    covers_in_chain::<K>(layout, chains, places, glances, newest, node, glance)
+    covers_in_chain::<K>(layout, chains, places, glances, newest, node, key, glance)
 }
 
 // the same, by the steps of the row of the key where it has them
