@@ -161,6 +161,7 @@ fn keep_node<K: Covers>(
 }
 
 // a new place without a node, with this glance, which stands in the row of the key, before its others
+#[inline(always)]
 fn open_place(
     chains: &mut Chains,
     places: &mut Vec<Option<Boxed<Node>>>,

@@ -3,7 +3,7 @@
 ghost use Rattle.std.specs.Prelude.{◌≡◌, ◌<◌, ℕ, length, Some, IfOk};
 ghost use Rattle.std.specs.List.Sorted.{IsPermutation, IsSortedByKey, IsStableByKey};
 ghost use Rattle.dom_store.specs.Order.{is_wide, word_or_last, rank_of, rank_cmp};
-ghost use Rattle.dom_store.specs.Ranking.{ranked_at, ranks_of};
+ghost use Rattle.dom_store.specs.Ranking.{is_there, ranked_at, ranks_of};
 
 use cost_laws::CostLaw;
 use dp_base::Boxed;
@@ -20,7 +20,7 @@ pub(crate) struct Ranked {
     pub(crate) place: usize,
 }
 
-/// All places, sorted by the words of their nodes, the lesser first. Places of the same words stay in their order.
+/// The places of nodes, sorted by the words of these, the lesser first. Places of the same words stay in their order.
 pub(crate) fn sorted_places<L: CostLaw>(
     alloc: Global,
     places: &[Option<Boxed<Node>>],
@@ -34,7 +34,7 @@ pub(crate) fn sorted_places<L: CostLaw>(
     Ok(ranked)
 }
 
-// all places in their order
+// the places of nodes in their order
 fn ranks<L: CostLaw>(
     alloc: Global,
     places: &[Option<Boxed<Node>>],
@@ -43,9 +43,20 @@ fn ranks<L: CostLaw>(
 {
     let mut ranked = Vec::with_capacity(alloc, places.len())?;
     for place in 0..places.len() {
-        ranked.push(ranked_at::<L>(places, place))?;
+        if is_there(&places[place]) {
+            ranked.push(ranked_at::<L>(places, place))?;
+        }
     }
     Ok(ranked)
+}
+
+fn is_there(place: &Option<Boxed<Node>>) -> bool
+    ensures { result ≡ is_there place.now }
+{
+    match place {
+        Some(_) => true,
+        None => false,
+    }
 }
 
 fn ranked_at<L: CostLaw>(places: &[Option<Boxed<Node>>], place: usize) -> Ranked
