@@ -6,8 +6,7 @@ ghost use Rattle.dom_store.specs.Order.{is_wide, word_or_last, rank_of, rank_cmp
 ghost use Rattle.dom_store.specs.Ranking.{is_there, ranked_at, ranks_of};
 
 use cost_laws::CostLaw;
-use dp_base::Boxed;
-use state_layout::Node;
+use state_layout::{Node, NodeBox};
 use std::alloc::{AllocError, Global};
 
 // the greatest number that has an order word under each law; its negative is the least
@@ -23,7 +22,7 @@ pub(crate) struct Ranked {
 /// The places of nodes, sorted by the words of these, the lesser first. Places of the same words stay in their order.
 pub(crate) fn sorted_places<L: CostLaw>(
     alloc: Global,
-    places: &[Option<Boxed<Node>>],
+    places: &[Option<NodeBox>],
 ) -> Result<Vec<Ranked>, AllocError>
     ensures permutation { IfOk result (λ ranked. IsPermutation (ranks_of L.minimize L.operator places.now) ranked.items) }
     ensures sorted { IfOk result (λ ranked. IsSortedByKey (λ (r : Ranked). r.words) rank_cmp ranked.items) }
@@ -35,10 +34,7 @@ pub(crate) fn sorted_places<L: CostLaw>(
 }
 
 // the places of nodes in their order
-fn ranks<L: CostLaw>(
-    alloc: Global,
-    places: &[Option<Boxed<Node>>],
-) -> Result<Vec<Ranked>, AllocError>
+fn ranks<L: CostLaw>(alloc: Global, places: &[Option<NodeBox>]) -> Result<Vec<Ranked>, AllocError>
     ensures { IfOk result (λ ranked. ranked.items ≡ ranks_of L.minimize L.operator places.now) }
 {
     let mut ranked = Vec::with_capacity(alloc, places.len())?;
@@ -50,7 +46,7 @@ fn ranks<L: CostLaw>(
     Ok(ranked)
 }
 
-fn is_there(place: &Option<Boxed<Node>>) -> bool
+fn is_there(place: &Option<NodeBox>) -> bool
     ensures { result ≡ is_there place.now }
 {
     match place {
@@ -59,7 +55,7 @@ fn is_there(place: &Option<Boxed<Node>>) -> bool
     }
 }
 
-fn ranked_at<L: CostLaw>(places: &[Option<Boxed<Node>>], place: usize) -> Ranked
+fn ranked_at<L: CostLaw>(places: &[Option<NodeBox>], place: usize) -> Ranked
     requires { place < length places.now }
     ensures { result ≡ ranked_at L.minimize L.operator places.now place }
 {
@@ -69,7 +65,7 @@ fn ranked_at<L: CostLaw>(places: &[Option<Boxed<Node>>], place: usize) -> Ranked
     }
 }
 
-fn rank<L: CostLaw>(place: &Option<Boxed<Node>>) -> (u64, u64)
+fn rank<L: CostLaw>(place: &Option<NodeBox>) -> (u64, u64)
     ensures { result ≡ rank_of L.minimize L.operator place.now }
 {
     match place {
