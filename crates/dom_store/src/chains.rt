@@ -2,7 +2,7 @@
 
 ghost use Rattle.std.specs.Prelude.{◌≡◌, ℕ, ◌<◌, ◌+◌, ◌++◌, ◌∷◌, [], length, slice_get, vec_len, vec_capacity, Some, IfSome, OnOk, OnErr};
 ghost use Rattle.dp_claims.specs.Enough.{Has};
-ghost use Rattle.dom_store.specs.Chains.{below, older_at, chain_from, bucket_of, head_in, row_in, IsLinked};
+ghost use Rattle.dom_store.specs.Chains.{below, older_at, chain_from, bucket_of, head_in, has_key, row_in, IsLinked};
 
 use std::alloc::{AllocError, Global};
 
@@ -46,6 +46,16 @@ impl Chains {
         )
     }
 
+    /// Whether a place has this key.
+    pub(crate) fn has(&self, place: usize, key: u64) -> bool
+        ensures { result ≡ has_key self.now.keys.items key place }
+    {
+        match self.keys.get(place) {
+            Some(held) => key == *held,
+            None => false,
+        }
+    }
+
     /// The next older place of the same bucket.
     pub(crate) fn older(&self, place: usize) -> Option<usize>
         ensures value { result ≡ older_at self.now.older.items place }
@@ -57,6 +67,7 @@ impl Chains {
 
     /// Puts a new place, the number of those that there are, before the others of its bucket. On `Err` memory ran out, and there is
     /// no new place.
+    #[inline(always)]
     pub(crate) fn push(&mut self, key: u64) -> Result<(), AllocError>
         ensures left { OnOk result ((p : ℕ) → Has (row_in self.old.heads.items self.old.older.items self.old.keys.items key) p → Has (chain_from self.new.older.items (older_at self.new.older.items (length self.old.older.items))) p) }
         ensures first { OnOk result (Has (row_in self.new.heads.items self.new.older.items self.new.keys.items key) (length self.old.older.items)) }

@@ -8,29 +8,30 @@ ghost use Rattle.dom_store.specs.Chains.{older_at, chain_from, row_in};
 ghost use Rattle.dp_claims.specs.Enough.{Has};
 ghost use Rattle.dom_store.specs.Covering.{covers, key_of};
 ghost use Rattle.dom_store.specs.Glances.{IsGlanceOf};
-ghost use Rattle.dom_store.specs.Places.{nodes_of, passes, node_at, without, cleared, StandsAt, KeepsRows, AreGlanced};
+ghost use Rattle.dom_store.specs.Places.{nodes_of, passes, node_at, without, cleared, StandsAt, KeepsRows, AreFiled, AreGlanced};
 ghost use Rattle.dom_store.specs.Stairs.{AreSteps};
 
 use crate::chains::Chains;
 use crate::covers::Covers;
 use crate::glance::{Glance, may_be_covered_at, may_cover_at};
 use crate::stairs::Stairs;
-use dp_base::Boxed;
-use state_layout::{Layout, Node};
+use state_layout::{Layout, Node, NodeBox};
 
 /// Whether the node with this glance covers one at the places of a chain, from this one on; `None` where one of these covers it.
 /// It goes along the chain once.
 pub(crate) fn covers_in_chain<K: Covers>(
     layout: &Layout,
     chains: &Chains,
-    places: &[Option<Boxed<Node>>],
+    places: &[Option<NodeBox>],
     glances: &[Glance],
     newest: Option<usize>,
     node: &Node,
+    key: u64,
     glance: Glance,
 ) -> Option<bool>
     requires node { IsNodeFor layout.now node.now }
-    requires nodes { (p : ℕ) (n : Node) → StandsAt places.now p n → IsNodeFor layout.now n }
+    requires filed { AreFiled (key_of K.prune layout.now) layout.now (row_in chains.now.heads.items chains.now.older.items chains.now.keys.items) places.now }
+    requires key { key ≡ key_of K.prune layout.now node.now }
     requires glanced { AreGlanced K.minimize K.operator layout.now places.now glances.now }
     requires glance { IsGlanceOf K.minimize K.operator layout.now node.now glance }
     ensures none { IfNone result (list_any (λ p. passes (λ (held : Node). covers K.prune K.minimize K.operator layout.now held node.now) (node_at places.now p)) (chain_from chains.now.older.items newest) ≡ true) }
@@ -40,10 +41,12 @@ pub(crate) fn covers_in_chain<K: Covers>(
     let mut found = false;
     let mut next = newest;
     while let Some(place) = next {
-        if covers_at::<K>(layout, places, glances, place, node, glance) {
+        if covers_there::<K>(layout, chains, places, glances, place, node, key, glance) {
             return None;
         }
-        let is_covered = is_covered_at::<K>(layout, places, glances, place, node, glance);
+        let is_covered = is_covered_there::<K>(
+            layout, chains, places, glances, place, node, key, glance,
+        );
         found = either(found, is_covered);
         next = chains.older(place);
     }
@@ -56,10 +59,60 @@ fn either(a: bool, b: bool) -> bool
     a || b
 }
 
+// whether the node at a place covers the node with this key and this glance: one of another key does not
+#[inline]
+fn covers_there<K: Covers>(
+    layout: &Layout,
+    chains: &Chains,
+    places: &[Option<NodeBox>],
+    glances: &[Glance],
+    place: usize,
+    node: &Node,
+    key: u64,
+    glance: Glance,
+) -> bool
+    requires node { IsNodeFor layout.now node.now }
+    requires filed { AreFiled (key_of K.prune layout.now) layout.now (row_in chains.now.heads.items chains.now.older.items chains.now.keys.items) places.now }
+    requires key { key ≡ key_of K.prune layout.now node.now }
+    requires glanced { AreGlanced K.minimize K.operator layout.now places.now glances.now }
+    requires glance { IsGlanceOf K.minimize K.operator layout.now node.now glance }
+    ensures { result ≡ passes (λ (held : Node). covers K.prune K.minimize K.operator layout.now held node.now) (node_at places.now place) }
+{
+    if !chains.has(place, key) {
+        return false;
+    }
+    covers_at::<K>(layout, places, glances, place, node, glance)
+}
+
+// whether the node with this key and this glance covers the one at a place: it covers none of another key
+#[inline]
+fn is_covered_there<K: Covers>(
+    layout: &Layout,
+    chains: &Chains,
+    places: &[Option<NodeBox>],
+    glances: &[Glance],
+    place: usize,
+    node: &Node,
+    key: u64,
+    glance: Glance,
+) -> bool
+    requires node { IsNodeFor layout.now node.now }
+    requires filed { AreFiled (key_of K.prune layout.now) layout.now (row_in chains.now.heads.items chains.now.older.items chains.now.keys.items) places.now }
+    requires key { key ≡ key_of K.prune layout.now node.now }
+    requires glanced { AreGlanced K.minimize K.operator layout.now places.now glances.now }
+    requires glance { IsGlanceOf K.minimize K.operator layout.now node.now glance }
+    ensures { result ≡ passes (λ (held : Node). covers K.prune K.minimize K.operator layout.now node.now held) (node_at places.now place) }
+{
+    if !chains.has(place, key) {
+        return false;
+    }
+    is_covered_at::<K>(layout, places, glances, place, node, glance)
+}
+
 /// Whether the node at a place covers the node with this glance.
 pub(crate) fn covers_at<K: Covers>(
     layout: &Layout,
-    places: &[Option<Boxed<Node>>],
+    places: &[Option<NodeBox>],
     glances: &[Glance],
     place: usize,
     node: &Node,
@@ -88,7 +141,7 @@ pub(crate) fn covers_at<K: Covers>(
 fn clear_covered<K: Covers>(
     layout: &Layout,
     chains: &mut Chains,
-    places: &mut Vec<Option<Boxed<Node>>>,
+    places: &mut Vec<Option<NodeBox>>,
     glances: &[Glance],
     place: usize,
     node: &Node,
@@ -122,7 +175,7 @@ fn clear_if<K: Covers>(
     layout: &Layout,
     chains: &mut Chains,
     stairs: &mut Stairs,
-    places: &mut Vec<Option<Boxed<Node>>>,
+    places: &mut Vec<Option<NodeBox>>,
     glances: &[Glance],
     covering: bool,
     place: usize,
@@ -158,7 +211,7 @@ fn clear_row<K: Covers>(
     layout: &Layout,
     chains: &mut Chains,
     stairs: &mut Stairs,
-    places: &mut Vec<Option<Boxed<Node>>>,
+    places: &mut Vec<Option<NodeBox>>,
     glances: &[Glance],
     place: usize,
     node: &Node,
@@ -191,7 +244,7 @@ fn clear_row<K: Covers>(
 fn clear_steps<K: Covers>(
     layout: &Layout,
     stairs: &mut Stairs,
-    places: &mut Vec<Option<Boxed<Node>>>,
+    places: &mut Vec<Option<NodeBox>>,
     glances: &[Glance],
     node: &Node,
     key: u64,
@@ -224,7 +277,7 @@ fn clear_steps<K: Covers>(
 // whether a node was there that the node covers; it is gone then
 fn clear_at<K: Covers>(
     layout: &Layout,
-    places: &mut Vec<Option<Boxed<Node>>>,
+    places: &mut Vec<Option<NodeBox>>,
     glances: &[Glance],
     place: usize,
     node: &Node,
@@ -249,7 +302,7 @@ fn clear_at<K: Covers>(
 // whether the node with this glance covers the one at a place
 fn is_covered_at<K: Covers>(
     layout: &Layout,
-    places: &[Option<Boxed<Node>>],
+    places: &[Option<NodeBox>],
     glances: &[Glance],
     place: usize,
     node: &Node,
@@ -280,11 +333,11 @@ pub(crate) fn put_node<K: Covers>(
     layout: &Layout,
     chains: &mut Chains,
     stairs: &mut Stairs,
-    places: &mut Vec<Option<Boxed<Node>>>,
+    places: &mut Vec<Option<NodeBox>>,
     glances: &[Glance],
     covering: bool,
     place: usize,
-    node: Boxed<Node>,
+    node: NodeBox,
     key: u64,
     glance: Glance,
 ) -> usize
