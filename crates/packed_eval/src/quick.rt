@@ -85,6 +85,19 @@ pub fn plain_number(at: &Scene<'_>, t: u32, ns: &Seq<Num>) -> Option<i64>
     number_placed(at.model, t, Ok(place)).ok()
 }
 
+/// The set in a table's cell of one argument, in one word.
+#[inline(always)]
+fn plain_word_of_one(at: &Scene<'_>, t: u32, n: &Num) -> Option<u64>
+    requires few { count_of at.now.model.now (cells_object (cells_of at.now.model.now t)) ≤ 64 }
+    requires fits { (room : ℕ) × IsTrue (num_fits at.now.model.now n.now (length at.now.args.now) room) }
+    ensures members { IfSome result (λ w. at_operands at.now.model.now t (set_cell (cells_of at.now.model.now t))
+        (num_values at.now.model.now (state_in at.now.words.now) (n.now ∷ []) at.now.args.now) ≡ Ok (members_of (one_word w))) }
+    ensures clean { IfSome result (λ w. IsClean (count_of at.now.model.now (cells_object (cells_of at.now.model.now t))) (one_word w)) }
+{
+    let place = plain_place_of_one(at, t, n)?;
+    word_placed(at, t, Ok(place)).ok()
+}
+
 /// The set in a table's cell, in one word, whose arguments have no parts. `None` stands also for a fault.
 #[inline(never)]
 pub fn plain_word(at: &Scene<'_>, t: u32, ns: &Seq<Num>) -> Option<u64>
@@ -94,8 +107,13 @@ pub fn plain_word(at: &Scene<'_>, t: u32, ns: &Seq<Num>) -> Option<u64>
         (num_values at.now.model.now (state_in at.now.words.now) ns.now at.now.args.now) ≡ Ok (members_of (one_word w))) }
     ensures clean { IfSome result (λ w. IsClean (count_of at.now.model.now (cells_object (cells_of at.now.model.now t))) (one_word w)) }
 {
-    let place = plain_place(at, t, ns)?;
-    word_placed(at, t, Ok(place)).ok()
+    match ns.list().as_slice() {
+        [n] => plain_word_of_one(at, t, n),
+        _ => {
+            let place = plain_place(at, t, ns)?;
+            word_placed(at, t, Ok(place)).ok()
+        }
+    }
 }
 
 /// Whether two numbers that have no parts compare so.
