@@ -12,5 +12,7 @@ mod tests;
 pub use costs::cost_at;
 pub use effects::next_state;
 pub use looks::{allowed, base_cost, floor, look_at};
-pub use moves::{first_enabled, in_words, is_enabled, may_step, number_enabled};
+pub use moves::{
+    first_enabled, in_words, is_enabled, is_enabled_past_first, may_step, number_enabled,
+};
 pub use spot_eval::{Look, SpotEnd, SpotFault, Tests};

@@ -7,6 +7,7 @@ ghost use Rattle.dp_model.specs.Typing.{is_set_kind, kind_at, over_typed};
 ghost use Rattle.dp_steps.specs.States.{are_members};
 ghost use Rattle.state_layout.specs.Packing.{state_in};
 ghost use Rattle.packed_words.specs.Scenes.{AreSmall};
+ghost use Rattle.packed_spots.specs.Firsts.{first_holds};
 ghost use Rattle.eval_room.specs.Needs.{ServesModel};
 ghost use Rattle.spot_eval.specs.Moves.{enabled_at, first_enabled, forced_of, goes_before, is_forced, is_member, may_step_at, number_enabled};
 
@@ -87,6 +88,45 @@ pub fn is_enabled(
     ensures { result ≡ enabled_at at.now.model.now (state_in at.now.words.now) number (transition.now, at.now.args.now) }
 {
     if !are_members(at, transition.params().list()) {
+        return Ok(false);
+    }
+    all_at(
+        at,
+        Tests::Preconditions(number),
+        &transition.preconditions,
+        stack,
+    )
+}
+
+/// The same, where the first value is so: what has no other parameter is not looked at again.
+#[inline(always)]
+#[tactic(auto, using(crate::proofs::Firsts::few_members))]
+fn other_members(at: &Scene<'_>, params: &[Over]) -> bool
+    requires typed { list_all (over_typed at.now.model.now.objects at.now.model.now.variables) params.now ≡ true }
+    requires first { first_holds (state_in at.now.words.now) params.now at.now.args.now ≡ true }
+    ensures { result ≡ are_members (state_in at.now.words.now) params.now at.now.args.now }
+{
+    if params.len() <= 1 {
+        return true;
+    }
+    are_members(at, params)
+}
+
+/// Whether a ground transition is enabled whose first membership is known to hold, where it has one.
+#[inline(always)]
+#[tactic(auto, using(crate::proofs::Rooms::params_typed, crate::proofs::Rooms::preconditions_room, spot_eval::proofs::Limits::few_preconditions))]
+pub fn is_enabled_past_first(
+    at: &Scene<'_>,
+    number: u32,
+    transition: &Transition,
+    stack: &mut [u64],
+) -> Result<bool, SpotFault>
+    requires step { ground_of at.now.model.now number ≡ Some (transition.now, at.now.args.now) }
+    requires first { first_holds (state_in at.now.words.now) transition.now.params at.now.args.now ≡ true }
+    requires room { ServesModel at.now.model.now (length stack.old) }
+    ensures { result ≡ enabled_at at.now.model.now (state_in at.now.words.now) number (transition.now, at.now.args.now) }
+{
+    if !other_members(at, transition.params().list()) {
         return Ok(false);
     }
     all_at(
