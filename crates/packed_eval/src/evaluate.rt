@@ -923,7 +923,7 @@ fn sum(at: &Scene<'_>, t: u32, terms: &Seq<Arg>, stack: &mut [u64]) -> Result<i6
 
 /// The sum of a table's cells over its one argument, whose object type has so many members and at most 64.
 #[cycle(eval)]
-#[inline(never)]
+#[inline(always)]
 fn sum_one(at: &Scene<'_>, t: u32, count: u32, e: &Arg, stack: &mut [u64]) -> Result<i64, FaultKind>
     requires few { count ≤ 64 }
     requires counts { table_counts at.now.model.now t ≡ count ∷ [] }

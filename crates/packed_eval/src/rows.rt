@@ -182,6 +182,7 @@ fn side_of<'a>(at: &Scene<'a>, e: &Num) -> Option<Side<'a>>
 }
 
 /// What the sum of two expressions is on one side: one of them names a cell, and the other is the same for each member.
+#[inline(always)]
 fn sum_of<'a>(at: &Scene<'a>, a: &Num, b: &Num) -> Option<Side<'a>>
     requires left { (room : ℕ) × IsTrue (num_fits at.now.model.now a.now (length at.now.args.now + 1) room) }
     requires right { (room : ℕ) × IsTrue (num_fits at.now.model.now b.now (length at.now.args.now + 1) room) }
@@ -198,6 +199,7 @@ fn sum_of<'a>(at: &Scene<'a>, a: &Num, b: &Num) -> Option<Side<'a>>
 }
 
 /// The same where the cell comes first.
+#[inline(always)]
 fn cell_and<'a>(at: &Scene<'a>, a: &Num, b: &Num) -> Option<Side<'a>>
     requires left { (room : ℕ) × IsTrue (num_fits at.now.model.now a.now (length at.now.args.now + 1) room) }
     requires right { (room : ℕ) × IsTrue (num_fits at.now.model.now b.now (length at.now.args.now + 1) room) }
@@ -214,6 +216,7 @@ fn cell_and<'a>(at: &Scene<'a>, a: &Num, b: &Num) -> Option<Side<'a>>
 }
 
 /// A number that is the same for each member: one that is written, a variable's, or that of a parameter that is in force.
+#[inline(always)]
 fn alone(at: &Scene<'_>, e: &Num) -> Option<i64>
     requires { (room : ℕ) × IsTrue (num_fits at.now.model.now e.now (length at.now.args.now + 1) room) }
     ensures { IfSome result (λ z. IsAlone at.now.model.now (state_in at.now.words.now) at.now.args.now e.now z) }
@@ -233,6 +236,7 @@ fn alone(at: &Scene<'_>, e: &Num) -> Option<i64>
 }
 
 /// Whether an expression is the member.
+#[inline(always)]
 fn is_member(at: &Scene<'_>, e: &Num) -> bool
     ensures { IsTrue result → (k : ℕ) → num_value at.now.model.now (state_in at.now.words.now) e.now (at.now.args.now ++ k ∷ []) ≡ Ok (pos k) }
 {
@@ -243,6 +247,7 @@ fn is_member(at: &Scene<'_>, e: &Num) -> bool
 }
 
 /// The cells of a table that these arguments name, the last of which is the member.
+#[inline(always)]
 fn row_of<'a>(at: &Scene<'a>, t: u32, ns: &Seq<Num>) -> Option<&'a [i64]>
     requires { (room : ℕ) × IsTrue (all_fit at.now.model.now ns.now (length at.now.args.now + 1) room) }
     ensures { IfSome result (λ row. IsRowOf at.now.model.now (state_in at.now.words.now) at.now.args.now t ns.now row.now) }
@@ -268,6 +273,7 @@ fn row_of<'a>(at: &Scene<'a>, t: u32, ns: &Seq<Num>) -> Option<&'a [i64]>
 }
 
 /// The cells of a table of one argument.
+#[inline(always)]
 fn only_row<'a>(at: &Scene<'a>, t: u32) -> Option<&'a [i64]>
     ensures { IfSome result (λ row. HasCells at.now.model.now t [] row.now) }
 {
@@ -278,6 +284,7 @@ fn only_row<'a>(at: &Scene<'a>, t: u32) -> Option<&'a [i64]>
 }
 
 /// The cells of a table of two arguments, of which the first is a number.
+#[inline(always)]
 fn row_at<'a>(at: &Scene<'a>, t: u32, z: i64) -> Option<&'a [i64]>
     ensures { IfSome result (λ row. HasCells at.now.model.now t (z ∷ []) row.now) }
 {
@@ -295,6 +302,7 @@ fn row_at<'a>(at: &Scene<'a>, t: u32, z: i64) -> Option<&'a [i64]>
 }
 
 /// So many cells from a place on, if all are there.
+#[inline(always)]
 fn cells_from(cells: &[i64], place: usize, count: u32) -> Option<&[i64]>
     ensures { IfSome result (λ row. IsPart cells.now place count row.now) }
 {
