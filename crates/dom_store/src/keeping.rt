@@ -185,6 +185,7 @@ fn open_place(
 }
 
 // appends a place without a node and its glance, where there is room for them, so that neither fails
+#[inline(always)]
 fn push_within(places: &mut Vec<Option<NodeBox>>, glances: &mut Vec<Glance>, glance: Glance)
     requires places { vec_len places.old < vec_capacity places.old }
     requires glances { vec_len glances.old < vec_capacity glances.old }
