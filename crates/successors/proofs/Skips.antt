@@ -15,6 +15,7 @@ use Rattle.dp_model.specs.declared.trees.Over.{Over}
 use Rattle.dp_model.specs.declared.trees.Over.TheVariants.{Object, Members}
 use Rattle.dp_model.specs.declared.whole.Model.{Model}
 use Rattle.dp_steps.specs.States.{are_members}
+use Rattle.packed_spots.specs.Firsts.{first_holds}
 use Rattle.packed_spots.proofs.Rooms.{params_typed}
 use Rattle.spot_eval.specs.Moves.{number_enabled, others_of}
 use Rattle.successors.specs.Candidates.{first_membership, first_asked, candidate_of}
@@ -57,6 +58,28 @@ not_enabled m s g x e h =
     let u = asked_of (ground_of m g) x e in
     let out = no_members s u.0.0.params u.0.1 x u.2 h in
     rw (u.1, out) refl
+
+-- ---- a first membership that holds
+
+no_first : (s : PlainState) (params : List Over) (given : List ℕ) → first_membership params given ≡ None → first_holds s params given ≡ true
+no_first s [] given e = refl
+no_first s (over ∷ overs) [] e = refl
+no_first s (Object object ∷ overs) (k ∷ given) e = refl
+no_first s (Members v ∷ overs) (k ∷ given) e = absurd (cc)
+
+held_first : (s : PlainState) (params : List Over) (given : List ℕ) (x : Membership) → first_membership params given ≡ Some x → has (set_in s x.variable) x.member ≡ true → first_holds s params given ≡ true
+held_first s [] given x e h = refl
+held_first s (over ∷ overs) [] x e h = refl
+held_first s (Object object ∷ overs) (k ∷ given) x e h = refl
+held_first s (Members v ∷ overs) (k ∷ given) x e h =
+    let same : record { variable = v; member = k } ≡ x = cc in
+    ap (λ (y : Membership). has (set_in s y.variable) y.member) same ∙ h
+
+pub first_without : (m : Model) (s : PlainState) (g : ℕ) → first_asked (ground_of m g) ≡ None → (t : Transition × List ℕ) → ground_of m g ≡ Some t → first_holds s t.0.params t.1 ≡ true
+first_without m s g e t there = no_first s t.0.params t.1 (ap first_asked (sym there) ∙ e)
+
+pub first_within : (m : Model) (s : PlainState) (g : ℕ) (x : Membership) → first_asked (ground_of m g) ≡ Some x → has (set_in s x.variable) x.member ≡ true → (t : Transition × List ℕ) → ground_of m g ≡ Some t → first_holds s t.0.params t.1 ≡ true
+first_within m s g x e h t there = held_first s t.0.params t.1 x (ap first_asked (sym there) ∙ e) h
 
 -- ---- lists of candidates
 

@@ -1,14 +1,16 @@
 //! One visit: the successors of a state go into a batch, in order of definition.
 
-ghost use Rattle.std.specs.Prelude.{◌≡◌, ◌<◌, ◌≤◌, ◌+◌, true, false, Some, Result, Ok, length, map, IfOk, IfSome, OnOk};
+ghost use Rattle.std.specs.Prelude.{◌≡◌, ◌<◌, ◌≤◌, ◌+◌, true, false, ℕ, List, Some, Result, Ok, length, map, IfOk, IfSome, OnOk};
 ghost use Rattle.dp_base.specs.Results.{each};
 ghost use Rattle.dp_model.specs.Costs.{InRange};
 ghost use Rattle.dp_model.specs.StepTexts.{ground_of};
+ghost use Rattle.dp_model.specs.declared.parts.Transition.{Transition};
 ghost use Rattle.cost_laws.specs.Orders.{InWideRange, IsLawOf};
 ghost use Rattle.state_layout.specs.Conditions.{IsLayoutOf, IsPackedOf};
 ghost use Rattle.state_layout.specs.Packing.{state_in};
 ghost use Rattle.eval_room.specs.Needs.{ServesModel};
 ghost use Rattle.packed_words.specs.Scenes.{AreSmall, Shows};
+ghost use Rattle.packed_spots.specs.Firsts.{first_holds};
 ghost use Rattle.packed_words.specs.Tables.{AreTablesOf};
 ghost use Rattle.spot_eval.specs.Answers.{AnswersBy as Evaluates};
 ghost use Rattle.spot_eval.specs.Moves.{forced_of, number_enabled, others_of};
@@ -60,7 +62,8 @@ pub(crate) fn words_of<'p>(model: &DpModel, layout: &Layout, p: &'p Packed) -> &
 #[inline(always)]
 fn is_out(at: &Scene<'_>, candidate: Candidate) -> bool
     requires { candidate ≡ candidate_of at.now.model.now candidate.number }
-    ensures { result ≡ true → number_enabled at.now.model.now (state_in at.now.words.now) candidate.number ≡ Ok false }
+    ensures out { result ≡ true → number_enabled at.now.model.now (state_in at.now.words.now) candidate.number ≡ Ok false }
+    ensures first { result ≡ false → (t : Transition × List ℕ) → ground_of at.now.model.now candidate.number ≡ Some t → first_holds (state_in at.now.words.now) t.0.params t.1 ≡ true }
 {
     match candidate.first {
         Some(first) => !has_in(at, first.variable, first.member),
@@ -299,7 +302,8 @@ impl<'a, L: CostLaw> Visitor<'a, L> {
         self.push_successor(alloc, &there, number, transition, batch, stack, spare)
     }
 
-    /// Adds the successor that a ground transition makes which is not forced, if it is enabled.
+    /// Adds the successor that a ground transition makes which is not forced, if it is enabled. Its first
+    /// membership is known to hold, where it has one.
     #[inline(always)]
     #[tactic(auto, using(packed_spots::proofs::Rooms::few_values, packed_spots::proofs::Values::front_small))]
     fn push_tested(
@@ -313,6 +317,7 @@ impl<'a, L: CostLaw> Visitor<'a, L> {
     ) -> Result<(), ExpandEnd>
         requires model { at.now.model.now ≡ self.now.model }
         requires state { state_in at.now.words.now ≡ self.now.visit.state }
+        requires first { (t : Transition × List ℕ) → ground_of self.now.model number ≡ Some t → first_holds self.now.visit.state t.0.params t.1 ≡ true }
         requires room { ServesModel self.now.model (length stack.old) }
         requires fits { BatchFits self.now.model batch.old }
         requires few { batch.old.not_allowed < 65536 }
@@ -331,7 +336,7 @@ impl<'a, L: CostLaw> Visitor<'a, L> {
             words: at.words,
             args: &given[..args.list().len()],
         };
-        if packed_spots::is_enabled(&there, number, transition, stack)? {
+        if packed_spots::is_enabled_past_first(&there, number, transition, stack)? {
             self.push_successor(alloc, &there, number, transition, batch, stack, spare)
         } else {
             Ok(())
