@@ -36,60 +36,14 @@ chain_next older p = ap (λ (ps : List ℕ). p ∷ ps) (by (older_at older p) re
     by None e = refl
     by (Some q) e = let less = older_less older p q e in enough older p (suc q) q less (omega arith)
 
-get_front : (older : List ℕ) (x p : ℕ) → p < length older → slice_get (older ++ x ∷ []) p ≡ slice_get older p
+pub get_front : (older : List ℕ) (x p : ℕ) → p < length older → slice_get (older ++ x ∷ []) p ≡ slice_get older p
 get_front [] x p h = absurd (omega arith)
 get_front (y ∷ older) x zero h = refl
 get_front (y ∷ older) x (suc p) h = get_front older x p (omega arith)
 
-get_last : (older : List ℕ) (x : ℕ) → slice_get (older ++ x ∷ []) (length older) ≡ Some x
+pub get_last : (older : List ℕ) (x : ℕ) → slice_get (older ++ x ∷ []) (length older) ≡ Some x
 get_last [] x = refl
 get_last (y ∷ older) x = get_last older x
-
--- a new place leaves the chains of the others as they were
-grown : (older : List ℕ) (x count p : ℕ) → p < length older → chain (older ++ x ∷ []) count p ≡ chain older count p
-grown older x zero p h = refl
-grown older x (suc count) p h =
-    ap (λ (o : Option ℕ). p ∷ option_map_or (chain (older ++ x ∷ []) count) o []) (ap (below p) (get_front older x p h))
-    ∙ ap (λ (ps : List ℕ). p ∷ ps) (by (older_at older p) refl (λ q e. (let less = older_less older p q e in grown older x count q (omega arith))))
-  where
-    by : (o : Option ℕ) → older_at older p ≡ o → ((q : ℕ) → older_at older p ≡ Some q → chain (older ++ x ∷ []) count q ≡ chain older count q) → option_map_or (chain (older ++ x ∷ []) count) o [] ≡ option_map_or (chain older count) o []
-    by None e rest = refl
-    by (Some q) e rest = rest q e
-
-grown_from : (older : List ℕ) (x : ℕ) (o : Option ℕ) → ((p : ℕ) → o ≡ Some p → p < length older) → chain_from (older ++ x ∷ []) o ≡ chain_from older o
-grown_from older x None h = refl
-grown_from older x (Some p) h = grown older x (suc p) p (h p refl)
-
-new_names : (older : List ℕ) (o : Option ℕ) → ((p : ℕ) → o ≡ Some p → p < length older) → below (length older) (Some (unwrap_or o (length older))) ≡ o
-new_names older None h = let e : nat_lt (length older) (length older) ≡ false = grind arith in rw e refl
-new_names older (Some p) h = let less = h p refl in let e : nat_lt p (length older) ≡ true = grind arith in rw e refl
-
--- a new place comes before those of its key, where the newest of them stands beside it, or itself
-pub pushed_row : (older new : List ℕ) (o at : Option ℕ) (x place : ℕ) → ((p : ℕ) → o ≡ Some p → p < length older) → place ≡ length older → x ≡ unwrap_or o place → new ≡ older ++ x ∷ [] → at ≡ Some place → chain_from new at ≡ length older ∷ chain_from older o
-pushed_row older new o at x place h last is are newest =
-    let is_last : at ≡ Some (length older) = newest ∙ ap Some last in
-    let is_or : x ≡ unwrap_or o (length older) = is ∙ ap (unwrap_or o) last in
-    let names : older_at (older ++ x ∷ []) (length older) ≡ o = ap (below (length older)) (get_last older x ∙ ap Some is_or) ∙ new_names older o h in
-    ap (λ (ps : List ℕ). chain_from ps at) are ∙ ap (chain_from (older ++ x ∷ [])) is_last ∙ chain_next (older ++ x ∷ []) (length older)
-    ∙ ap (λ (q : Option ℕ). length older ∷ chain_from (older ++ x ∷ []) q) names ∙ ap (λ (ps : List ℕ). length older ∷ ps) (grown_from older x o h)
-
--- and those of another key are as they were
-pub other_row : (older new : List ℕ) (o at : Option ℕ) (x : ℕ) → ((p : ℕ) → o ≡ Some p → p < length older) → new ≡ older ++ x ∷ [] → at ≡ o → chain_from new at ≡ chain_from older o
-other_row older new o at x h are same = ap (λ (ps : List ℕ). chain_from ps at) are ∙ ap (chain_from (older ++ x ∷ [])) same ∙ grown_from older x o h
-
-pub other_key : (key k : ℕ) → (key ≡ k → ⊥) → nat_eq key k ≡ false
-other_key key k h = by (nat_eq key k) refl
-  where
-    by : (b : Bool) → nat_eq key k ≡ b → b ≡ false
-    by true e = absurd (h (grind arith))
-    by false e = refl
-
--- the chain behind a new place has those of its key
-pub pushed_left : (older new : List ℕ) (o : Option ℕ) (x place : ℕ) → ((p : ℕ) → o ≡ Some p → p < length older) → place ≡ length older → x ≡ unwrap_or o place → new ≡ older ++ x ∷ [] → chain_from new (older_at new (length older)) ≡ chain_from older o
-pushed_left older new o x place h last is are =
-    let is_or : x ≡ unwrap_or o (length older) = is ∙ ap (unwrap_or o) last in
-    let names : older_at (older ++ x ∷ []) (length older) ≡ o = ap (below (length older)) (get_last older x ∙ ap Some is_or) ∙ new_names older o h in
-    ap (λ (ps : List ℕ). chain_from ps (older_at ps (length older))) are ∙ ap (chain_from (older ++ x ∷ [])) names ∙ grown_from older x o h
 
 -- ---- a walk along a chain
 
@@ -203,14 +157,14 @@ pub dropped_row : (older new : List ℕ) (place next : ℕ) → Dropped older ne
 dropped_row older new place next d None q apart there = there
 dropped_row older new place next d (Some p) q apart there = dropped_has older new place next d q apart (suc p) p there
 
-set_other : (older : List ℕ) (at x p : ℕ) → (p ≡ at → ⊥) → slice_get (set older at x) p ≡ slice_get older p
+pub set_other : (older : List ℕ) (at x p : ℕ) → (p ≡ at → ⊥) → slice_get (set older at x) p ≡ slice_get older p
 set_other [] at x p off = refl
 set_other (y ∷ ys) zero x zero off = absurd (off refl)
 set_other (y ∷ ys) zero x (suc p) off = refl
 set_other (y ∷ ys) (suc at) x zero off = refl
 set_other (y ∷ ys) (suc at) x (suc p) off = set_other ys at x p (λ e. off (ap suc e))
 
-set_same : (older : List ℕ) (at x : ℕ) → at < length older → slice_get (set older at x) at ≡ Some x
+pub set_same : (older : List ℕ) (at x : ℕ) → at < length older → slice_get (set older at x) at ≡ Some x
 set_same [] at x h = absurd (omega arith)
 set_same (y ∷ ys) zero x h = refl
 set_same (y ∷ ys) (suc at) x h = set_same ys at x (omega arith)

@@ -90,31 +90,18 @@ fold_length test places (q ∷ row) = fold_length test (cleared test places q) r
 
 -- ---- a place is filed
 
--- a row that gets a place has those that it had
-pub row_keeps : (row new : ℕ → List ℕ) (count key : ℕ) → new key ≡ count ∷ row key → ((k : ℕ) → (key ≡ k → ⊥) → new k ≡ row k) → (k p : ℕ) → Has (row k) p → Has (new k) p
-row_keeps row new count key at others k p h = by (nat_eq key k) refl
-  where
-    by : (b : Bool) → nat_eq key k ≡ b → Has (new k) p
-    by true e =
-        let same : key ≡ k = grind arith in
-        let is : new k ≡ count ∷ row k = subst (λ n. new n ≡ count ∷ row n) same at in
-        subst (λ (ps : List ℕ). Has ps p) (sym is) (has_more count (row k) p h)
-    by false e =
-        let apart : key ≡ k → ⊥ = λ same. grind arith in
-        subst (λ (ps : List ℕ). Has ps p) (sym (others k apart)) h
-
--- the rows are as they were
-pub filed_same : (key : Node → ℕ) (layout : Layout) (row row' : ℕ → List ℕ) (places places' : List (Option Node)) → AreFiled key layout row places → ((k : ℕ) → row' k ≡ row k) → places' ≡ places → AreFiled key layout row' places'
-filed_same key layout row row' places places' h same is = subst (λ (ps : List (Option Node)). AreFiled key layout row' ps) (sym is) (record {
+-- the rows have what they had
+pub filed_same : (key : Node → ℕ) (layout : Layout) (row row' : ℕ → List ℕ) (places places' : List (Option Node)) → AreFiled key layout row places → ((k p : ℕ) → Has (row k) p → Has (row' k) p) → places' ≡ places → AreFiled key layout row' places'
+filed_same key layout row row' places places' h keeps is = subst (λ (ps : List (Option Node)). AreFiled key layout row' ps) (sym is) (record {
   nodes = h.nodes;
-  filed = λ p n stands. subst (λ (ps : List ℕ). Has ps p) (sym (same (key n))) (h.filed p n stands);
+  filed = λ p n stands. keeps (key n) p (h.filed p n stands);
 })
 
 -- the new node's row gets its place
 pub filed_with : (key : Node → ℕ) (layout : Layout) (row row' : ℕ → List ℕ) (places new : List (Option Node)) (k links : ℕ) (node : Node) → AreFiled key layout row places → IsNodeFor layout node → k ≡ key node → links ≡ length places
-    → row' k ≡ links ∷ row k → ((j : ℕ) → (k ≡ j → ⊥) → row' j ≡ row j)
+    → Has (row' k) links → ((j p : ℕ) → Has (row j) p → Has (row' j) p)
     → ((p : ℕ) (n : Node) → StandsAt new p n → ((p ≡ length places) × (node ≡ n)) ⊎ StandsAt places p n) → AreFiled key layout row' new
-filed_with key layout row row' places new k links node h fits is last at others stood = record {
+filed_with key layout row row' places new k links node h fits is last at keeps stood = record {
   nodes = λ p n stands. fits_at p n (stood p n stands);
   filed = λ p n stands. filed_at p n (stood p n stands);
 }
@@ -125,9 +112,9 @@ filed_with key layout row row' places new k links node h fits is last at others 
 
     filed_at : (p : ℕ) (n : Node) → ((p ≡ length places) × (node ≡ n)) ⊎ StandsAt places p n → Has (row' (key n)) p
     filed_at p n (inl e) =
-        let first : Has (row' k) p = (0, ap (λ (ps : List ℕ). slice_get ps 0) at ∙ ap Some (last ∙ sym e.0)) in
+        let first : Has (row' k) p = subst (λ q. Has (row' k) q) (last ∙ sym e.0) at in
         subst (λ j. Has (row' j) p) (is ∙ ap key e.1) first
-    filed_at p n (inr s) = row_keeps row row' links k at others (key n) p (h.filed p n s)
+    filed_at p n (inr s) = keeps (key n) p (h.filed p n s)
 
 -- rows may lose places at which there is no node
 pub filed_left : (key : Node → ℕ) (layout : Layout) (row new : ℕ → List ℕ) (places : List (Option Node)) → AreFiled key layout row places → ((k : ℕ) (p : ℕ) (n : Node) → Has (row k) p → StandsAt places p n → Has (new k) p) → AreFiled key layout new places

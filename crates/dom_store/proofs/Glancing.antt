@@ -4,11 +4,13 @@ use Rattle.std.specs.List.{slice_get}
 use Rattle.dp_model.specs.declared.parts.JoinOp.{JoinOp}
 use Rattle.state_layout.specs.declared.layout.Layout.{Layout}
 use Rattle.state_layout.specs.declared.node.Node.{Node}
-use Rattle.dom_store.specs.Covering.{covers}
+use Rattle.dom_store.specs.Chains.{chain_from, bucket_of, head_in, has_key, row_in}
+use Rattle.dom_store.specs.Covering.{covers, key_of, KeepsKey}
 use Rattle.dom_store.specs.Glances.{IsGlanceOf, may_cover, may_cover_at, may_be_covered_at, passes_glance, ShowsAtGlance}
-use Rattle.dom_store.specs.Places.{passes, node_at, StandsAt, IsGlancedAt, AreGlanced}
+use Rattle.dom_store.specs.Places.{passes, node_at, StandsAt, AreFiled, IsGlancedAt, AreGlanced}
 use Rattle.dom_store.specs.declared.glance.Glance.{Glance}
 use Rattle.dom_store.proofs.Filing.{none_stands}
+use Rattle.dom_store.proofs.Members.{has_filtered}
 
 get_front : {A : Type 0} (xs ys : List A) (p : ℕ) (x : A) → slice_get xs p ≡ Some x → slice_get (xs ++ ys) p ≡ Some x
 get_front [] ys p x h = absurd (cc)
@@ -53,6 +55,25 @@ module _ (prune minimize : Bool) (operator : JoinOp) (shows : ShowsAtGlance prun
           let at = all p n stands in
           not_covered (covers prune minimize operator layout node n) (may_cover g at.0) (λ c. shows layout node n g at.0 of_node at.2 c)
           (shown (λ held. may_cover g held) glances p at.0 at.1 fails)
+
+-- ---- a place of another key
+
+module _ (prune minimize : Bool) (operator : JoinOp) (one : KeepsKey prune minimize operator) (layout : Layout) (heads older keys : List ℕ) (places : List (Option Node)) (h : AreFiled (key_of prune layout) layout (row_in heads older keys) places)
+    (node : Node) (key : ℕ) (is : key ≡ key_of prune layout node) (p : ℕ) where
+  same_key : (n : Node) → StandsAt places p n → key_of prune layout n ≡ key → has_key keys key p ≡ true
+  same_key n stands e =
+      subst (λ k. has_key keys k p ≡ true) e
+      (has_filtered (has_key keys (key_of prune layout n)) (chain_from older (head_in (length older) heads (bucket_of (length heads) (key_of prune layout n)))) p (h.filed p n stands)).1
+
+  pub held_apart : has_key keys key p ≡ false → false ≡ passes (λ held. covers prune minimize operator layout held node) (node_at places p)
+  held_apart off =
+      sym (fails_at (λ held. covers prune minimize operator layout held node) places p
+      (λ n stands. not_covered (covers prune minimize operator layout n node) (has_key keys key p) (λ t. same_key n stands (one layout n node t ∙ sym is)) off))
+
+  pub other_apart : has_key keys key p ≡ false → false ≡ passes (λ held. covers prune minimize operator layout node held) (node_at places p)
+  other_apart off =
+      sym (fails_at (λ held. covers prune minimize operator layout node held) places p
+      (λ n stands. not_covered (covers prune minimize operator layout node n) (has_key keys key p) (λ t. same_key n stands (sym (one layout node n t) ∙ sym is)) off))
 
 -- ---- a place is opened
 

@@ -1,4 +1,5 @@
 pub mod Chaining
+pub mod Linking
 pub mod Rows
 pub mod Members
 pub mod Filing

@@ -1,6 +1,7 @@
 //! A node is added to the places of a store.
 
 ghost use Rattle.std.specs.Prelude.{◌≡◌, ℕ, ◌<◌, ◌+◌, ◌++◌, ◌∷◌, [], true, false, length, vec_len, vec_capacity, if◌then◌else◌, None, IfNone, IfSome, IfOk, OnOk, IfErr, OnErr};
+ghost use Rattle.dp_claims.specs.Enough.{Has};
 ghost use Rattle.state_layout.specs.Conditions.{IsNodeFor};
 ghost use Rattle.state_layout.specs.declared.node.Node.{Node};
 ghost use Rattle.dom_store.specs.Chains.{older_at, chain_from, row_in};
@@ -16,6 +17,7 @@ use crate::glance::Glance;
 use crate::places::{covers_at, covers_in_chain, put_node};
 use crate::rising::raise_long;
 use crate::stairs::Stairs;
+use dp_base::Boxed;
 use state_layout::{Layout, Node};
 use std::alloc::AllocError;
 
@@ -33,24 +35,25 @@ pub(crate) fn add_node<K: Covers>(
     one_resource: bool,
     chains: &mut Chains,
     stairs: &mut Stairs,
-    places: &mut Vec<Option<Node>>,
+    places: &mut Vec<Option<Boxed<Node>>>,
     glances: &mut Vec<Glance>,
     count: &mut usize,
-    node: Node,
-) -> Result<Added, Node>
-    requires kept { IsKept K.prune K.minimize K.operator layout.now (row_in chains.old.newest chains.old.older.items) (length chains.old.older.items) places.old.items glances.old.items count.old }
+    node: Boxed<Node>,
+) -> Result<Added, Boxed<Node>>
+    requires kept { IsKept K.prune K.minimize K.operator layout.now (row_in chains.old.heads.items chains.old.older.items chains.old.keys.items) (length chains.old.older.items) places.old.items glances.old.items count.old }
     requires steps { AreSteps K.prune K.minimize K.operator layout.now stairs.old.row stairs.old.steps places.old.items }
     requires node { IsNodeFor layout.now node }
-    ensures kept { IsKept K.prune K.minimize K.operator layout.now (row_in chains.new.newest chains.new.older.items) (length chains.new.older.items) places.new.items glances.new.items count.new }
+    ensures kept { IsKept K.prune K.minimize K.operator layout.now (row_in chains.new.heads.items chains.new.older.items chains.new.keys.items) (length chains.new.older.items) places.new.items glances.new.items count.new }
     ensures steps { AreSteps K.prune K.minimize K.operator layout.now stairs.new.row stairs.new.steps places.new.items }
     ensures answer { IfOk result (λ added. added ≡ (if is_covered (covers K.prune K.minimize K.operator layout.now) (nodes_of places.old.items) node then Added.Covered else Added.Kept)) }
     ensures nodes { OnOk result (nodes_of places.new.items ≡ (if is_covered (covers K.prune K.minimize K.operator layout.now) (nodes_of places.old.items) node then nodes_of places.old.items else with_node (covers K.prune K.minimize K.operator layout.now) (nodes_of places.old.items) node)) }
     ensures err { IfErr result (λ back. (back ≡ node) × (nodes_of places.new.items ≡ nodes_of places.old.items)) }
 {
-    let key = K::key(layout, &node);
-    let glance = K::glance(layout, &node);
+    let seen = node.get();
+    let key = K::key(layout, seen);
+    let glance = K::glance(layout, seen);
     let Some(covering) = covers_by_steps::<K>(
-        layout, chains, stairs, places, glances, &node, key, glance,
+        layout, chains, stairs, places, glances, seen, key, glance,
     ) else {
         return Ok(Added::Covered);
     };
@@ -66,14 +69,14 @@ pub(crate) fn add_node<K: Covers>(
 fn covers_held<K: Covers>(
     layout: &Layout,
     chains: &Chains,
-    places: &[Option<Node>],
+    places: &[Option<Boxed<Node>>],
     glances: &[Glance],
     node: &Node,
     key: u64,
     glance: Glance,
 ) -> Option<bool>
     requires node { IsNodeFor layout.now node.now }
-    requires filed { AreFiled (key_of K.prune layout.now) layout.now (row_in chains.now.newest chains.now.older.items) places.now }
+    requires filed { AreFiled (key_of K.prune layout.now) layout.now (row_in chains.now.heads.items chains.now.older.items chains.now.keys.items) places.now }
     requires glanced { AreGlanced K.minimize K.operator layout.now places.now glances.now }
     requires key { key ≡ key_of K.prune layout.now node.now }
     requires glance { IsGlanceOf K.minimize K.operator layout.now node.now glance }
@@ -82,7 +85,7 @@ fn covers_held<K: Covers>(
     ensures covering { IfSome result (λ covering. covering ≡ false → (p : ℕ) (n : Node) → StandsAt places.now p n → covers K.prune K.minimize K.operator layout.now node.now n ≡ false) }
 {
     let newest = chains.newest(key);
-    covers_in_chain::<K>(layout, chains, places, glances, newest, node, glance)
+    covers_in_chain::<K>(layout, chains, places, glances, newest, node, key, glance)
 }
 
 // the same, by the steps of the row of the key where it has them
@@ -90,14 +93,14 @@ fn covers_by_steps<K: Covers>(
     layout: &Layout,
     chains: &Chains,
     stairs: &Stairs,
-    places: &[Option<Node>],
+    places: &[Option<Boxed<Node>>],
     glances: &[Glance],
     node: &Node,
     key: u64,
     glance: Glance,
 ) -> Option<bool>
     requires node { IsNodeFor layout.now node.now }
-    requires filed { AreFiled (key_of K.prune layout.now) layout.now (row_in chains.now.newest chains.now.older.items) places.now }
+    requires filed { AreFiled (key_of K.prune layout.now) layout.now (row_in chains.now.heads.items chains.now.older.items chains.now.keys.items) places.now }
     requires glanced { AreGlanced K.minimize K.operator layout.now places.now glances.now }
     requires steps { AreSteps K.prune K.minimize K.operator layout.now stairs.now.row stairs.now.steps places.now }
     requires key { key ≡ key_of K.prune layout.now node.now }
@@ -123,17 +126,17 @@ fn keep_node<K: Covers>(
     layout: &Layout,
     chains: &mut Chains,
     stairs: &mut Stairs,
-    places: &mut Vec<Option<Node>>,
+    places: &mut Vec<Option<Boxed<Node>>>,
     glances: &mut Vec<Glance>,
     covering: bool,
-    node: Node,
+    node: Boxed<Node>,
     key: u64,
     glance: Glance,
-) -> Result<usize, Node>
+) -> Result<usize, Boxed<Node>>
     requires node { IsNodeFor layout.now node }
     requires key { key ≡ key_of K.prune layout.now node }
     requires glance { IsGlanceOf K.minimize K.operator layout.now node glance }
-    requires filed { AreFiled (key_of K.prune layout.now) layout.now (row_in chains.old.newest chains.old.older.items) places.old.items }
+    requires filed { AreFiled (key_of K.prune layout.now) layout.now (row_in chains.old.heads.items chains.old.older.items chains.old.keys.items) places.old.items }
     requires glanced { AreGlanced K.minimize K.operator layout.now places.old.items glances.old.items }
     requires level { length glances.old.items ≡ length places.old.items }
     requires linked { length chains.old.older.items ≡ length places.old.items }
@@ -142,7 +145,7 @@ fn keep_node<K: Covers>(
     ensures nodes { OnOk result (nodes_of places.new.items ≡ with_node (covers K.prune K.minimize K.operator layout.now) (nodes_of places.old.items) node) }
     ensures counted { IfOk result (λ gone. length (nodes_of places.new.items) + gone ≡ length (nodes_of places.old.items) + 1) }
     ensures err { IfErr result (λ back. (back ≡ node) × (places.new.items ≡ places.old.items)) }
-    ensures filed { AreFiled (key_of K.prune layout.now) layout.now (row_in chains.new.newest chains.new.older.items) places.new.items }
+    ensures filed { AreFiled (key_of K.prune layout.now) layout.now (row_in chains.new.heads.items chains.new.older.items chains.new.keys.items) places.new.items }
     ensures glanced { AreGlanced K.minimize K.operator layout.now places.new.items glances.new.items }
     ensures steps { AreSteps K.prune K.minimize K.operator layout.now stairs.new.row stairs.new.steps places.new.items }
     ensures level { length glances.new.items ≡ length places.new.items }
@@ -157,22 +160,21 @@ fn keep_node<K: Covers>(
     ))
 }
 
-// a new place without a node, with this glance, which stands first in the chain of the key
+// a new place without a node, with this glance, which stands in the row of the key, before its others
 fn open_place(
     chains: &mut Chains,
-    places: &mut Vec<Option<Node>>,
+    places: &mut Vec<Option<Boxed<Node>>>,
     glances: &mut Vec<Glance>,
     key: u64,
     glance: Glance,
 ) -> Result<(), AllocError>
-    ensures left { OnOk result (chain_from chains.new.older.items (older_at chains.new.older.items (length chains.old.older.items)) ≡ row_in chains.old.newest chains.old.older.items key) }
-    ensures row { OnOk result (row_in chains.new.newest chains.new.older.items key ≡ length chains.old.older.items ∷ row_in chains.old.newest chains.old.older.items key) }
-    ensures others { OnOk result ((k : ℕ) → (key ≡ k → ⊥) → row_in chains.new.newest chains.new.older.items k ≡ row_in chains.old.newest chains.old.older.items k) }
+    ensures left { OnOk result ((p : ℕ) → Has (row_in chains.old.heads.items chains.old.older.items chains.old.keys.items key) p → Has (chain_from chains.new.older.items (older_at chains.new.older.items (length chains.old.older.items))) p) }
+    ensures first { OnOk result (Has (row_in chains.new.heads.items chains.new.older.items chains.new.keys.items key) (length chains.old.older.items)) }
+    ensures rows { (k : ℕ) (p : ℕ) → Has (row_in chains.old.heads.items chains.old.older.items chains.old.keys.items k) p → Has (row_in chains.new.heads.items chains.new.older.items chains.new.keys.items k) p }
     ensures linked { OnOk result (length chains.new.older.items ≡ length chains.old.older.items + 1) }
     ensures places { OnOk result (places.new.items ≡ places.old.items ++ None ∷ []) }
     ensures glances { OnOk result (glances.new.items ≡ glances.old.items ++ glance ∷ []) }
     ensures err { OnErr result ((places.new.items ≡ places.old.items) × (glances.new.items ≡ glances.old.items)) }
-    ensures err_rows { OnErr result ((k : ℕ) → row_in chains.new.newest chains.new.older.items k ≡ row_in chains.old.newest chains.old.older.items k) }
     ensures err_linked { OnErr result (length chains.new.older.items ≡ length chains.old.older.items) }
 {
     places.reserve(1)?;
@@ -183,7 +185,7 @@ fn open_place(
 }
 
 // appends a place without a node and its glance, where there is room for them, so that neither fails
-fn push_within(places: &mut Vec<Option<Node>>, glances: &mut Vec<Glance>, glance: Glance)
+fn push_within(places: &mut Vec<Option<Boxed<Node>>>, glances: &mut Vec<Glance>, glance: Glance)
     requires places { vec_len places.old < vec_capacity places.old }
     requires glances { vec_len glances.old < vec_capacity glances.old }
     ensures places { places.new.items ≡ places.old.items ++ None ∷ [] }

@@ -1,11 +1,12 @@
 //! The order in which the nodes of a layer are kept and visited.
 
-ghost use Rattle.std.specs.Prelude.{◌≡◌, ◌<◌, ℕ, length, IfOk};
+ghost use Rattle.std.specs.Prelude.{◌≡◌, ◌<◌, ℕ, length, Some, IfOk};
 ghost use Rattle.std.specs.List.Sorted.{IsPermutation, IsSortedByKey, IsStableByKey};
 ghost use Rattle.dom_store.specs.Order.{is_wide, word_or_last, rank_of, rank_cmp};
 ghost use Rattle.dom_store.specs.Ranking.{ranked_at, ranks_of};
 
 use cost_laws::CostLaw;
+use dp_base::Boxed;
 use state_layout::Node;
 use std::alloc::{AllocError, Global};
 
@@ -22,7 +23,7 @@ pub(crate) struct Ranked {
 /// All places, sorted by the words of their nodes, the lesser first. Places of the same words stay in their order.
 pub(crate) fn sorted_places<L: CostLaw>(
     alloc: Global,
-    places: &[Option<Node>],
+    places: &[Option<Boxed<Node>>],
 ) -> Result<Vec<Ranked>, AllocError>
     ensures permutation { IfOk result (λ ranked. IsPermutation (ranks_of L.minimize L.operator places.now) ranked.items) }
     ensures sorted { IfOk result (λ ranked. IsSortedByKey (λ (r : Ranked). r.words) rank_cmp ranked.items) }
@@ -34,7 +35,10 @@ pub(crate) fn sorted_places<L: CostLaw>(
 }
 
 // all places in their order
-fn ranks<L: CostLaw>(alloc: Global, places: &[Option<Node>]) -> Result<Vec<Ranked>, AllocError>
+fn ranks<L: CostLaw>(
+    alloc: Global,
+    places: &[Option<Boxed<Node>>],
+) -> Result<Vec<Ranked>, AllocError>
     ensures { IfOk result (λ ranked. ranked.items ≡ ranks_of L.minimize L.operator places.now) }
 {
     let mut ranked = Vec::with_capacity(alloc, places.len())?;
@@ -44,7 +48,7 @@ fn ranks<L: CostLaw>(alloc: Global, places: &[Option<Node>]) -> Result<Vec<Ranke
     Ok(ranked)
 }
 
-fn ranked_at<L: CostLaw>(places: &[Option<Node>], place: usize) -> Ranked
+fn ranked_at<L: CostLaw>(places: &[Option<Boxed<Node>>], place: usize) -> Ranked
     requires { place < length places.now }
     ensures { result ≡ ranked_at L.minimize L.operator places.now place }
 {
@@ -54,16 +58,22 @@ fn ranked_at<L: CostLaw>(places: &[Option<Node>], place: usize) -> Ranked
     }
 }
 
-fn rank<L: CostLaw>(place: &Option<Node>) -> (u64, u64)
+fn rank<L: CostLaw>(place: &Option<Boxed<Node>>) -> (u64, u64)
     ensures { result ≡ rank_of L.minimize L.operator place.now }
 {
     match place {
-        Some(node) => (
-            word_or_last::<L>(node.floor.or(node.cost)),
-            word_or_last::<L>(node.cost),
-        ),
+        Some(node) => rank_of_node::<L>(node.get()),
         None => (u64::MAX, u64::MAX),
     }
+}
+
+fn rank_of_node<L: CostLaw>(node: &Node) -> (u64, u64)
+    ensures { result ≡ rank_of L.minimize L.operator (Some node.now) }
+{
+    (
+        word_or_last::<L>(node.floor.or(node.cost)),
+        word_or_last::<L>(node.cost),
+    )
 }
 
 fn word_or_last<L: CostLaw>(cost: Option<i64>) -> u64

@@ -36,7 +36,7 @@ impl<K: Covers> Model for PastStore<K> {
 
     ghost view = { λ s. record { layout = s.layout; nodes = s.kept.items } };
 
-    ghost invariant = { λ s. IsPastKept K.prune s.layout (row_in s.chains.newest s.chains.older.items) (length s.chains.older.items) s.kept.items };
+    ghost invariant = { λ s. IsPastKept K.prune s.layout (row_in s.chains.heads.items s.chains.older.items s.chains.keys.items) (length s.chains.older.items) s.kept.items };
 }
 
 impl<K: Covers> PastStore<K> {
@@ -89,9 +89,9 @@ fn keep<K: Covers>(
     kept: &mut Vec<PastNode>,
     node: &Node,
 ) -> Result<(), AllocError>
-    requires kept { IsPastKept K.prune layout.now (row_in chains.old.newest chains.old.older.items) (length chains.old.older.items) kept.old.items }
+    requires kept { IsPastKept K.prune layout.now (row_in chains.old.heads.items chains.old.older.items chains.old.keys.items) (length chains.old.older.items) kept.old.items }
     requires node { IsNodeFor layout.now node.now }
-    ensures kept { IsPastKept K.prune layout.now (row_in chains.new.newest chains.new.older.items) (length chains.new.older.items) kept.new.items }
+    ensures kept { IsPastKept K.prune layout.now (row_in chains.new.heads.items chains.new.older.items chains.new.keys.items) (length chains.new.older.items) kept.new.items }
     ensures nodes { OnOk result (kept.new.items ≡ kept.old.items ++ past_node node.now ∷ []) }
     ensures err { OnErr result (kept.new.items ≡ kept.old.items) }
 {
@@ -118,7 +118,7 @@ fn is_covered_by<K: Covers>(
     kept: &[PastNode],
     node: &Node,
 ) -> bool
-    requires kept { IsPastKept K.prune layout.now (row_in chains.now.newest chains.now.older.items) (length chains.now.older.items) kept.now }
+    requires kept { IsPastKept K.prune layout.now (row_in chains.now.heads.items chains.now.older.items chains.now.keys.items) (length chains.now.older.items) kept.now }
     requires node { IsNodeFor layout.now node.now }
     ensures { result ≡ is_past (covers_past K.prune K.minimize K.operator layout.now) kept.now node.now }
 {

@@ -8,13 +8,14 @@ ghost use Rattle.dom_store.specs.Chains.{older_at, chain_from, row_in};
 ghost use Rattle.dp_claims.specs.Enough.{Has};
 ghost use Rattle.dom_store.specs.Covering.{covers, key_of};
 ghost use Rattle.dom_store.specs.Glances.{IsGlanceOf};
-ghost use Rattle.dom_store.specs.Places.{nodes_of, passes, node_at, without, cleared, StandsAt, KeepsRows, AreGlanced};
+ghost use Rattle.dom_store.specs.Places.{nodes_of, passes, node_at, without, cleared, StandsAt, KeepsRows, AreFiled, AreGlanced};
 ghost use Rattle.dom_store.specs.Stairs.{AreSteps};
 
 use crate::chains::Chains;
 use crate::covers::Covers;
 use crate::glance::{Glance, may_be_covered_at, may_cover_at};
 use crate::stairs::Stairs;
+use dp_base::Boxed;
 use state_layout::{Layout, Node};
 
 /// Whether the node with this glance covers one at the places of a chain, from this one on; `None` where one of these covers it.
@@ -22,14 +23,16 @@ use state_layout::{Layout, Node};
 pub(crate) fn covers_in_chain<K: Covers>(
     layout: &Layout,
     chains: &Chains,
-    places: &[Option<Node>],
+    places: &[Option<Boxed<Node>>],
     glances: &[Glance],
     newest: Option<usize>,
     node: &Node,
+    key: u64,
     glance: Glance,
 ) -> Option<bool>
     requires node { IsNodeFor layout.now node.now }
-    requires nodes { (p : ℕ) (n : Node) → StandsAt places.now p n → IsNodeFor layout.now n }
+    requires filed { AreFiled (key_of K.prune layout.now) layout.now (row_in chains.now.heads.items chains.now.older.items chains.now.keys.items) places.now }
+    requires key { key ≡ key_of K.prune layout.now node.now }
     requires glanced { AreGlanced K.minimize K.operator layout.now places.now glances.now }
     requires glance { IsGlanceOf K.minimize K.operator layout.now node.now glance }
     ensures none { IfNone result (list_any (λ p. passes (λ (held : Node). covers K.prune K.minimize K.operator layout.now held node.now) (node_at places.now p)) (chain_from chains.now.older.items newest) ≡ true) }
@@ -39,10 +42,12 @@ pub(crate) fn covers_in_chain<K: Covers>(
     let mut found = false;
     let mut next = newest;
     while let Some(place) = next {
-        if covers_at::<K>(layout, places, glances, place, node, glance) {
+        if covers_there::<K>(layout, chains, places, glances, place, node, key, glance) {
             return None;
         }
-        let is_covered = is_covered_at::<K>(layout, places, glances, place, node, glance);
+        let is_covered = is_covered_there::<K>(
+            layout, chains, places, glances, place, node, key, glance,
+        );
         found = either(found, is_covered);
         next = chains.older(place);
     }
@@ -55,10 +60,60 @@ fn either(a: bool, b: bool) -> bool
     a || b
 }
 
+// whether the node at a place covers the node with this key and this glance: one of another key does not
+#[inline]
+fn covers_there<K: Covers>(
+    layout: &Layout,
+    chains: &Chains,
+    places: &[Option<Boxed<Node>>],
+    glances: &[Glance],
+    place: usize,
+    node: &Node,
+    key: u64,
+    glance: Glance,
+) -> bool
+    requires node { IsNodeFor layout.now node.now }
+    requires filed { AreFiled (key_of K.prune layout.now) layout.now (row_in chains.now.heads.items chains.now.older.items chains.now.keys.items) places.now }
+    requires key { key ≡ key_of K.prune layout.now node.now }
+    requires glanced { AreGlanced K.minimize K.operator layout.now places.now glances.now }
+    requires glance { IsGlanceOf K.minimize K.operator layout.now node.now glance }
+    ensures { result ≡ passes (λ (held : Node). covers K.prune K.minimize K.operator layout.now held node.now) (node_at places.now place) }
+{
+    if !chains.has(place, key) {
+        return false;
+    }
+    covers_at::<K>(layout, places, glances, place, node, glance)
+}
+
+// whether the node with this key and this glance covers the one at a place: it covers none of another key
+#[inline]
+fn is_covered_there<K: Covers>(
+    layout: &Layout,
+    chains: &Chains,
+    places: &[Option<Boxed<Node>>],
+    glances: &[Glance],
+    place: usize,
+    node: &Node,
+    key: u64,
+    glance: Glance,
+) -> bool
+    requires node { IsNodeFor layout.now node.now }
+    requires filed { AreFiled (key_of K.prune layout.now) layout.now (row_in chains.now.heads.items chains.now.older.items chains.now.keys.items) places.now }
+    requires key { key ≡ key_of K.prune layout.now node.now }
+    requires glanced { AreGlanced K.minimize K.operator layout.now places.now glances.now }
+    requires glance { IsGlanceOf K.minimize K.operator layout.now node.now glance }
+    ensures { result ≡ passes (λ (held : Node). covers K.prune K.minimize K.operator layout.now node.now held) (node_at places.now place) }
+{
+    if !chains.has(place, key) {
+        return false;
+    }
+    is_covered_at::<K>(layout, places, glances, place, node, glance)
+}
+
 /// Whether the node at a place covers the node with this glance.
 pub(crate) fn covers_at<K: Covers>(
     layout: &Layout,
-    places: &[Option<Node>],
+    places: &[Option<Boxed<Node>>],
     glances: &[Glance],
     place: usize,
     node: &Node,
@@ -77,7 +132,7 @@ pub(crate) fn covers_at<K: Covers>(
         return false;
     }
     match &places[place] {
-        Some(held) => K::covers(layout, held, node),
+        Some(held) => K::covers(layout, held.get(), node),
         None => false,
     }
 }
@@ -87,7 +142,7 @@ pub(crate) fn covers_at<K: Covers>(
 fn clear_covered<K: Covers>(
     layout: &Layout,
     chains: &mut Chains,
-    places: &mut Vec<Option<Node>>,
+    places: &mut Vec<Option<Boxed<Node>>>,
     glances: &[Glance],
     place: usize,
     node: &Node,
@@ -100,7 +155,7 @@ fn clear_covered<K: Covers>(
     requires glance { IsGlanceOf K.minimize K.operator layout.now node.now glance }
     ensures places { places.new.items ≡ fold (cleared (λ (held : Node). covers K.prune K.minimize K.operator layout.now node.now held)) places.old.items (chain_from chains.old.older.items (older_at chains.old.older.items place)) }
     ensures counted { length (nodes_of places.new.items) + result ≡ length (nodes_of places.old.items) }
-    ensures rows { KeepsRows (row_in chains.old.newest chains.old.older.items) (row_in chains.new.newest chains.new.older.items) place places.new.items }
+    ensures rows { KeepsRows (row_in chains.old.heads.items chains.old.older.items chains.old.keys.items) (row_in chains.new.heads.items chains.new.older.items chains.new.keys.items) place places.new.items }
     ensures links { length chains.new.older.items ≡ length chains.old.older.items }
 {
     let mut gone = 0;
@@ -121,7 +176,7 @@ fn clear_if<K: Covers>(
     layout: &Layout,
     chains: &mut Chains,
     stairs: &mut Stairs,
-    places: &mut Vec<Option<Node>>,
+    places: &mut Vec<Option<Boxed<Node>>>,
     glances: &[Glance],
     covering: bool,
     place: usize,
@@ -140,7 +195,7 @@ fn clear_if<K: Covers>(
     requires complete { (p : ℕ) (n : Node) → StandsAt places.old.items p n → covers K.prune K.minimize K.operator layout.now node.now n ≡ true → Has (chain_from chains.old.older.items (older_at chains.old.older.items place)) p }
     ensures places { places.new.items ≡ fold (cleared (λ (held : Node). covers K.prune K.minimize K.operator layout.now node.now held)) places.old.items (chain_from chains.old.older.items (older_at chains.old.older.items place)) }
     ensures counted { length (nodes_of places.new.items) + result ≡ length (nodes_of places.old.items) }
-    ensures rows { KeepsRows (row_in chains.old.newest chains.old.older.items) (row_in chains.new.newest chains.new.older.items) place places.new.items }
+    ensures rows { KeepsRows (row_in chains.old.heads.items chains.old.older.items chains.old.keys.items) (row_in chains.new.heads.items chains.new.older.items chains.new.keys.items) place places.new.items }
     ensures steps { AreSteps K.prune K.minimize K.operator layout.now stairs.new.row stairs.new.steps places.new.items }
     ensures links { length chains.new.older.items ≡ length chains.old.older.items }
 {
@@ -157,7 +212,7 @@ fn clear_row<K: Covers>(
     layout: &Layout,
     chains: &mut Chains,
     stairs: &mut Stairs,
-    places: &mut Vec<Option<Node>>,
+    places: &mut Vec<Option<Boxed<Node>>>,
     glances: &[Glance],
     place: usize,
     node: &Node,
@@ -174,7 +229,7 @@ fn clear_row<K: Covers>(
     requires complete { (p : ℕ) (n : Node) → StandsAt places.old.items p n → covers K.prune K.minimize K.operator layout.now node.now n ≡ true → Has (chain_from chains.old.older.items (older_at chains.old.older.items place)) p }
     ensures places { places.new.items ≡ fold (cleared (λ (held : Node). covers K.prune K.minimize K.operator layout.now node.now held)) places.old.items (chain_from chains.old.older.items (older_at chains.old.older.items place)) }
     ensures counted { length (nodes_of places.new.items) + result ≡ length (nodes_of places.old.items) }
-    ensures rows { KeepsRows (row_in chains.old.newest chains.old.older.items) (row_in chains.new.newest chains.new.older.items) place places.new.items }
+    ensures rows { KeepsRows (row_in chains.old.heads.items chains.old.older.items chains.old.keys.items) (row_in chains.new.heads.items chains.new.older.items chains.new.keys.items) place places.new.items }
     ensures steps { AreSteps K.prune K.minimize K.operator layout.now stairs.new.row stairs.new.steps places.new.items }
     ensures links { length chains.new.older.items ≡ length chains.old.older.items }
 {
@@ -190,7 +245,7 @@ fn clear_row<K: Covers>(
 fn clear_steps<K: Covers>(
     layout: &Layout,
     stairs: &mut Stairs,
-    places: &mut Vec<Option<Node>>,
+    places: &mut Vec<Option<Boxed<Node>>>,
     glances: &[Glance],
     node: &Node,
     key: u64,
@@ -223,7 +278,7 @@ fn clear_steps<K: Covers>(
 // whether a node was there that the node covers; it is gone then
 fn clear_at<K: Covers>(
     layout: &Layout,
-    places: &mut Vec<Option<Node>>,
+    places: &mut Vec<Option<Boxed<Node>>>,
     glances: &[Glance],
     place: usize,
     node: &Node,
@@ -248,7 +303,7 @@ fn clear_at<K: Covers>(
 // whether the node with this glance covers the one at a place
 fn is_covered_at<K: Covers>(
     layout: &Layout,
-    places: &[Option<Node>],
+    places: &[Option<Boxed<Node>>],
     glances: &[Glance],
     place: usize,
     node: &Node,
@@ -268,7 +323,7 @@ fn is_covered_at<K: Covers>(
         return false;
     }
     match &places[place] {
-        Some(held) => K::covers(layout, node, held),
+        Some(held) => K::covers(layout, node, held.get()),
         None => false,
     }
 }
@@ -279,11 +334,11 @@ pub(crate) fn put_node<K: Covers>(
     layout: &Layout,
     chains: &mut Chains,
     stairs: &mut Stairs,
-    places: &mut Vec<Option<Node>>,
+    places: &mut Vec<Option<Boxed<Node>>>,
     glances: &[Glance],
     covering: bool,
     place: usize,
-    node: Node,
+    node: Boxed<Node>,
     key: u64,
     glance: Glance,
 ) -> usize
@@ -299,12 +354,21 @@ pub(crate) fn put_node<K: Covers>(
     requires complete { (p : ℕ) (n : Node) → StandsAt places.old.items p n → covers K.prune K.minimize K.operator layout.now node n ≡ true → Has (chain_from chains.old.older.items (older_at chains.old.older.items place)) p }
     ensures places { places.new.items ≡ slice_set (fold (cleared (λ (held : Node). covers K.prune K.minimize K.operator layout.now node held)) places.old.items (chain_from chains.old.older.items (older_at chains.old.older.items place))) place (Some node) }
     ensures counted { length (nodes_of places.new.items) + result ≡ length (nodes_of places.old.items) + 1 }
-    ensures rows { KeepsRows (row_in chains.old.newest chains.old.older.items) (row_in chains.new.newest chains.new.older.items) place places.new.items }
+    ensures rows { KeepsRows (row_in chains.old.heads.items chains.old.older.items chains.old.keys.items) (row_in chains.new.heads.items chains.new.older.items chains.new.keys.items) place places.new.items }
     ensures steps { AreSteps K.prune K.minimize K.operator layout.now stairs.new.row stairs.new.steps places.new.items }
     ensures links { length chains.new.older.items ≡ length chains.old.older.items }
 {
     let gone = clear_if::<K>(
-        layout, chains, stairs, places, glances, covering, place, &node, key, glance,
+        layout,
+        chains,
+        stairs,
+        places,
+        glances,
+        covering,
+        place,
+        node.get(),
+        key,
+        glance,
     );
     stairs.add(key, glance, place);
     places[place] = Some(node);

@@ -15,6 +15,7 @@ use crate::chains::Chains;
 use crate::covers::Covers;
 use crate::glance::Glance;
 use crate::stairs::Stairs;
+use dp_base::Boxed;
 use dp_model::Preference;
 use state_layout::{Layout, Node, Slot};
 
@@ -48,11 +49,11 @@ pub(crate) fn raise_long<K: Covers>(
     one_resource: bool,
     chains: &Chains,
     stairs: &mut Stairs,
-    places: &[Option<Node>],
+    places: &[Option<Boxed<Node>>],
     glances: &[Glance],
     key: u64,
 )
-    requires filed { AreFiled (key_of K.prune layout.now) layout.now (row_in chains.now.newest chains.now.older.items) places.now }
+    requires filed { AreFiled (key_of K.prune layout.now) layout.now (row_in chains.now.heads.items chains.now.older.items chains.now.keys.items) places.now }
     requires glanced { AreGlanced K.minimize K.operator layout.now places.now glances.now }
     requires steps { AreSteps K.prune K.minimize K.operator layout.now stairs.old.row stairs.old.steps places.now }
     ensures { AreSteps K.prune K.minimize K.operator layout.now stairs.new.row stairs.new.steps places.now }
@@ -80,11 +81,11 @@ fn raise<K: Covers>(
     layout: &Layout,
     chains: &Chains,
     stairs: &mut Stairs,
-    places: &[Option<Node>],
+    places: &[Option<Boxed<Node>>],
     glances: &[Glance],
     key: u64,
 )
-    requires filed { AreFiled (key_of K.prune layout.now) layout.now (row_in chains.now.newest chains.now.older.items) places.now }
+    requires filed { AreFiled (key_of K.prune layout.now) layout.now (row_in chains.now.heads.items chains.now.older.items chains.now.keys.items) places.now }
     requires glanced { AreGlanced K.minimize K.operator layout.now places.now glances.now }
     ensures { AreSteps K.prune K.minimize K.operator layout.now stairs.new.row stairs.new.steps places.now }
 {
@@ -100,7 +101,12 @@ fn raise<K: Covers>(
 }
 
 // puts in the step of the node that stands at a place, if one does
-fn put_step(stairs: &mut Stairs, places: &[Option<Node>], glances: &[Glance], place: usize) -> bool
+fn put_step(
+    stairs: &mut Stairs,
+    places: &[Option<Boxed<Node>>],
+    glances: &[Glance],
+    place: usize,
+) -> bool
     ensures row { stairs.new.row ≡ stairs.old.row }
     ensures has { result ≡ true → (n : Node) (g : Glance) → StandsAt places.now place n → slice_get glances.now place ≡ Some g → HasStep stairs.old.steps stairs.new.steps g place }
     ensures others { result ≡ true → (w : ℕ) (s : Step) → get nat_cmp stairs.old.steps w ≡ Some s → get nat_cmp stairs.new.steps w ≡ Some s }
@@ -115,7 +121,7 @@ fn put_step(stairs: &mut Stairs, places: &[Option<Node>], glances: &[Glance], pl
 }
 
 // whether no node stands at a place
-fn is_empty_at(places: &[Option<Node>], place: usize) -> bool
+fn is_empty_at(places: &[Option<Boxed<Node>>], place: usize) -> bool
     ensures { result ≡ true → (n : Node) → StandsAt places.now place n → ⊥ }
 {
     if place >= places.len() {

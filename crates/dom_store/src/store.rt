@@ -21,6 +21,7 @@ use crate::stairs::Stairs;
 use crate::sweep::clear_past;
 use crate::taking::{Taken, take_nodes};
 use cost_laws::CostLaw;
+use dp_base::Boxed;
 use state_layout::{Layout, Node};
 use std::alloc::{AllocError, Global};
 use std::marker::{Model, PhantomData};
@@ -32,7 +33,7 @@ pub struct DomStore<K: Covers> {
     one_resource: bool,
     chains: Chains,
     stairs: Stairs,
-    places: Vec<Option<Node>>,
+    places: Vec<Option<Boxed<Node>>>,
     glances: Vec<Glance>,
     count: usize,
     covering: PhantomData<K>,
@@ -49,7 +50,7 @@ impl<K: Covers> Model for DomStore<K> {
 
     ghost view = { λ s. record { layout = s.layout; nodes = nodes_of s.places.items } };
 
-    ghost invariant = { λ s. IsKept K.prune K.minimize K.operator s.layout (row_in s.chains.newest s.chains.older.items) (length s.chains.older.items) s.places.items s.glances.items s.count × AreSteps K.prune K.minimize K.operator s.layout s.stairs.row s.stairs.steps s.places.items };
+    ghost invariant = { λ s. IsKept K.prune K.minimize K.operator s.layout (row_in s.chains.heads.items s.chains.older.items s.chains.keys.items) (length s.chains.older.items) s.places.items s.glances.items s.count × AreSteps K.prune K.minimize K.operator s.layout s.stairs.row s.stairs.steps s.places.items };
 }
 
 impl<K: Covers> DomStore<K> {
@@ -72,7 +73,7 @@ impl<K: Covers> DomStore<K> {
 
     /// Adds a node. Where a held node covers it the store stays as it is; else the nodes that it covers are gone, and it
     /// stands last. On `Err` memory ran out, the node comes back, and the store holds what it held.
-    pub fn add(&mut self, layout: &Layout, node: Node) -> Result<Added, Node>
+    pub fn add(&mut self, layout: &Layout, node: Boxed<Node>) -> Result<Added, Boxed<Node>>
         requires layout { layout.now ≡ self.old.layout }
         requires node { IsNodeFor layout.now node }
         ensures answer { IfOk result (λ added. added ≡ (if is_covered (covers K.prune K.minimize K.operator layout.now) self.old.nodes node then Added.Covered else Added.Kept)) }

@@ -13,7 +13,7 @@ ghost use Rattle.dom_store.specs.declared.order.Ranked.{Ranked};
 
 use crate::order::{Ranked, sorted_places};
 use cost_laws::CostLaw;
-use dp_base::Seq;
+use dp_base::{Boxed, Seq};
 use state_layout::Node;
 use std::alloc::{AllocError, Global};
 
@@ -21,15 +21,15 @@ use std::alloc::{AllocError, Global};
 /// ones. There is none where none is dropped, or where one of them has no floor.
 #[derive(Debug, Drop)]
 pub struct Taken {
-    pub kept: Seq<Node>,
-    pub dropped: Seq<Node>,
+    pub kept: Seq<Boxed<Node>>,
+    pub dropped: Seq<Boxed<Node>>,
     pub least_floor: Option<i64>,
 }
 
 /// Takes the nodes out of their places, in order. On an error the places are as they were.
 pub(crate) fn take_nodes<L: CostLaw>(
     alloc: Global,
-    places: &mut Vec<Option<Node>>,
+    places: &mut Vec<Option<Boxed<Node>>>,
     count: usize,
     share: u64,
 ) -> Result<Taken, AllocError>
@@ -60,11 +60,11 @@ pub(crate) fn take_nodes<L: CostLaw>(
 // moves the nodes out of their places, in the order given, each place once: the first ones, up to the share, and the others;
 // there is room for them
 fn share_out(
-    places: &mut Vec<Option<Node>>,
+    places: &mut Vec<Option<Boxed<Node>>>,
     order: &[Ranked],
     share: u64,
-    kept: &mut Vec<Node>,
-    dropped: &mut Vec<Node>,
+    kept: &mut Vec<Boxed<Node>>,
+    dropped: &mut Vec<Boxed<Node>>,
 )
     requires kept { kept.old.items ≡ [] }
     requires dropped { dropped.old.items ≡ [] }
@@ -83,7 +83,12 @@ fn share_out(
 }
 
 // puts a node among the kept ones while these are fewer than the share, and else among the dropped ones
-fn put_out(node: Node, share: u64, kept: &mut Vec<Node>, dropped: &mut Vec<Node>)
+fn put_out(
+    node: Boxed<Node>,
+    share: u64,
+    kept: &mut Vec<Boxed<Node>>,
+    dropped: &mut Vec<Boxed<Node>>,
+)
     requires kept_room { vec_len kept.old < share → vec_len kept.old < vec_capacity kept.old }
     requires dropped_room { share ≤ vec_len kept.old → vec_len dropped.old < vec_capacity dropped.old }
     ensures kept { length kept.old.items < share → (kept.new.items ≡ kept.old.items ++ node ∷ []) × (dropped.new.items ≡ dropped.old.items) }
@@ -100,15 +105,21 @@ fn put_out(node: Node, share: u64, kept: &mut Vec<Node>, dropped: &mut Vec<Node>
 }
 
 // the best floor of nodes: none where there are no nodes, or where one has no floor
-fn least_floor<L: CostLaw>(nodes: &[Node]) -> Option<i64>
+fn least_floor<L: CostLaw>(nodes: &[Boxed<Node>]) -> Option<i64>
     requires { (n : Node) → Has nodes.now n → IfSome n.floor InWideRange }
     ensures { IsLeastFloor L.minimize L.operator nodes.now result }
 {
-    let mut least = nodes.first()?.floor;
+    let mut least = floor_of(nodes.first()?);
     for node in nodes {
-        least = better_floor::<L>(least, node.floor);
+        least = better_floor::<L>(least, floor_of(node));
     }
     least
+}
+
+fn floor_of(node: &Boxed<Node>) -> Option<i64>
+    ensures { result ≡ node.now.floor }
+{
+    node.get().floor
 }
 
 // the better of two floors, and none where one is missing

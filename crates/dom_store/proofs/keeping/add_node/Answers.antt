@@ -7,6 +7,15 @@ use Rattle.dom_store.specs.Places.{nodes_of, StandsAt}
 use Rattle.dom_store.proofs.Adding.{kept_same, kept_with, nodes_few}
 use Rattle.dom_store.proofs.keeping.add_node.Goals as goal
 
+pub key-key-requires : goal.key-key-requires
+key-key-requires g c = rw c.get-seen.ensures c.requires.node
+
+pub glance-glance-requires : goal.glance-glance-requires
+glance-glance-requires g c = rw c.get-seen.ensures c.requires.node
+
+pub covers_by_steps-requires-clause-node : goal.covers_by_steps-requires-clause-node
+covers_by_steps-requires-clause-node g c = rw c.get-seen.ensures c.requires.node
+
 pub covers_by_steps-requires-clause-filed : goal.covers_by_steps-requires-clause-filed
 covers_by_steps-requires-clause-filed g c = rw c.deref.ensures.value c.requires.kept.filed
 
@@ -17,11 +26,11 @@ pub covers_by_steps-requires-clause-glanced : goal.covers_by_steps-requires-clau
 covers_by_steps-requires-clause-glanced g c = rw (c.deref.ensures.value, c.deref-2.ensures.value) c.requires.kept.glanced
 
 pub keep_node-requires-clause-covering : goal.keep_node-requires-clause-covering
-keep_node-requires-clause-covering g c = λ none p n stands. c.in-Some.ensures.covering none p n (subst (λ (ps : List (Option Node)). StandsAt ps p n) (sym c.deref.ensures.value) stands)
+keep_node-requires-clause-covering g c = λ none p n stands. rw c.get-seen.ensures at c.in-Some.ensures.covering none p n (subst (λ (ps : List (Option Node)). StandsAt ps p n) (sym c.deref.ensures.value) stands)
 
 pub returns-in_err-gone-clause-kept : goal.returns-in_err-gone-clause-kept
 returns-in_err-gone-clause-kept g c =
-    kept_same g.K.Covers.prune g.K.Covers.minimize g.K.Covers.operator c.args.layout.now (row_in c.args.chains.now.newest c.args.chains.now.older.items) (row_in c.keep_node.new.chains.newest c.keep_node.new.chains.older.items) (length c.args.chains.now.older.items) (length c.keep_node.new.chains.older.items) c.args.places.now.items c.keep_node.new.places.items c.args.glances.now.items c.keep_node.new.glances.items c.args.count.now c.requires.kept
+    kept_same g.K.Covers.prune g.K.Covers.minimize g.K.Covers.operator c.args.layout.now (row_in c.args.chains.now.heads.items c.args.chains.now.older.items c.args.chains.now.keys.items) (row_in c.keep_node.new.chains.heads.items c.keep_node.new.chains.older.items c.keep_node.new.chains.keys.items) (length c.args.chains.now.older.items) (length c.keep_node.new.chains.older.items) c.args.places.now.items c.keep_node.new.places.items c.args.glances.now.items c.keep_node.new.glances.items c.args.count.now c.requires.kept
     c.in_err-gone.ensures.err.1 c.keep_node.ensures.filed c.keep_node.ensures.glanced c.keep_node.ensures.level c.keep_node.ensures.linked
 
 pub overflow_add-count : goal.overflow_add-count
@@ -31,8 +40,8 @@ overflow_add-count g c =
 
 pub returns-clause-kept : goal.returns-clause-kept
 returns-clause-kept g c =
-    let free : is_covered (covers g.K.Covers.prune g.K.Covers.minimize g.K.Covers.operator c.args.layout.now) (nodes_of c.args.places.now.items) c.args.node ≡ false = ap (λ (ps : List (Option Node)). is_covered (covers g.K.Covers.prune g.K.Covers.minimize g.K.Covers.operator c.args.layout.now) (nodes_of ps) c.args.node) (sym c.deref.ensures.value) ∙ c.in-Some.ensures.free in
-    kept_with g.K.Covers.prune g.K.Covers.minimize g.K.Covers.operator c.args.layout.now (row_in c.args.chains.now.newest c.args.chains.now.older.items) (row_in c.keep_node.new.chains.newest c.keep_node.new.chains.older.items) (length c.args.chains.now.older.items) (length c.keep_node.new.chains.older.items) c.args.places.now.items c.keep_node.new.places.items c.args.glances.now.items c.keep_node.new.glances.items c.args.count.now c.in_ok-gone.gone c.args.node c.requires.kept
+    let free : is_covered (covers g.K.Covers.prune g.K.Covers.minimize g.K.Covers.operator c.args.layout.now) (nodes_of c.args.places.now.items) c.args.node ≡ false = ap (λ (ps : List (Option Node)). is_covered (covers g.K.Covers.prune g.K.Covers.minimize g.K.Covers.operator c.args.layout.now) (nodes_of ps) c.args.node) (sym c.deref.ensures.value) ∙ (rw c.get-seen.ensures at c.in-Some.ensures.free) in
+    kept_with g.K.Covers.prune g.K.Covers.minimize g.K.Covers.operator c.args.layout.now (row_in c.args.chains.now.heads.items c.args.chains.now.older.items c.args.chains.now.keys.items) (row_in c.keep_node.new.chains.heads.items c.keep_node.new.chains.older.items c.keep_node.new.chains.keys.items) (length c.args.chains.now.older.items) (length c.keep_node.new.chains.older.items) c.args.places.now.items c.keep_node.new.places.items c.args.glances.now.items c.keep_node.new.glances.items c.args.count.now c.in_ok-gone.gone c.args.node c.requires.kept
     free c.in_ok-gone.ensures.nodes c.in_ok-gone.ensures.counted c.keep_node.ensures.filed c.keep_node.ensures.glanced c.keep_node.ensures.level c.keep_node.ensures.linked
 
 pub raise_long-requires-clause-filed : goal.raise_long-requires-clause-filed

@@ -6,16 +6,16 @@ use Rattle.dom_store.proofs.past.keep.Goals as goal
 
 pub returns-in_err-reserve-clause-kept : goal.returns-in_err-reserve-clause-kept
 returns-in_err-reserve-clause-kept g c =
-    past_same g.K.Covers.prune c.args.layout.now (row_in c.args.chains.now.newest c.args.chains.now.older.items) (row_in c.args.chains.now.newest c.args.chains.now.older.items) (length c.args.chains.now.older.items) (length c.args.chains.now.older.items)
-    c.args.kept.now.items c.reserve.new.self.items c.requires.kept (λ k. refl) refl c.reserve.ensures.items
+    past_same g.K.Covers.prune c.args.layout.now (row_in c.args.chains.now.heads.items c.args.chains.now.older.items c.args.chains.now.keys.items) (row_in c.args.chains.now.heads.items c.args.chains.now.older.items c.args.chains.now.keys.items) (length c.args.chains.now.older.items) (length c.args.chains.now.older.items)
+    c.args.kept.now.items c.reserve.new.self.items c.requires.kept (λ k p there. there) refl c.reserve.ensures.items
 
 pub returns-in_err-push-clause-kept : goal.returns-in_err-push-clause-kept
 returns-in_err-push-clause-kept g c =
-    past_same g.K.Covers.prune c.args.layout.now (row_in c.args.chains.now.newest c.args.chains.now.older.items) (row_in c.push.new.self.newest c.push.new.self.older.items) (length c.args.chains.now.older.items) (length c.push.new.self.older.items)
-    c.args.kept.now.items c.reserve.new.self.items c.requires.kept c.in_err-push.ensures.err c.in_err-push.ensures.err_len c.reserve.ensures.items
+    past_same g.K.Covers.prune c.args.layout.now (row_in c.args.chains.now.heads.items c.args.chains.now.older.items c.args.chains.now.keys.items) (row_in c.push.new.self.heads.items c.push.new.self.older.items c.push.new.self.keys.items) (length c.args.chains.now.older.items) (length c.push.new.self.older.items)
+    c.args.kept.now.items c.reserve.new.self.items c.requires.kept c.push.ensures.rows c.in_err-push.ensures.err_len c.reserve.ensures.items
 
 pub returns-clause-kept : goal.returns-clause-kept
 returns-clause-kept g c =
-    past_pushed g.K.Covers.prune c.args.layout.now (row_in c.args.chains.now.newest c.args.chains.now.older.items) (row_in c.push.new.self.newest c.push.new.self.older.items) (length c.args.chains.now.older.items) (length c.push.new.self.older.items)
+    past_pushed g.K.Covers.prune c.args.layout.now (row_in c.args.chains.now.heads.items c.args.chains.now.older.items c.args.chains.now.keys.items) (row_in c.push.new.self.heads.items c.push.new.self.older.items c.push.new.self.keys.items) (length c.args.chains.now.older.items) (length c.push.new.self.older.items)
     c.args.kept.now.items c.push_within.new.kept.items c.in_ok-past.past c.args.node.now c.key.result c.requires.kept c.requires.node c.in_ok-past.ensures c.key.ensures
-    (c.push_within.ensures ∙ ap (λ (ps : List PastNode). ps ++ c.in_ok-past.past ∷ []) c.reserve.ensures.items) c.in_ok-push.ensures.row c.in_ok-push.ensures.others c.in_ok-push.ensures.len
+    (c.push_within.ensures ∙ ap (λ (ps : List PastNode). ps ++ c.in_ok-past.past ∷ []) c.reserve.ensures.items) c.in_ok-push.ensures.first c.push.ensures.rows c.in_ok-push.ensures.len

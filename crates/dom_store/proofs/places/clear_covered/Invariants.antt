@@ -13,7 +13,7 @@ invariant-loop-next g l = record {
   cleared :
       fold (cleared (λ (held : Node). covers g.K.Covers.prune g.K.Covers.minimize g.K.Covers.operator l.layout l.node held)) l.initial.places.items (chain_from l.initial.chains.older.items (older_at l.initial.chains.older.items l.place))
       ≡ fold (cleared (λ (held : Node). covers g.K.Covers.prune g.K.Covers.minimize g.K.Covers.operator l.layout l.node held)) l.places.items (chain_from l.chains.older.items (older_at l.chains.older.items l.last));
-  rows : KeepsRows (row_in l.initial.chains.newest l.initial.chains.older.items) (row_in l.chains.newest l.chains.older.items) l.place l.places.items;
+  rows : KeepsRows (row_in l.initial.chains.heads.items l.initial.chains.older.items l.initial.chains.keys.items) (row_in l.chains.heads.items l.chains.older.items l.chains.keys.items) l.place l.places.items;
   links : length l.chains.older.items ≡ length l.initial.chains.older.items;
   low : l.last ≤ l.place;
   nodes : (p : ℕ) (n : Node) → StandsAt l.places.items p n → IsNodeFor l.layout n;

@@ -8,7 +8,7 @@ use Rattle.dom_store.proofs.rising.raise.Goals as goal
 pub loop-next-init : goal.loop-next-init
 loop-next-init g c = record {
   off = c.end.ensures;
-  left = λ p n g' stands is of_node. inl (subst (λ (ps : List ℕ). Has ps p) (ap (row_in c.args.chains.now.newest c.args.chains.now.older.items) (sym is) ∙ sym c.newest-next.ensures) (c.requires.filed.filed p n stands));
+  left = λ p n g' stands is of_node. inl (c.newest-next.ensures p (subst (λ k. Has (row_in c.args.chains.now.heads.items c.args.chains.now.older.items c.args.chains.now.keys.items k) p) (sym is) (c.requires.filed.filed p n stands)));
 }
 
 pub loop-next-preserved : goal.loop-next-preserved

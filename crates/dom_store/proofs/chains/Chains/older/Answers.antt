@@ -6,4 +6,4 @@ use Rattle.dom_store.proofs.chains.Chains.older.Goals as goal
 pub returns-clause-chain : goal.returns-clause-chain
 returns-clause-chain c =
     chain_next c.args.self.now.older.items c.args.place
-    ∙ ap (λ (o : Option ℕ). c.args.place ∷ chain_from c.args.self.now.older.items o) (ap (λ (older : List ℕ). older_at older c.args.place) (sym c.deref.ensures.value) ∙ sym c.older_at.ensures)
+    ∙ ap (λ (o : Option ℕ). c.args.place ∷ chain_from c.args.self.now.older.items o) (ap (λ (older : List ℕ). older_at older c.args.place) (sym c.deref.ensures.value) ∙ sym c.below.ensures)

@@ -8,8 +8,8 @@ use Rattle.dom_store.proofs.past.PastStore.covered.Goals as goal
 
 pub is_covered_by-requires-clause-kept : goal.is_covered_by-requires-clause-kept
 is_covered_by-requires-clause-kept g c =
-    subst (λ (ns : List PastNode). IsPastKept g.K.Covers.prune c.args.layout.now (row_in c.self.inside.chains.newest c.self.inside.chains.older.items) (length c.self.inside.chains.older.items) ns) (sym c.deref.ensures.value)
-    (subst (λ (l : Layout). IsPastKept g.K.Covers.prune l (row_in c.self.inside.chains.newest c.self.inside.chains.older.items) (length c.self.inside.chains.older.items) c.self.inside.kept.items)
+    subst (λ (ns : List PastNode). IsPastKept g.K.Covers.prune c.args.layout.now (row_in c.self.inside.chains.heads.items c.self.inside.chains.older.items c.self.inside.chains.keys.items) (length c.self.inside.chains.older.items) ns) (sym c.deref.ensures.value)
+    (subst (λ (l : Layout). IsPastKept g.K.Covers.prune l (row_in c.self.inside.chains.heads.items c.self.inside.chains.older.items c.self.inside.chains.keys.items) (length c.self.inside.chains.older.items) c.self.inside.kept.items)
     (ap (λ (p : Past). p.layout) c.self.view_is ∙ sym c.requires.layout) c.self.invariant)
 
 pub returns-clause-covering : goal.returns-clause-covering
