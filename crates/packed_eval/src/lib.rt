@@ -10,4 +10,4 @@ mod rows;
 mod sums;
 
 pub use calls::{Scratch, packed_cond, packed_num, packed_set, words_of};
-pub use evaluate::{holds, number, set_into};
+pub use evaluate::{holds, number, operand_word, set_into};

@@ -1,16 +1,15 @@
 -- What a model's room is for each of its expressions, and what is known of a ground transition.
-use Rattle.std.proofs.Common.{◌≡◌, ℕ, ◌<◌, ◌≤◌, Bool, true, false, ◌&&◌, List, [], length, get_or, slice_get, slice_index, take, Option, Some, None, option_and_then, refl, ap, sym, subst, ◌∙◌, arith}
+use Rattle.std.proofs.Common.{◌≡◌, ℕ, ◌<◌, ◌≤◌, Bool, true, List, [], length, get_or, slice_get, Option, Some, None, option_and_then, refl, ap, sym, subst, ◌∙◌, arith}
 use Rattle.std.specs.Prelude.{option_map}
 use Rattle.std.specs.List.{list_all}
 use Rattle.std.proofs.lemmas.Bool.{and_parts, leb-true}
 use Rattle.std.proofs.lemmas.Option.{slice_get-get_or}
-use Rattle.dp_model.specs.Limits.{has_most, is_name, is_small_transition}
+use Rattle.dp_model.specs.Limits.{has_most, is_name}
 use Rattle.dp_model.specs.StepTexts.{ground_of}
 use Rattle.dp_model.specs.Typing.{over_typed}
 use Rattle.dp_model.specs.declared.parts.BaseCase.{BaseCase}
 use Rattle.dp_model.specs.declared.parts.Ground.{Ground}
 use Rattle.dp_model.specs.declared.parts.Transition.{Transition}
-use Rattle.dp_model.specs.declared.trees.Cond.{Cond}
 use Rattle.dp_model.specs.declared.trees.Num.{Num}
 use Rattle.dp_model.specs.declared.whole.Model.{Model}
 use Rattle.eval_room.specs.Fits.{num_fits, cond_fits}

@@ -1,5 +1,5 @@
 -- What the slots of a scene say of a variable, by the model's kind of it.
-use Rattle.std.proofs.Common.{◌≡◌, ℕ, ◌<◌, true, false, ◌&&◌, eqb, List, length, get_or, sym, ap, ◌∙◌}
+use Rattle.std.proofs.Common.{◌≡◌, ℕ, ◌<◌, true, false, eqb, List, length, get_or, sym, ap, ◌∙◌}
 use Rattle.std.proofs.lemmas.Bool.{and_parts, eqb-true}
 use Rattle.dp_model.specs.declared.parts.Effect.TheVariants as effects
 use Rattle.dp_model.specs.declared.trees.SetEx.{SetEx}
@@ -9,7 +9,6 @@ use Rattle.dp_model.specs.declared.whole.Model.{Model}
 use Rattle.state_layout.specs.declared.layout.Slot.{Slot}
 use Rattle.state_layout.specs.Packing.{is_set}
 use Rattle.state_layout.specs.Forms.{no_slot}
-use Rattle.state_layout.specs.Signatures.{word_count}
 use Rattle.eval_room.specs.Fits.{set_fits, operand_fits}
 use Rattle.eval_room.specs.Needs.{effect_fits}
 use Rattle.packed_words.specs.Scenes.{Shows}

@@ -19,6 +19,7 @@ use spot_eval::{SpotFault, joined_at};
 
 /// The weight of a transition, if it has one. In a state of the model it is in range.
 #[tactic(auto, using(crate::proofs::Rooms::weight_room))]
+#[inline(always)]
 fn weight_at(
     at: &Scene<'_>,
     number: u32,
@@ -39,6 +40,7 @@ fn weight_at(
 
 /// The cost so far of the successor that a ground transition leads to: the cost so far joined with its weight, if it has
 /// one, and tested for its range.
+#[inline(always)]
 pub fn cost_at<L: CostLaw>(
     at: &Scene<'_>,
     number: u32,

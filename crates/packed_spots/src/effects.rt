@@ -15,13 +15,14 @@ ghost use Rattle.spot_eval.specs.Moves.{effects_at, next_at};
 
 use dp_model::{Effect, FaultKind, Model, Num, Seq, SetEx, Spot, Transition, VarKind};
 use eval_room::set_count;
-use packed_eval::{number, set_into};
-use packed_words::{Scene, words_for};
+use packed_eval::{number, operand_word, set_into};
+use packed_words::{Scene, set_slot, words_for};
 use spot_eval::{SpotEnd, SpotFault};
 use state_layout::{Draft, Layout, Packed};
 use std::alloc::Global;
 
 /// The kind of a variable.
+#[inline(always)]
 fn kind_of(model: &Model, variable: u32) -> VarKind
     ensures { result ≡ kind_of model.now variable }
 {
@@ -32,6 +33,7 @@ fn kind_of(model: &Model, variable: u32) -> VarKind
 }
 
 /// A number as the new value of a variable: an element variable holds 0 to 2^32 - 1.
+#[inline(always)]
 fn stored(kind: VarKind, n: i64) -> Result<i64, FaultKind>
     ensures { result ≡ stored kind n }
 {
@@ -44,6 +46,7 @@ fn stored(kind: VarKind, n: i64) -> Result<i64, FaultKind>
 
 /// Sets a variable to a number.
 #[tactic(auto, using(crate::proofs::Slots::number_inside, crate::proofs::Slots::number_slot))]
+#[inline(always)]
 fn set_number(
     at: &Scene<'_>,
     v: u32,
@@ -61,9 +64,34 @@ fn set_number(
     Ok(())
 }
 
-/// Sets a variable to a set, which is written to the front of the stack before.
+/// Sets a variable to a set. One that has a word is set as it is.
+#[inline(always)]
 #[tactic(auto, using(crate::proofs::Slots::set_within, crate::proofs::Slots::set_slot))]
 fn set_members(
+    at: &Scene<'_>,
+    v: u32,
+    e: &SetEx,
+    draft: &mut Draft<'_>,
+    stack: &mut [u64],
+) -> Result<(), FaultKind>
+    requires slots { draft.old.slots ≡ at.now.slots.now }
+    requires fits { IsTrue (effect_fits at.now.model.now (length at.now.args.now) (effects.Members v e.now) (length stack.old)) }
+    ensures { Tells (λ _. draft.new) result (changed_by draft.old (effect_value at.now.model.now (state_in at.now.words.now) at.now.args.now (effects.Members v e.now))) }
+{
+    let count = set_slot(at, v).count;
+    if 1 <= count && count <= 64 {
+        let word = operand_word(at, e, count, stack)?;
+        draft.set_word(v as usize, word);
+        Ok(())
+    } else {
+        set_wide(at, v, e, draft, stack)
+    }
+}
+
+/// Sets a variable to a set of several words, which is written to the front of the stack before.
+#[inline(never)]
+#[tactic(auto, using(crate::proofs::Slots::set_within, crate::proofs::Slots::set_slot))]
+fn set_wide(
     at: &Scene<'_>,
     v: u32,
     e: &SetEx,
@@ -82,6 +110,7 @@ fn set_members(
 }
 
 /// Sets what an effect sets, to what it is in the state at hand.
+#[inline(always)]
 fn set_variable(
     at: &Scene<'_>,
     effect: &Effect,
@@ -99,6 +128,7 @@ fn set_variable(
 }
 
 /// Sets what all effects set, in order. All are computed in the state at hand.
+#[inline(always)]
 fn set_variables(
     at: &Scene<'_>,
     number: u32,
@@ -124,6 +154,7 @@ fn set_variables(
 
 /// The state that a ground transition leads to. It is a state of the model again.
 #[tactic(auto, using(spot_eval::proofs::Limits::few_effects, crate::proofs::Rooms::effects_room))]
+#[inline(always)]
 pub fn next_state(
     alloc: Global,
     layout: &Layout,

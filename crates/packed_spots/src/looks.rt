@@ -17,6 +17,7 @@ use spot_eval::{Look, SpotFault, Tests};
 
 /// Whether the state is allowed: the constraints are tested in order up to the first that does not hold.
 #[tactic(auto, using(spot_eval::proofs::Limits::few_constraints, crate::proofs::Rooms::constraints_room))]
+#[inline(always)]
 pub fn allowed(at: &Scene<'_>, stack: &mut [u64]) -> Result<bool, SpotFault>
     requires none { at.now.args.now ≡ [] }
     requires room { ServesModel at.now.model.now (length stack.old) }
@@ -26,6 +27,7 @@ pub fn allowed(at: &Scene<'_>, stack: &mut [u64]) -> Result<bool, SpotFault>
 }
 
 /// The better of two numbers, of which each may be missing.
+#[inline(always)]
 fn with_better(minimize: bool, best: Option<i64>, other: Option<i64>) -> Option<i64>
     ensures { result ≡ with_better minimize best other }
 {
@@ -38,6 +40,7 @@ fn with_better(minimize: bool, best: Option<i64>, other: Option<i64>) -> Option<
 
 /// The cost of a base case, where all its conditions hold.
 #[tactic(auto, using(crate::proofs::Rooms::base_cost_room))]
+#[inline(always)]
 fn case_at(
     at: &Scene<'_>,
     number: u32,
@@ -60,6 +63,7 @@ fn case_at(
 /// The best cost of the satisfied base cases, if any is. All base cases are evaluated, in order. In a state of the model
 /// the cost is in range.
 #[tactic(auto, using(spot_eval::proofs::Limits::few_cases, spot_eval::proofs::Limits::few_conditions_at, spot_eval::proofs::Ranges::best_fits))]
+#[inline(always)]
 fn best_case(at: &Scene<'_>, stack: &mut [u64]) -> Result<Option<i64>, SpotFault>
     requires none { at.now.args.now ≡ [] }
     requires room { ServesModel at.now.model.now (length stack.old) }
@@ -90,6 +94,7 @@ pub fn base_cost(at: &Scene<'_>, stack: &mut [u64]) -> Result<Option<i64>, SpotF
 
 /// The tightest dual bound: the greatest where the lesser cost is better, and else the least.
 #[tactic(auto, using(crate::proofs::Rooms::bound_room, spot_eval::proofs::Limits::few_bounds, spot_eval::proofs::Ranges::tightest_fits))]
+#[inline(always)]
 fn tightest(at: &Scene<'_>, stack: &mut [u64]) -> Result<Option<i64>, SpotFault>
     requires none { at.now.args.now ≡ [] }
     requires room { ServesModel at.now.model.now (length stack.old) }
@@ -107,6 +112,7 @@ fn tightest(at: &Scene<'_>, stack: &mut [u64]) -> Result<Option<i64>, SpotFault>
 
 /// The floor of an inner state with this cost so far: their join, which is not tested for its range. Dual bounds are
 /// evaluated with pruning on alone.
+#[inline(always)]
 pub fn floor<L: CostLaw>(
     at: &Scene<'_>,
     prune: bool,
@@ -132,6 +138,7 @@ pub fn floor<L: CostLaw>(
 
 /// What the state turns out to be, with the cost so far of the path that leads to it: its constraints, its base cases and,
 /// where it is neither forbidden nor base, with pruning on, its dual bounds are evaluated in this order.
+#[inline(always)]
 pub fn look_at<L: CostLaw>(
     at: &Scene<'_>,
     prune: bool,

@@ -16,6 +16,7 @@ use packed_words::{Scene, has_in};
 use spot_eval::{SpotFault, Tests};
 
 /// The value at a place, or 0 past the last.
+#[inline(always)]
 fn value_at(args: &[u32], place: usize) -> u64
     ensures value { result ≡ slice_index args.now place }
     ensures small { result < 2 ^ 32 }
@@ -28,6 +29,7 @@ fn value_at(args: &[u32], place: usize) -> u64
 
 /// The values of parameters, each in a word. A transition has no more than four.
 #[tactic(auto, using(crate::proofs::Values::four, crate::proofs::Values::four_small))]
+#[inline(always)]
 pub fn in_words(args: &[u32]) -> [u64; 4]
     requires { length args.now ≤ 4 }
     ensures values { take (length args.now) result ≡ args.now }
@@ -42,6 +44,7 @@ pub fn in_words(args: &[u32]) -> [u64; 4]
 }
 
 /// Whether the value of a parameter is a member of the set variable that it ranges over, if it ranges over one.
+#[inline(always)]
 fn is_member(at: &Scene<'_>, over: Over, k: u32) -> bool
     requires { over_typed at.now.model.now.objects at.now.model.now.variables over ≡ true }
     ensures { result ≡ is_member (state_in at.now.words.now) over k }
@@ -54,6 +57,7 @@ fn is_member(at: &Scene<'_>, over: Over, k: u32) -> bool
 
 /// Whether each value is so.
 #[tactic(auto, using(spot_eval::proofs::Members::members_step, spot_eval::proofs::Members::members_past))]
+#[inline(always)]
 fn are_members(at: &Scene<'_>, params: &[Over]) -> bool
     requires { list_all (over_typed at.now.model.now.objects at.now.model.now.variables) params.now ≡ true }
     ensures { result ≡ are_members (state_in at.now.words.now) params.now at.now.args.now }
@@ -71,6 +75,7 @@ fn are_members(at: &Scene<'_>, params: &[Over]) -> bool
 
 /// Whether a ground transition is enabled: its memberships are tested, which cannot fault, and then its preconditions.
 #[tactic(auto, using(crate::proofs::Rooms::params_typed, crate::proofs::Rooms::preconditions_room, spot_eval::proofs::Limits::few_preconditions))]
+#[inline(always)]
 pub fn is_enabled(
     at: &Scene<'_>,
     number: u32,

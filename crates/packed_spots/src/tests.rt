@@ -25,6 +25,7 @@ fn spot_of(tests: Tests, place: u32) -> Spot
 }
 
 /// The value of a number expression.
+#[inline(always)]
 pub(crate) fn num_at(
     at: &Scene<'_>,
     spot: Spot,
@@ -41,6 +42,7 @@ pub(crate) fn num_at(
 }
 
 /// Whether conditions hold, in order up to the first that does not.
+#[inline(always)]
 pub(crate) fn all_at(
     at: &Scene<'_>,
     tests: Tests,

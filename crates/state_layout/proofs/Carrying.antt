@@ -1,5 +1,5 @@
 -- Words that are carried over to others with a place for each word.
-use Rattle.std.proofs.Common.{◌≡◌, ℕ, ◌+◌, ◌*◌, ◌/◌, ◌%◌, ◌<◌, ◌≤◌, true, false, eqb, List, length, get_or, set, sym, ap, ◌∙◌, inl, inr, arith}
+use Rattle.std.proofs.Common.{◌≡◌, ℕ, ◌+◌, ◌*◌, ◌/◌, ◌%◌, ◌<◌, ◌≤◌, true, false, eqb, List, length, get_or, set, refl, sym, ap, ◌∙◌, inl, inr, arith}
 use Rattle.std.specs.Int.{bit_at, cast_signed, w64}
 use Rattle.std.proofs.lemmas.Bool.{cases_lt, cases_eq, cases_Bool}
 use Rattle.std.proofs.lemmas.List.{get_or_past, get_or-set_same, get_or-set_other}
@@ -102,3 +102,7 @@ module _ (slots : List Slot) (blank new words : List ℕ) (room : HasRoom slots 
 
   pub carried_state : state_in new ≡ state_in words
   carried_state = states_same slots new words carried_room.fits fits (λ p h. carried_value p (get_or slots p no_slot) h (get_or_default slots p no_slot (get_or slots p no_slot) h))
+
+-- words that are as many have the same places
+pub whole_room : (slots : List Slot) (blank words : List ℕ) → HasRoom slots blank → Fits slots words → length words ≡ length blank → HasRoom slots words
+whole_room slots blank words room fits long = carried_room slots blank words words room fits long (λ j h. refl)

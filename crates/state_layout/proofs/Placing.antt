@@ -207,6 +207,12 @@ module _ (slots : List Slot) (old new : List ℕ) (place : ℕ) (slot : Slot) (r
 pub words_written : (slots : List Slot) (old new room : List ℕ) (place : ℕ) (slot : Slot) (n : ℕ) → HasRoom slots old → place < length slots → slot ≡ get_or slots place slot → is_set slot.kind ≡ true → Written place (λ j. get_or room j 0) n old new → n ≡ word_count slot.count → length room ≡ n → ((m : ℕ) → slot.count ≤ m → has_bit room m ≡ false) → HasRoom slots new × (state_in new ≡ with_value (state_in old) place (Members (members_of room)))
 words_written slots old new room place slot n r h e is so enough long none = members_written slots old new place slot r h e is (λ j. get_or room j 0) n so enough none (members_of room) (ap (λ (k : ℕ). members_where (64 * k) (has_bit room)) (sym long))
 
+-- the same of a set of one word
+pub one_written : (slots : List Slot) (old : List ℕ) (place : ℕ) (slot : Slot) (w : ℕ) → HasRoom slots old → place < length slots → slot ≡ get_or slots place slot → is_set slot.kind ≡ true → word_count slot.count ≡ 1 → ((m : ℕ) → slot.count ≤ m → has_bit (w ∷ []) m ≡ false) → HasRoom slots (set old (word_place old place 0) w) × (state_in (set old (word_place old place 0) w) ≡ with_value (state_in old) place (Members (members_of (w ∷ []))))
+one_written slots old place slot w r h e is one none =
+    let so : Written place (λ j. get_or (w ∷ []) j 0) 1 old (set old (word_place old place 0) w) = written_more place (λ j. get_or (w ∷ []) j 0) 0 w old old (written_none place (λ j. get_or (w ∷ []) j 0) old) (omega (arith, r.fits.count)) (λ l. absurd (omega arith)) (first_inside slots old place r h) refl in
+    words_written slots old (set old (word_place old place 0) w) (w ∷ []) place slot 1 r h e is so (sym one) refl none
+
 -- a set is the members that its words have
 ascends_where : (least n : ℕ) (xs : List ℕ) → ascends least (least + n) xs ≡ true → filter (has xs) (range_with_len least n) ≡ xs
 ascends_where least zero [] h = refl

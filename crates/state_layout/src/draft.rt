@@ -1,6 +1,6 @@
 //! A state that is being made.
 
-ghost use Rattle.std.specs.Prelude.{◌≡◌, ℕ, ◌<◌, ◌≤◌, true, false, IfOk, length, slice_index, slice_index_or};
+ghost use Rattle.std.specs.Prelude.{◌≡◌, ℕ, ◌<◌, ◌≤◌, [], ◌∷◌, true, false, IfOk, length, slice_index, slice_index_or};
 ghost use Rattle.bit_sets.specs.Sets.{has_bit, members_of};
 ghost use Rattle.dp_model.specs.declared.parts.PlainValue.TheVariants.{Number, Members};
 ghost use Rattle.state_layout.specs.Signatures.{word_count};
@@ -37,6 +37,7 @@ impl<'l> Model for Draft<'l> {
 
 impl<'l> Draft<'l> {
     /// A copy of the state of the words.
+    #[inline(always)]
     pub(crate) fn of(
         alloc: Global,
         slots: &'l [Slot],
@@ -54,6 +55,7 @@ impl<'l> Draft<'l> {
     }
 
     /// Sets a variable that holds a number.
+    #[inline(always)]
     pub fn set_number(&mut self, place: usize, number: i64)
         requires place { place < length self.old.slots }
         requires kind { (slot : Slot) → slot ≡ slice_index_or self.old.slots place slot → is_set slot.kind ≡ false }
@@ -81,7 +83,21 @@ impl<'l> Draft<'l> {
         writing::set_members(slots, self.words.as_mut_slice(), place, slots[place], set);
     }
 
+    /// Sets a variable that holds a set over at most 64 members, to one in a word.
+    #[inline(always)]
+    pub fn set_word(&mut self, place: usize, set: u64)
+        requires place { place < length self.old.slots }
+        requires kind { (slot : Slot) → slot ≡ slice_index_or self.old.slots place slot → is_set slot.kind ≡ true }
+        requires one { (slot : Slot) → slot ≡ slice_index_or self.old.slots place slot → word_count slot.count ≡ 1 }
+        requires below { (slot : Slot) (m : ℕ) → slot ≡ slice_index_or self.old.slots place slot → slot.count ≤ m → has_bit (set ∷ []) m ≡ false }
+        ensures { self.new ≡ record { slots = self.old.slots; state = with_value self.old.state place (Members (members_of (set ∷ []))) } }
+    {
+        let slots = self.slots;
+        writing::set_one(slots, self.words.as_mut_slice(), place, slots[place], set);
+    }
+
     /// The state that was made.
+    #[inline(always)]
     pub fn done(self) -> Packed
         ensures { result ≡ self.entry.state }
     {
@@ -90,8 +106,27 @@ impl<'l> Draft<'l> {
     }
 }
 
-/// Words of the same state, with a place for each word of each variable.
+/// Words of the same state, with a place for each word of each variable. Nearly every state has as many words as the blank,
+/// and is copied as it is.
+#[inline(always)]
+#[tactic(auto, using(crate::proofs::Carrying::whole_room))]
 fn renewed(alloc: Global, slots: &[Slot], blank: &[u64], words: &[u64]) -> Result<Words, AllocError>
+    requires blank { HasRoom slots.now blank.now }
+    requires fits { Fits slots.now words.now }
+    ensures room { IfOk result (λ new. HasRoom slots.now new.items) }
+    ensures state { IfOk result (λ new. state_in new.items ≡ state_in words.now) }
+{
+    if words.len() == blank.len() {
+        let new = SmallVec::from_slice(alloc, words)?;
+        Ok(new)
+    } else {
+        widened(alloc, slots, blank, words)
+    }
+}
+
+/// The same, where there are more places than words.
+#[inline(never)]
+fn widened(alloc: Global, slots: &[Slot], blank: &[u64], words: &[u64]) -> Result<Words, AllocError>
     requires blank { HasRoom slots.now blank.now }
     requires fits { Fits slots.now words.now }
     ensures room { IfOk result (λ new. HasRoom slots.now new.items) }

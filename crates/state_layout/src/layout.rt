@@ -90,6 +90,7 @@ impl Layout {
     }
 
     /// A copy of a packed state, in which variables may be set.
+    #[inline(always)]
     pub fn draft(&self, alloc: Global, p: &Packed) -> Result<Draft<'_>, AllocError>
         requires { IsPackedFor self.now p.now }
         ensures { IfOk result (λ d. d ≡ record { slots = self.now; state = p.now }) }

@@ -7,8 +7,8 @@ use smallvec::SmallVec;
 use std::alloc::{AllocError, Global};
 use std::marker::Model;
 
-/// The words of a state; up to six of them stand in the value itself.
-pub(crate) type Words = SmallVec<u64, 6>;
+/// The words of a state; up to five of them stand in the value itself.
+pub(crate) type Words = SmallVec<u64, 5>;
 
 /// A state in packed form, which contracts see as the plain state.
 #[derive(Debug, Drop)]

@@ -1,6 +1,6 @@
 //! Writes into the words of a state that is being made. No call takes memory.
 
-ghost use Rattle.std.specs.Prelude.{◌≡◌, ℕ, ◌<◌, ◌≤◌, true, false, fold, length, slice_set, slice_index_or};
+ghost use Rattle.std.specs.Prelude.{◌≡◌, ℕ, ◌<◌, ◌≤◌, [], ◌∷◌, true, false, fold, length, slice_set, slice_index_or};
 ghost use Rattle.bit_sets.specs.Sets.{has_bit, members_of};
 ghost use Rattle.dp_model.specs.Typing.{is_set_below};
 ghost use Rattle.dp_model.specs.declared.parts.PlainValue.TheVariants.{Number, Members};
@@ -12,6 +12,7 @@ use crate::layout::Slot;
 use crate::reading::{MEMBERS_IN_WORD, further_place, word_count};
 
 /// Writes the first word of a variable.
+#[inline(always)]
 fn put_first(words: &mut [u64], count: usize, place: usize, word: u64)
     requires count { count ≡ count_in words.old }
     requires few { count < 65536 }
@@ -53,6 +54,7 @@ fn put_further(words: &mut [u64], count: usize, place: usize, slot: Slot, number
 }
 
 /// Sets a variable that holds a number.
+#[inline(always)]
 pub(crate) fn set_number(slots: &[Slot], words: &mut [u64], place: usize, slot: Slot, number: i64)
     requires room { HasRoom slots.now words.old }
     requires place { place < length slots.now }
@@ -79,6 +81,21 @@ pub(crate) fn set_members(slots: &[Slot], words: &mut [u64], place: usize, slot:
     for number in 0..word_count(slot.count) {
         put_word(words, count, place, slot, number, set[number as usize]);
     }
+}
+
+/// Sets a variable that holds a set of one word, to one in a word.
+#[inline(always)]
+pub(crate) fn set_one(slots: &[Slot], words: &mut [u64], place: usize, slot: Slot, word: u64)
+    requires room { HasRoom slots.now words.old }
+    requires place { place < length slots.now }
+    requires slot { slot ≡ slice_index_or slots.now place slot }
+    requires kind { is_set slot.kind ≡ true }
+    requires one { word_count slot.count ≡ 1 }
+    requires below { (m : ℕ) → slot.count ≤ m → has_bit (word ∷ []) m ≡ false }
+    ensures room { HasRoom slots.now words.new }
+    ensures state { state_in words.new ≡ with_value (state_in words.old) place (Members (members_of (word ∷ []))) }
+{
+    put_first(words, slots.len(), place, word);
 }
 
 /// Sets a variable that holds a set, to one as a list.

@@ -3,7 +3,7 @@
 ghost use Rattle.std.specs.Prelude.{◌≡◌, ◌∷◌, ◌++◌, [], OnOk};
 ghost use Rattle.successors.specs.Batches.{empty_batch};
 
-use dp_model::Seq;
+use dp_model::{Boxed, Seq};
 use state_layout::Node;
 use std::alloc::{AllocError, Global};
 
@@ -15,10 +15,11 @@ pub struct Offer {
 }
 
 /// The successors of a node, each kind in order of definition: those that are to be visited, those that are base, those
-/// that the best cost prunes, and how many are not allowed.
+/// that the best cost prunes, and how many are not allowed. Those that are to be visited stand in boxes, so that they go on
+/// as pointers.
 #[derive(Debug, Drop)]
 pub struct Batch {
-    pub letters: Seq<Node>,
+    pub letters: Seq<Boxed<Node>>,
     pub offers: Seq<Offer>,
     pub pruned: Seq<Node>,
     pub not_allowed: u64,

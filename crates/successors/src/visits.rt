@@ -21,7 +21,7 @@ use crate::batch::{Batch, Offer};
 use crate::candidates::Candidate;
 use crate::ends::ExpandEnd;
 use cost_laws::CostLaw;
-use dp_model::{Model as DpModel, Spot, Transition};
+use dp_model::{Boxed, Model as DpModel, Spot, Transition};
 use packed_spots::in_words;
 use packed_words::{Scene, Tables, has_in};
 use path_log::StepId;
@@ -123,6 +123,7 @@ impl<'a, L: CostLaw> Visitor<'a, L> {
     /// Adds a successor that is open: as a letter, or where it is pruned.
     fn push_node(
         &self,
+        alloc: Global,
         number: u32,
         cost: Option<i64>,
         next: Packed,
@@ -146,7 +147,8 @@ impl<'a, L: CostLaw> Visitor<'a, L> {
         if self.is_pruned(floor) {
             batch.pruned.list_mut().push(node)?;
         } else {
-            batch.letters.list_mut().push(node)?;
+            let letter = Boxed::new(alloc, node)?;
+            batch.letters.list_mut().push(letter)?;
         }
         Ok(())
     }
@@ -155,6 +157,7 @@ impl<'a, L: CostLaw> Visitor<'a, L> {
     #[tactic(auto, using(crate::proofs::Batches::offered))]
     fn push_look(
         &self,
+        alloc: Global,
         number: u32,
         cost: Option<i64>,
         next: Packed,
@@ -180,7 +183,7 @@ impl<'a, L: CostLaw> Visitor<'a, L> {
                     transition: number,
                 })?;
             }
-            Look::Open(floor) => self.push_node(number, cost, next, floor, batch)?,
+            Look::Open(floor) => self.push_node(alloc, number, cost, next, floor, batch)?,
         }
         Ok(())
     }
@@ -188,6 +191,7 @@ impl<'a, L: CostLaw> Visitor<'a, L> {
     /// The same, where a fault is told with the ground transition that led to the successor.
     fn push_next(
         &self,
+        alloc: Global,
         number: u32,
         cost: Option<i64>,
         next: Packed,
@@ -203,7 +207,7 @@ impl<'a, L: CostLaw> Visitor<'a, L> {
         ensures fits { OnOk result (BatchFits self.now.model batch.new) }
         ensures few { OnOk result (batch.new.not_allowed ≤ batch.old.not_allowed + 1) }
     {
-        match self.push_look(number, cost, next, batch, stack) {
+        match self.push_look(alloc, number, cost, next, batch, stack) {
             Ok(()) => Ok(()),
             Err(SpotEnd::Fault(met)) => Err(ExpandEnd::Fault {
                 spot: met.spot,
@@ -244,7 +248,7 @@ impl<'a, L: CostLaw> Visitor<'a, L> {
             transition,
             stack,
         )?;
-        self.push_next(number, cost, next, batch, stack)
+        self.push_next(alloc, number, cost, next, batch, stack)
     }
 
     /// Adds the successor that an enabled ground transition makes.
