@@ -124,7 +124,7 @@ further_room count sets rank number rows h some k =
     let row : ((number - 1) + 1) * sets ≤ (rows - 1) * sets = mul-le ((number - 1) + 1) sets (rows - 1) sets (omega arith) (omega arith) in
     omega (arith, row, row_more (number - 1) sets)
 
-pub blank_room : (slots : List Slot) (words : List ℕ) (rows : ℕ) → length slots < 65536 → AreRanked slots → HasRows slots (length slots) rows → Marked slots (length slots) words → length words ≡ head_of (length slots) + length slots + (rows - 1) * sets_before slots (length slots) → HasRoom slots words
+pub blank_room : (slots : List Slot) (words : List ℕ) (rows : ℕ) → length slots < 65536 → AreRanked slots → HasRows slots (length slots) rows → Marked slots (length slots) words → head_of (length slots) + length slots + (rows - 1) * sets_before slots (length slots) ≤ length words → HasRoom slots words
 unfolding holds_set has_member
 blank_room slots words rows few ranked r so long =
     let above : (k : ℕ) → 16 + length slots ≤ k → has_bit words k ≡ false = λ k h. so.bits k (omega arith) ∙ rw (le-ltb k (16 + length slots) h) refl in

@@ -1,5 +1,5 @@
 -- Words that are carried over to others with a place for each word.
-use Rattle.std.proofs.Common.{◌≡◌, ℕ, ◌+◌, ◌*◌, ◌/◌, ◌%◌, ◌<◌, ◌≤◌, true, false, eqb, List, length, get_or, set, refl, sym, ap, ◌∙◌, inl, inr, arith}
+use Rattle.std.proofs.Common.{◌≡◌, ℕ, ◌+◌, ◌*◌, ◌/◌, ◌%◌, ◌<◌, ◌≤◌, true, false, eqb, List, [], ◌∷◌, length, get_or, set, refl, sym, ap, ◌∙◌, inl, inr, arith}
 use Rattle.std.specs.Int.{bit_at, cast_signed, w64}
 use Rattle.std.proofs.lemmas.Bool.{cases_lt, cases_eq, cases_Bool}
 use Rattle.std.proofs.lemmas.List.{get_or_past, get_or-set_same, get_or-set_other}
@@ -106,3 +106,13 @@ module _ (slots : List Slot) (blank new words : List ℕ) (room : HasRoom slots 
 -- words that are as many have the same places
 pub whole_room : (slots : List Slot) (blank words : List ℕ) → HasRoom slots blank → Fits slots words → length words ≡ length blank → HasRoom slots words
 whole_room slots blank words room fits long = carried_room slots blank words words room fits long (λ j h. refl)
+
+-- five words, one by one
+pub five : (words : List ℕ) → length words ≡ 5 → get_or words 0 0 ∷ get_or words 1 0 ∷ get_or words 2 0 ∷ get_or words 3 0 ∷ get_or words 4 0 ∷ [] ≡ words
+five (a ∷ b ∷ c ∷ d ∷ e ∷ []) h = refl
+five [] h = absurd (omega (arith, h))
+five (a ∷ []) h = absurd (omega (arith, h))
+five (a ∷ b ∷ []) h = absurd (omega (arith, h))
+five (a ∷ b ∷ c ∷ []) h = absurd (omega (arith, h))
+five (a ∷ b ∷ c ∷ d ∷ []) h = absurd (omega (arith, h))
+five (a ∷ b ∷ c ∷ d ∷ e ∷ f ∷ words) h = absurd (omega (arith, h))

@@ -6,6 +6,7 @@ ghost use Rattle.state_layout.specs.Packing.{head_of, is_set};
 ghost use Rattle.state_layout.specs.Forms.{AreRanked, HasRoom, HasRows, Marked, sets_before};
 
 use crate::layout::Slot;
+use crate::packed::IN_PLACE;
 use crate::reading::{is_set, word_count};
 use std::alloc::{AllocError, Global};
 
@@ -21,14 +22,15 @@ pub(crate) fn blank_of(alloc: Global, slots: &[Slot]) -> Result<Vec<u64>, AllocE
     Ok(blank)
 }
 
-/// How many words they are.
+/// How many words they are: no fewer than stand in a state itself.
 fn blank_len(count: usize, sets: u32, rows: u32) -> usize
     requires few { count < 65536 }
     requires rows { 1 ≤ rows }
     requires most { rows ≤ 67108864 }
-    ensures { result ≡ head_of count + count + (rows - 1) * sets }
+    ensures { head_of count + count + (rows - 1) * sets ≤ result }
 {
-    (count + 79) / 64 + count + (rows - 1) as usize * sets as usize
+    let len = (count + 79) / 64 + count + (rows - 1) as usize * sets as usize;
+    len.max(IN_PLACE)
 }
 
 /// How many variables hold sets.

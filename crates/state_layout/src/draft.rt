@@ -8,7 +8,7 @@ ghost use Rattle.state_layout.specs.Packing.{state_in, is_set};
 ghost use Rattle.state_layout.specs.Forms.{Fits, HasRoom, with_value};
 
 use crate::layout::Slot;
-use crate::packed::{Packed, Words};
+use crate::packed::{Packed, Words, words_like};
 use crate::writing;
 use smallvec::SmallVec;
 use std::alloc::{AllocError, Global};
@@ -117,7 +117,7 @@ fn renewed(alloc: Global, slots: &[Slot], blank: &[u64], words: &[u64]) -> Resul
     ensures state { IfOk result (λ new. state_in new.items ≡ state_in words.now) }
 {
     if words.len() == blank.len() {
-        let new = SmallVec::from_slice(alloc, words)?;
+        let new = words_like(alloc, words)?;
         Ok(new)
     } else {
         widened(alloc, slots, blank, words)

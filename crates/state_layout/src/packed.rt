@@ -7,8 +7,25 @@ use smallvec::SmallVec;
 use std::alloc::{AllocError, Global};
 use std::marker::Model;
 
+/// How many words stand in a state itself.
+pub(crate) const IN_PLACE: usize = 5;
+
 /// The words of a state; up to five of them stand in the value itself.
 pub(crate) type Words = SmallVec<u64, 5>;
+
+/// The same words. Five, as nearly every state has, are copied where they go.
+#[inline(always)]
+#[tactic(auto, using(crate::proofs::Carrying::five))]
+pub(crate) fn words_like(alloc: Global, words: &[u64]) -> Result<Words, AllocError>
+    ensures { IfOk result (λ new. new.items ≡ words.now) }
+{
+    if words.len() == 5 {
+        let five = [words[0], words[1], words[2], words[3], words[4]];
+        Ok(SmallVec::from_buf(alloc, five))
+    } else {
+        SmallVec::from_slice(alloc, words)
+    }
+}
 
 /// A state in packed form, which contracts see as the plain state.
 #[derive(Debug, Drop)]
@@ -47,7 +64,7 @@ impl Packed {
         ensures { IfOk result (λ p. p ≡ self.now) }
     {
         Ok(Packed {
-            words: SmallVec::from_slice(alloc, self.words.as_slice())?,
+            words: words_like(alloc, self.words.as_slice())?,
         })
     }
 }

@@ -45,6 +45,7 @@ pub(crate) struct Visitor<'a, L: CostLaw> {
 }
 
 /// The words of a packed state of the model.
+#[inline(always)]
 pub(crate) fn words_of<'p>(model: &DpModel, layout: &Layout, p: &'p Packed) -> &'p [u64]
     requires layout { IsLayoutOf model.now layout.now }
     requires packed { IsPackedOf model.now p.now }
@@ -55,6 +56,7 @@ pub(crate) fn words_of<'p>(model: &DpModel, layout: &Layout, p: &'p Packed) -> &
 }
 
 /// Whether the membership that is tested first of a candidate fails in the state of a scene, so that it is not enabled.
+#[inline(always)]
 fn is_out(at: &Scene<'_>, candidate: Candidate) -> bool
     requires { candidate ≡ candidate_of at.now.model.now candidate.number }
     ensures { result ≡ true → number_enabled at.now.model.now (state_in at.now.words.now) candidate.number ≡ Ok false }
@@ -66,6 +68,7 @@ fn is_out(at: &Scene<'_>, candidate: Candidate) -> bool
 }
 
 /// A state of the model, with values of parameters.
+#[inline(always)]
 fn scene<'s>(
     model: &'s DpModel,
     tables: &'s Tables,
@@ -110,6 +113,7 @@ impl<'a, L: CostLaw> Model for Visitor<'a, L> {
 
 impl<'a, L: CostLaw> Visitor<'a, L> {
     /// Whether the best word prunes a node with this floor.
+    #[inline(always)]
     fn is_pruned(&self, floor: Option<i64>) -> bool
         requires { IfSome floor InWideRange }
         ensures { result ≡ is_pruned self.now.model self.now.visit.best floor }
@@ -121,6 +125,7 @@ impl<'a, L: CostLaw> Visitor<'a, L> {
     }
 
     /// Adds a successor that is open: as a letter, or where it is pruned.
+    #[inline(always)]
     fn push_node(
         &self,
         alloc: Global,
@@ -155,6 +160,7 @@ impl<'a, L: CostLaw> Visitor<'a, L> {
 
     /// Looks at a successor, and adds it as what it is.
     #[tactic(auto, using(crate::proofs::Batches::offered))]
+    #[inline(always)]
     fn push_look(
         &self,
         alloc: Global,
@@ -189,6 +195,7 @@ impl<'a, L: CostLaw> Visitor<'a, L> {
     }
 
     /// The same, where a fault is told with the ground transition that led to the successor.
+    #[inline(always)]
     fn push_next(
         &self,
         alloc: Global,
@@ -219,6 +226,7 @@ impl<'a, L: CostLaw> Visitor<'a, L> {
     }
 
     /// Adds the successor that an enabled ground transition makes, with the values of its parameters at hand.
+    #[inline(always)]
     fn push_successor(
         &self,
         alloc: Global,
@@ -252,14 +260,18 @@ impl<'a, L: CostLaw> Visitor<'a, L> {
     }
 
     /// Adds the successor that an enabled ground transition makes.
-    #[tactic(auto, using(packed_spots::proofs::Rooms::few_values))]
+    #[inline(never)]
+    #[tactic(auto, using(packed_spots::proofs::Rooms::few_values, packed_spots::proofs::Values::front_small))]
     fn push_number(
         &self,
         alloc: Global,
+        at: &Scene<'_>,
         number: u32,
         batch: &mut Batch,
         stack: &mut [u64],
     ) -> Result<(), ExpandEnd>
+        requires model { at.now.model.now ≡ self.now.model }
+        requires state { state_in at.now.words.now ≡ self.now.visit.state }
         requires room { ServesModel self.now.model (length stack.old) }
         requires fits { BatchFits self.now.model batch.old }
         requires few { batch.old.not_allowed < 65536 }
@@ -267,24 +279,33 @@ impl<'a, L: CostLaw> Visitor<'a, L> {
         ensures fits { OnOk result (BatchFits self.now.model batch.new) }
         ensures few { OnOk result (batch.new.not_allowed ≤ batch.old.not_allowed + 1) }
     {
-        let Some((transition, args)) = self.model.step(number) else {
+        let Some((transition, args)) = at.model.step(number) else {
             return Ok(());
         };
         let given = in_words(args.list());
-        let given = &given[..args.list().len()];
-        let at = scene(self.model, self.tables, self.layout, self.state, given);
-        self.push_successor(alloc, &at, number, transition, batch, stack)
+        let there = Scene {
+            model: at.model,
+            tables: at.tables,
+            slots: at.slots,
+            words: at.words,
+            args: &given[..args.list().len()],
+        };
+        self.push_successor(alloc, &there, number, transition, batch, stack)
     }
 
     /// Adds the successor that a ground transition makes which is not forced, if it is enabled.
-    #[tactic(auto, using(packed_spots::proofs::Rooms::few_values))]
+    #[inline(always)]
+    #[tactic(auto, using(packed_spots::proofs::Rooms::few_values, packed_spots::proofs::Values::front_small))]
     fn push_tested(
         &self,
         alloc: Global,
+        at: &Scene<'_>,
         number: u32,
         batch: &mut Batch,
         stack: &mut [u64],
     ) -> Result<(), ExpandEnd>
+        requires model { at.now.model.now ≡ self.now.model }
+        requires state { state_in at.now.words.now ≡ self.now.visit.state }
         requires room { ServesModel self.now.model (length stack.old) }
         requires fits { BatchFits self.now.model batch.old }
         requires few { batch.old.not_allowed < 65536 }
@@ -292,14 +313,19 @@ impl<'a, L: CostLaw> Visitor<'a, L> {
         ensures fits { OnOk result (BatchFits self.now.model batch.new) }
         ensures few { OnOk result (batch.new.not_allowed ≤ batch.old.not_allowed + 1) }
     {
-        let Some((transition, args)) = self.model.step(number) else {
+        let Some((transition, args)) = at.model.step(number) else {
             return Ok(());
         };
         let given = in_words(args.list());
-        let given = &given[..args.list().len()];
-        let at = scene(self.model, self.tables, self.layout, self.state, given);
-        if packed_spots::is_enabled(&at, number, transition, stack)? {
-            self.push_successor(alloc, &at, number, transition, batch, stack)
+        let there = Scene {
+            model: at.model,
+            tables: at.tables,
+            slots: at.slots,
+            words: at.words,
+            args: &given[..args.list().len()],
+        };
+        if packed_spots::is_enabled(&there, number, transition, stack)? {
+            self.push_successor(alloc, &there, number, transition, batch, stack)
         } else {
             Ok(())
         }
@@ -308,6 +334,7 @@ impl<'a, L: CostLaw> Visitor<'a, L> {
     /// Adds the successor that a candidate makes, if it is enabled. Where the membership that is tested first fails, nothing
     /// else of it is looked up.
     #[tactic(auto, using(crate::proofs::Skips::passed_over))]
+    #[inline(always)]
     fn push_candidate(
         &self,
         alloc: Global,
@@ -329,7 +356,7 @@ impl<'a, L: CostLaw> Visitor<'a, L> {
         if is_out(at, candidate) {
             return Ok(());
         }
-        self.push_tested(alloc, candidate.number, batch, stack)
+        self.push_tested(alloc, at, candidate.number, batch, stack)
     }
 
     /// Adds the successors that these candidates make, where no forced transition is enabled.
@@ -377,7 +404,7 @@ impl<'a, L: CostLaw> Visitor<'a, L> {
     {
         let at = scene(self.model, self.tables, self.layout, self.state, &[]);
         match packed_spots::first_enabled(&at, forced, stack)? {
-            Some(number) => self.push_number(alloc, number, batch, stack),
+            Some(number) => self.push_number(alloc, &at, number, batch, stack),
             None => self.push_each(alloc, &at, others, batch, stack),
         }
     }
