@@ -67,6 +67,7 @@ impl Chains {
 
     /// Puts a new place, the number of those that there are, before the others of its bucket. On `Err` memory ran out, and there is
     /// no new place.
+    #[inline(always)]
     pub(crate) fn push(&mut self, key: u64) -> Result<(), AllocError>
         ensures left { OnOk result ((p : ℕ) → Has (row_in self.old.heads.items self.old.older.items self.old.keys.items key) p → Has (chain_from self.new.older.items (older_at self.new.older.items (length self.old.older.items))) p) }
         ensures first { OnOk result (Has (row_in self.new.heads.items self.new.older.items self.new.keys.items key) (length self.old.older.items)) }

@@ -17,8 +17,7 @@ use crate::glance::Glance;
 use crate::places::{covers_at, covers_in_chain, put_node};
 use crate::rising::raise_long;
 use crate::stairs::Stairs;
-use dp_base::Boxed;
-use state_layout::{Layout, Node};
+use state_layout::{Layout, Node, NodeBox};
 use std::alloc::AllocError;
 
 /// What became of a node that was added.
@@ -35,11 +34,11 @@ pub(crate) fn add_node<K: Covers>(
     one_resource: bool,
     chains: &mut Chains,
     stairs: &mut Stairs,
-    places: &mut Vec<Option<Boxed<Node>>>,
+    places: &mut Vec<Option<NodeBox>>,
     glances: &mut Vec<Glance>,
     count: &mut usize,
-    node: Boxed<Node>,
-) -> Result<Added, Boxed<Node>>
+    node: NodeBox,
+) -> Result<Added, NodeBox>
     requires kept { IsKept K.prune K.minimize K.operator layout.now (row_in chains.old.heads.items chains.old.older.items chains.old.keys.items) (length chains.old.older.items) places.old.items glances.old.items count.old }
     requires steps { AreSteps K.prune K.minimize K.operator layout.now stairs.old.row stairs.old.steps places.old.items }
     requires node { IsNodeFor layout.now node }
@@ -69,7 +68,7 @@ pub(crate) fn add_node<K: Covers>(
 fn covers_held<K: Covers>(
     layout: &Layout,
     chains: &Chains,
-    places: &[Option<Boxed<Node>>],
+    places: &[Option<NodeBox>],
     glances: &[Glance],
     node: &Node,
     key: u64,
@@ -93,7 +92,7 @@ fn covers_by_steps<K: Covers>(
     layout: &Layout,
     chains: &Chains,
     stairs: &Stairs,
-    places: &[Option<Boxed<Node>>],
+    places: &[Option<NodeBox>],
     glances: &[Glance],
     node: &Node,
     key: u64,
@@ -126,13 +125,13 @@ fn keep_node<K: Covers>(
     layout: &Layout,
     chains: &mut Chains,
     stairs: &mut Stairs,
-    places: &mut Vec<Option<Boxed<Node>>>,
+    places: &mut Vec<Option<NodeBox>>,
     glances: &mut Vec<Glance>,
     covering: bool,
-    node: Boxed<Node>,
+    node: NodeBox,
     key: u64,
     glance: Glance,
-) -> Result<usize, Boxed<Node>>
+) -> Result<usize, NodeBox>
     requires node { IsNodeFor layout.now node }
     requires key { key ≡ key_of K.prune layout.now node }
     requires glance { IsGlanceOf K.minimize K.operator layout.now node glance }
@@ -161,9 +160,10 @@ fn keep_node<K: Covers>(
 }
 
 // a new place without a node, with this glance, which stands in the row of the key, before its others
+#[inline(always)]
 fn open_place(
     chains: &mut Chains,
-    places: &mut Vec<Option<Boxed<Node>>>,
+    places: &mut Vec<Option<NodeBox>>,
     glances: &mut Vec<Glance>,
     key: u64,
     glance: Glance,
@@ -185,7 +185,7 @@ fn open_place(
 }
 
 // appends a place without a node and its glance, where there is room for them, so that neither fails
-fn push_within(places: &mut Vec<Option<Boxed<Node>>>, glances: &mut Vec<Glance>, glance: Glance)
+fn push_within(places: &mut Vec<Option<NodeBox>>, glances: &mut Vec<Glance>, glance: Glance)
     requires places { vec_len places.old < vec_capacity places.old }
     requires glances { vec_len glances.old < vec_capacity glances.old }
     ensures places { places.new.items ≡ places.old.items ++ None ∷ [] }

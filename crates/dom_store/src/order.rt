@@ -3,11 +3,10 @@
 ghost use Rattle.std.specs.Prelude.{◌≡◌, ◌<◌, ℕ, length, Some, IfOk};
 ghost use Rattle.std.specs.List.Sorted.{IsPermutation, IsSortedByKey, IsStableByKey};
 ghost use Rattle.dom_store.specs.Order.{is_wide, word_or_last, rank_of, rank_cmp};
-ghost use Rattle.dom_store.specs.Ranking.{ranked_at, ranks_of};
+ghost use Rattle.dom_store.specs.Ranking.{is_there, ranked_at, ranks_of};
 
 use cost_laws::CostLaw;
-use dp_base::Boxed;
-use state_layout::Node;
+use state_layout::{Node, NodeBox};
 use std::alloc::{AllocError, Global};
 
 // the greatest number that has an order word under each law; its negative is the least
@@ -20,10 +19,10 @@ pub(crate) struct Ranked {
     pub(crate) place: usize,
 }
 
-/// All places, sorted by the words of their nodes, the lesser first. Places of the same words stay in their order.
+/// The places of nodes, sorted by the words of these, the lesser first. Places of the same words stay in their order.
 pub(crate) fn sorted_places<L: CostLaw>(
     alloc: Global,
-    places: &[Option<Boxed<Node>>],
+    places: &[Option<NodeBox>],
 ) -> Result<Vec<Ranked>, AllocError>
     ensures permutation { IfOk result (λ ranked. IsPermutation (ranks_of L.minimize L.operator places.now) ranked.items) }
     ensures sorted { IfOk result (λ ranked. IsSortedByKey (λ (r : Ranked). r.words) rank_cmp ranked.items) }
@@ -34,21 +33,29 @@ pub(crate) fn sorted_places<L: CostLaw>(
     Ok(ranked)
 }
 
-// all places in their order
-fn ranks<L: CostLaw>(
-    alloc: Global,
-    places: &[Option<Boxed<Node>>],
-) -> Result<Vec<Ranked>, AllocError>
+// the places of nodes in their order
+fn ranks<L: CostLaw>(alloc: Global, places: &[Option<NodeBox>]) -> Result<Vec<Ranked>, AllocError>
     ensures { IfOk result (λ ranked. ranked.items ≡ ranks_of L.minimize L.operator places.now) }
 {
     let mut ranked = Vec::with_capacity(alloc, places.len())?;
     for place in 0..places.len() {
-        ranked.push(ranked_at::<L>(places, place))?;
+        if is_there(&places[place]) {
+            ranked.push(ranked_at::<L>(places, place))?;
+        }
     }
     Ok(ranked)
 }
 
-fn ranked_at<L: CostLaw>(places: &[Option<Boxed<Node>>], place: usize) -> Ranked
+fn is_there(place: &Option<NodeBox>) -> bool
+    ensures { result ≡ is_there place.now }
+{
+    match place {
+        Some(_) => true,
+        None => false,
+    }
+}
+
+fn ranked_at<L: CostLaw>(places: &[Option<NodeBox>], place: usize) -> Ranked
     requires { place < length places.now }
     ensures { result ≡ ranked_at L.minimize L.operator places.now place }
 {
@@ -58,7 +65,7 @@ fn ranked_at<L: CostLaw>(places: &[Option<Boxed<Node>>], place: usize) -> Ranked
     }
 }
 
-fn rank<L: CostLaw>(place: &Option<Boxed<Node>>) -> (u64, u64)
+fn rank<L: CostLaw>(place: &Option<NodeBox>) -> (u64, u64)
     ensures { result ≡ rank_of L.minimize L.operator place.now }
 {
     match place {

@@ -15,15 +15,14 @@ use crate::chains::Chains;
 use crate::covers::Covers;
 use crate::glance::{Glance, may_be_covered_at, may_cover_at};
 use crate::stairs::Stairs;
-use dp_base::Boxed;
-use state_layout::{Layout, Node};
+use state_layout::{Layout, Node, NodeBox};
 
 /// Whether the node with this glance covers one at the places of a chain, from this one on; `None` where one of these covers it.
 /// It goes along the chain once.
 pub(crate) fn covers_in_chain<K: Covers>(
     layout: &Layout,
     chains: &Chains,
-    places: &[Option<Boxed<Node>>],
+    places: &[Option<NodeBox>],
     glances: &[Glance],
     newest: Option<usize>,
     node: &Node,
@@ -65,7 +64,7 @@ fn either(a: bool, b: bool) -> bool
 fn covers_there<K: Covers>(
     layout: &Layout,
     chains: &Chains,
-    places: &[Option<Boxed<Node>>],
+    places: &[Option<NodeBox>],
     glances: &[Glance],
     place: usize,
     node: &Node,
@@ -90,7 +89,7 @@ fn covers_there<K: Covers>(
 fn is_covered_there<K: Covers>(
     layout: &Layout,
     chains: &Chains,
-    places: &[Option<Boxed<Node>>],
+    places: &[Option<NodeBox>],
     glances: &[Glance],
     place: usize,
     node: &Node,
@@ -113,7 +112,7 @@ fn is_covered_there<K: Covers>(
 /// Whether the node at a place covers the node with this glance.
 pub(crate) fn covers_at<K: Covers>(
     layout: &Layout,
-    places: &[Option<Boxed<Node>>],
+    places: &[Option<NodeBox>],
     glances: &[Glance],
     place: usize,
     node: &Node,
@@ -142,7 +141,7 @@ pub(crate) fn covers_at<K: Covers>(
 fn clear_covered<K: Covers>(
     layout: &Layout,
     chains: &mut Chains,
-    places: &mut Vec<Option<Boxed<Node>>>,
+    places: &mut Vec<Option<NodeBox>>,
     glances: &[Glance],
     place: usize,
     node: &Node,
@@ -176,7 +175,7 @@ fn clear_if<K: Covers>(
     layout: &Layout,
     chains: &mut Chains,
     stairs: &mut Stairs,
-    places: &mut Vec<Option<Boxed<Node>>>,
+    places: &mut Vec<Option<NodeBox>>,
     glances: &[Glance],
     covering: bool,
     place: usize,
@@ -212,7 +211,7 @@ fn clear_row<K: Covers>(
     layout: &Layout,
     chains: &mut Chains,
     stairs: &mut Stairs,
-    places: &mut Vec<Option<Boxed<Node>>>,
+    places: &mut Vec<Option<NodeBox>>,
     glances: &[Glance],
     place: usize,
     node: &Node,
@@ -245,7 +244,7 @@ fn clear_row<K: Covers>(
 fn clear_steps<K: Covers>(
     layout: &Layout,
     stairs: &mut Stairs,
-    places: &mut Vec<Option<Boxed<Node>>>,
+    places: &mut Vec<Option<NodeBox>>,
     glances: &[Glance],
     node: &Node,
     key: u64,
@@ -278,7 +277,7 @@ fn clear_steps<K: Covers>(
 // whether a node was there that the node covers; it is gone then
 fn clear_at<K: Covers>(
     layout: &Layout,
-    places: &mut Vec<Option<Boxed<Node>>>,
+    places: &mut Vec<Option<NodeBox>>,
     glances: &[Glance],
     place: usize,
     node: &Node,
@@ -303,7 +302,7 @@ fn clear_at<K: Covers>(
 // whether the node with this glance covers the one at a place
 fn is_covered_at<K: Covers>(
     layout: &Layout,
-    places: &[Option<Boxed<Node>>],
+    places: &[Option<NodeBox>],
     glances: &[Glance],
     place: usize,
     node: &Node,
@@ -334,11 +333,11 @@ pub(crate) fn put_node<K: Covers>(
     layout: &Layout,
     chains: &mut Chains,
     stairs: &mut Stairs,
-    places: &mut Vec<Option<Boxed<Node>>>,
+    places: &mut Vec<Option<NodeBox>>,
     glances: &[Glance],
     covering: bool,
     place: usize,
-    node: Boxed<Node>,
+    node: NodeBox,
     key: u64,
     glance: Glance,
 ) -> usize

@@ -15,9 +15,8 @@ use crate::chains::Chains;
 use crate::covers::Covers;
 use crate::glance::Glance;
 use crate::stairs::Stairs;
-use dp_base::Boxed;
 use dp_model::Preference;
-use state_layout::{Layout, Node, Slot};
+use state_layout::{Layout, NodeBox, Slot};
 
 // along a row of fewer places it is as fast to walk
 const LONG: usize = 24;
@@ -49,7 +48,7 @@ pub(crate) fn raise_long<K: Covers>(
     one_resource: bool,
     chains: &Chains,
     stairs: &mut Stairs,
-    places: &[Option<Boxed<Node>>],
+    places: &[Option<NodeBox>],
     glances: &[Glance],
     key: u64,
 )
@@ -81,7 +80,7 @@ fn raise<K: Covers>(
     layout: &Layout,
     chains: &Chains,
     stairs: &mut Stairs,
-    places: &[Option<Boxed<Node>>],
+    places: &[Option<NodeBox>],
     glances: &[Glance],
     key: u64,
 )
@@ -103,7 +102,7 @@ fn raise<K: Covers>(
 // puts in the step of the node that stands at a place, if one does
 fn put_step(
     stairs: &mut Stairs,
-    places: &[Option<Boxed<Node>>],
+    places: &[Option<NodeBox>],
     glances: &[Glance],
     place: usize,
 ) -> bool
@@ -121,7 +120,7 @@ fn put_step(
 }
 
 // whether no node stands at a place
-fn is_empty_at(places: &[Option<Boxed<Node>>], place: usize) -> bool
+fn is_empty_at(places: &[Option<NodeBox>], place: usize) -> bool
     ensures { result ≡ true → (n : Node) → StandsAt places.now place n → ⊥ }
 {
     if place >= places.len() {

@@ -21,8 +21,7 @@ use crate::stairs::Stairs;
 use crate::sweep::clear_past;
 use crate::taking::{Taken, take_nodes};
 use cost_laws::CostLaw;
-use dp_base::Boxed;
-use state_layout::{Layout, Node};
+use state_layout::{Layout, NodeBox};
 use std::alloc::{AllocError, Global};
 use std::marker::{Model, PhantomData};
 
@@ -33,7 +32,7 @@ pub struct DomStore<K: Covers> {
     one_resource: bool,
     chains: Chains,
     stairs: Stairs,
-    places: Vec<Option<Boxed<Node>>>,
+    places: Vec<Option<NodeBox>>,
     glances: Vec<Glance>,
     count: usize,
     covering: PhantomData<K>,
@@ -73,7 +72,7 @@ impl<K: Covers> DomStore<K> {
 
     /// Adds a node. Where a held node covers it the store stays as it is; else the nodes that it covers are gone, and it
     /// stands last. On `Err` memory ran out, the node comes back, and the store holds what it held.
-    pub fn add(&mut self, layout: &Layout, node: Boxed<Node>) -> Result<Added, Boxed<Node>>
+    pub fn add(&mut self, layout: &Layout, node: NodeBox) -> Result<Added, NodeBox>
         requires layout { layout.now ≡ self.old.layout }
         requires node { IsNodeFor layout.now node }
         ensures answer { IfOk result (λ added. added ≡ (if is_covered (covers K.prune K.minimize K.operator layout.now) self.old.nodes node then Added.Covered else Added.Kept)) }

@@ -13,23 +13,23 @@ ghost use Rattle.dom_store.specs.declared.order.Ranked.{Ranked};
 
 use crate::order::{Ranked, sorted_places};
 use cost_laws::CostLaw;
-use dp_base::{Boxed, Seq};
-use state_layout::Node;
+use dp_base::Seq;
+use state_layout::NodeBox;
 use std::alloc::{AllocError, Global};
 
 /// What a store gave up: the nodes that are kept, and those that are dropped, both in order, and the best floor of the dropped
 /// ones. There is none where none is dropped, or where one of them has no floor.
 #[derive(Debug, Drop)]
 pub struct Taken {
-    pub kept: Seq<Boxed<Node>>,
-    pub dropped: Seq<Boxed<Node>>,
+    pub kept: Seq<NodeBox>,
+    pub dropped: Seq<NodeBox>,
     pub least_floor: Option<i64>,
 }
 
 /// Takes the nodes out of their places, in order. On an error the places are as they were.
 pub(crate) fn take_nodes<L: CostLaw>(
     alloc: Global,
-    places: &mut Vec<Option<Boxed<Node>>>,
+    places: &mut Vec<Option<NodeBox>>,
     count: usize,
     share: u64,
 ) -> Result<Taken, AllocError>
@@ -60,11 +60,11 @@ pub(crate) fn take_nodes<L: CostLaw>(
 // moves the nodes out of their places, in the order given, each place once: the first ones, up to the share, and the others;
 // there is room for them
 fn share_out(
-    places: &mut Vec<Option<Boxed<Node>>>,
+    places: &mut Vec<Option<NodeBox>>,
     order: &[Ranked],
     share: u64,
-    kept: &mut Vec<Boxed<Node>>,
-    dropped: &mut Vec<Boxed<Node>>,
+    kept: &mut Vec<NodeBox>,
+    dropped: &mut Vec<NodeBox>,
 )
     requires kept { kept.old.items ≡ [] }
     requires dropped { dropped.old.items ≡ [] }
@@ -83,12 +83,7 @@ fn share_out(
 }
 
 // puts a node among the kept ones while these are fewer than the share, and else among the dropped ones
-fn put_out(
-    node: Boxed<Node>,
-    share: u64,
-    kept: &mut Vec<Boxed<Node>>,
-    dropped: &mut Vec<Boxed<Node>>,
-)
+fn put_out(node: NodeBox, share: u64, kept: &mut Vec<NodeBox>, dropped: &mut Vec<NodeBox>)
     requires kept_room { vec_len kept.old < share → vec_len kept.old < vec_capacity kept.old }
     requires dropped_room { share ≤ vec_len kept.old → vec_len dropped.old < vec_capacity dropped.old }
     ensures kept { length kept.old.items < share → (kept.new.items ≡ kept.old.items ++ node ∷ []) × (dropped.new.items ≡ dropped.old.items) }
@@ -105,7 +100,7 @@ fn put_out(
 }
 
 // the best floor of nodes: none where there are no nodes, or where one has no floor
-fn least_floor<L: CostLaw>(nodes: &[Boxed<Node>]) -> Option<i64>
+fn least_floor<L: CostLaw>(nodes: &[NodeBox]) -> Option<i64>
     requires { (n : Node) → Has nodes.now n → IfSome n.floor InWideRange }
     ensures { IsLeastFloor L.minimize L.operator nodes.now result }
 {
@@ -116,7 +111,7 @@ fn least_floor<L: CostLaw>(nodes: &[Boxed<Node>]) -> Option<i64>
     least
 }
 
-fn floor_of(node: &Boxed<Node>) -> Option<i64>
+fn floor_of(node: &NodeBox) -> Option<i64>
     ensures { result ≡ node.now.floor }
 {
     node.get().floor
