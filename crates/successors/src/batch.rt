@@ -3,8 +3,8 @@
 ghost use Rattle.std.specs.Prelude.{◌≡◌, ◌∷◌, ◌++◌, [], OnOk};
 ghost use Rattle.successors.specs.Batches.{empty_batch};
 
-use dp_model::{Boxed, Seq};
-use state_layout::Node;
+use dp_model::Seq;
+use state_layout::{Node, NodeBox};
 use std::alloc::{AllocError, Global};
 
 /// A base successor: the cost of the list that leads to it, and the ground transition that made it.
@@ -19,7 +19,7 @@ pub struct Offer {
 /// as pointers.
 #[derive(Debug, Drop)]
 pub struct Batch {
-    pub letters: Seq<Boxed<Node>>,
+    pub letters: Seq<NodeBox>,
     pub offers: Seq<Offer>,
     pub pruned: Seq<Node>,
     pub not_allowed: u64,

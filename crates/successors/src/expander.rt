@@ -27,7 +27,7 @@ use packed_spots::in_words;
 use packed_words::{Scene, Tables};
 use path_log::StepId;
 use spot_eval::{Look, SpotFault};
-use state_layout::{Layout, Node, Packed};
+use state_layout::{Layout, Node, NodeBox, Packed};
 use std::alloc::{AllocError, Global};
 use std::marker::{Model, PhantomData};
 
@@ -45,7 +45,7 @@ macro_rules! scene_of {
 }
 
 /// What looks at the states of a model and makes their successors. It lists the transitions once, keeps what
-/// evaluation needs of tables and the words that it holds, and reads packed states. A call changes neither the model nor
+/// evaluation needs of tables, the words that it holds and boxes that are filled again, and reads packed states. A call changes neither the model nor
 /// whether dual bounds are used.
 #[derive(Drop)]
 pub struct Expander<'m, L: CostLaw> {
@@ -56,6 +56,7 @@ pub struct Expander<'m, L: CostLaw> {
     forced: Vec<u32>,
     others: Vec<Candidate>,
     stack: Vec<u64>,
+    spare: Vec<NodeBox>,
     law: PhantomData<L>,
 }
 
@@ -97,6 +98,7 @@ impl<'m, L: CostLaw> Expander<'m, L> {
             forced: spot_eval::forced_of(alloc, model)?,
             others: candidates_of(alloc, model)?,
             stack: stack_for(alloc, model)?,
+            spare: Vec::new(alloc),
             law: PhantomData,
         })
     }
@@ -219,7 +221,21 @@ impl<'m, L: CostLaw> Expander<'m, L> {
             best,
             law: PhantomData,
         };
-        visitor.fill(alloc, &self.forced, &self.others, batch, &mut self.stack)
+        visitor.fill(
+            alloc,
+            &self.forced,
+            &self.others,
+            batch,
+            &mut self.stack,
+            &mut self.spare,
+        )
+    }
+
+    /// Takes a box whose node is no longer needed, to fill it again. Where there is no memory to keep it, it is let go.
+    pub fn give_back(&mut self, held: NodeBox)
+        ensures { self.new ≡ self.old }
+    {
+        let _kept = self.spare.push(held);
     }
 
     /// The successors of an inner node, which is visited under this step. The batch is emptied first, and filled in order

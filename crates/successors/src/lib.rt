@@ -6,6 +6,7 @@ mod batch;
 mod candidates;
 mod ends;
 mod expander;
+mod spares;
 mod starts;
 mod visits;
 

@@ -20,13 +20,14 @@ ghost use Rattle.successors.specs.Visits.{expansion, is_pruned, with_next, with_
 use crate::batch::{Batch, Offer};
 use crate::candidates::Candidate;
 use crate::ends::ExpandEnd;
+use crate::spares::boxed;
 use cost_laws::CostLaw;
-use dp_model::{Boxed, Model as DpModel, Spot, Transition};
+use dp_model::{Model as DpModel, Spot, Transition};
 use packed_spots::in_words;
 use packed_words::{Scene, Tables, has_in};
 use path_log::StepId;
 use spot_eval::{Look, SpotEnd};
-use state_layout::{Layout, Node, Packed};
+use state_layout::{Layout, Node, NodeBox, Packed};
 use std::alloc::{AllocError, Global};
 use std::marker::{Model, PhantomData};
 
@@ -134,6 +135,7 @@ impl<'a, L: CostLaw> Visitor<'a, L> {
         next: Packed,
         floor: Option<i64>,
         batch: &mut Batch,
+        spare: &mut Vec<NodeBox>,
     ) -> Result<(), AllocError>
         requires state { IsPackedOf self.now.model next }
         requires cost { IfSome cost InRange }
@@ -152,7 +154,7 @@ impl<'a, L: CostLaw> Visitor<'a, L> {
         if self.is_pruned(floor) {
             batch.pruned.list_mut().push(node)?;
         } else {
-            let letter = Boxed::new(alloc, node)?;
+            let letter = boxed(alloc, spare, node)?;
             batch.letters.list_mut().push(letter)?;
         }
         Ok(())
@@ -169,6 +171,7 @@ impl<'a, L: CostLaw> Visitor<'a, L> {
         next: Packed,
         batch: &mut Batch,
         stack: &mut [u64],
+        spare: &mut Vec<NodeBox>,
     ) -> Result<(), SpotEnd>
         requires state { IsPackedOf self.now.model next }
         requires cost { IfSome cost InRange }
@@ -189,7 +192,7 @@ impl<'a, L: CostLaw> Visitor<'a, L> {
                     transition: number,
                 })?;
             }
-            Look::Open(floor) => self.push_node(alloc, number, cost, next, floor, batch)?,
+            Look::Open(floor) => self.push_node(alloc, number, cost, next, floor, batch, spare)?,
         }
         Ok(())
     }
@@ -204,6 +207,7 @@ impl<'a, L: CostLaw> Visitor<'a, L> {
         next: Packed,
         batch: &mut Batch,
         stack: &mut [u64],
+        spare: &mut Vec<NodeBox>,
     ) -> Result<(), ExpandEnd>
         requires state { IsPackedOf self.now.model next }
         requires cost { IfSome cost InRange }
@@ -214,7 +218,7 @@ impl<'a, L: CostLaw> Visitor<'a, L> {
         ensures fits { OnOk result (BatchFits self.now.model batch.new) }
         ensures few { OnOk result (batch.new.not_allowed ≤ batch.old.not_allowed + 1) }
     {
-        match self.push_look(alloc, number, cost, next, batch, stack) {
+        match self.push_look(alloc, number, cost, next, batch, stack, spare) {
             Ok(()) => Ok(()),
             Err(SpotEnd::Fault(met)) => Err(ExpandEnd::Fault {
                 spot: met.spot,
@@ -235,6 +239,7 @@ impl<'a, L: CostLaw> Visitor<'a, L> {
         transition: &Transition,
         batch: &mut Batch,
         stack: &mut [u64],
+        spare: &mut Vec<NodeBox>,
     ) -> Result<(), ExpandEnd>
         requires model { at.now.model.now ≡ self.now.model }
         requires state { state_in at.now.words.now ≡ self.now.visit.state }
@@ -256,7 +261,7 @@ impl<'a, L: CostLaw> Visitor<'a, L> {
             transition,
             stack,
         )?;
-        self.push_next(alloc, number, cost, next, batch, stack)
+        self.push_next(alloc, number, cost, next, batch, stack, spare)
     }
 
     /// Adds the successor that an enabled ground transition makes.
@@ -269,6 +274,7 @@ impl<'a, L: CostLaw> Visitor<'a, L> {
         number: u32,
         batch: &mut Batch,
         stack: &mut [u64],
+        spare: &mut Vec<NodeBox>,
     ) -> Result<(), ExpandEnd>
         requires model { at.now.model.now ≡ self.now.model }
         requires state { state_in at.now.words.now ≡ self.now.visit.state }
@@ -290,7 +296,7 @@ impl<'a, L: CostLaw> Visitor<'a, L> {
             words: at.words,
             args: &given[..args.list().len()],
         };
-        self.push_successor(alloc, &there, number, transition, batch, stack)
+        self.push_successor(alloc, &there, number, transition, batch, stack, spare)
     }
 
     /// Adds the successor that a ground transition makes which is not forced, if it is enabled.
@@ -303,6 +309,7 @@ impl<'a, L: CostLaw> Visitor<'a, L> {
         number: u32,
         batch: &mut Batch,
         stack: &mut [u64],
+        spare: &mut Vec<NodeBox>,
     ) -> Result<(), ExpandEnd>
         requires model { at.now.model.now ≡ self.now.model }
         requires state { state_in at.now.words.now ≡ self.now.visit.state }
@@ -325,7 +332,7 @@ impl<'a, L: CostLaw> Visitor<'a, L> {
             args: &given[..args.list().len()],
         };
         if packed_spots::is_enabled(&there, number, transition, stack)? {
-            self.push_successor(alloc, &there, number, transition, batch, stack)
+            self.push_successor(alloc, &there, number, transition, batch, stack, spare)
         } else {
             Ok(())
         }
@@ -342,6 +349,7 @@ impl<'a, L: CostLaw> Visitor<'a, L> {
         candidate: Candidate,
         batch: &mut Batch,
         stack: &mut [u64],
+        spare: &mut Vec<NodeBox>,
     ) -> Result<(), ExpandEnd>
         requires model { at.now.model.now ≡ self.now.model }
         requires state { state_in at.now.words.now ≡ self.now.visit.state }
@@ -356,7 +364,7 @@ impl<'a, L: CostLaw> Visitor<'a, L> {
         if is_out(at, candidate) {
             return Ok(());
         }
-        self.push_tested(alloc, at, candidate.number, batch, stack)
+        self.push_tested(alloc, at, candidate.number, batch, stack, spare)
     }
 
     /// Adds the successors that these candidates make, where no forced transition is enabled.
@@ -368,6 +376,7 @@ impl<'a, L: CostLaw> Visitor<'a, L> {
         candidates: &[Candidate],
         batch: &mut Batch,
         stack: &mut [u64],
+        spare: &mut Vec<NodeBox>,
     ) -> Result<(), ExpandEnd>
         requires room { ServesModel self.now.model (length stack.old) }
         requires model { at.now.model.now ≡ self.now.model }
@@ -379,7 +388,7 @@ impl<'a, L: CostLaw> Visitor<'a, L> {
         ensures fits { OnOk result (BatchFits self.now.model batch.new) }
     {
         for candidate in candidates {
-            self.push_candidate(alloc, at, *candidate, batch, stack)?;
+            self.push_candidate(alloc, at, *candidate, batch, stack, spare)?;
         }
         Ok(())
     }
@@ -394,6 +403,7 @@ impl<'a, L: CostLaw> Visitor<'a, L> {
         others: &[Candidate],
         batch: &mut Batch,
         stack: &mut [u64],
+        spare: &mut Vec<NodeBox>,
     ) -> Result<(), ExpandEnd>
         requires room { ServesModel self.now.model (length stack.old) }
         requires forced { forced.now ≡ forced_of self.now.model }
@@ -404,8 +414,11 @@ impl<'a, L: CostLaw> Visitor<'a, L> {
     {
         let at = scene(self.model, self.tables, self.layout, self.state, &[]);
         match packed_spots::first_enabled(&at, forced, stack)? {
-            Some(number) => self.push_number(alloc, &at, number, batch, stack),
-            None => self.push_each(alloc, &at, others, batch, stack),
+            Some(number) => self.push_number(alloc, &at, number, batch, stack, spare),
+            None => {
+                let visited = at;
+                self.push_each(alloc, &visited, others, batch, stack, spare)
+            }
         }
     }
 }
