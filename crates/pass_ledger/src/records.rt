@@ -1,10 +1,9 @@
 //! What a shard's pass was: the data of the definitions.
 
 use crate::mail::Letter;
-use dp_base::Boxed;
 use dp_model::{FaultKind, Seq, Spot};
 use path_log::StepId;
-use state_layout::Node;
+use state_layout::{Node, NodeBox};
 
 /// A node that was pruned, and the best word that pruned it.
 #[derive(Debug, Drop)]
@@ -31,7 +30,7 @@ pub struct Visit {
 #[derive(Debug, Drop)]
 pub struct Unsent {
     pub to: u32,
-    pub node: Boxed<Node>,
+    pub node: NodeBox,
 }
 
 /// A solution that is held: its cost, and the visit and the ground transition that led to its base state.

@@ -36,6 +36,7 @@ use Rattle.pass_ledger.proofs.Lists.{has_none, has_head, has_cases, has_left, ha
 use Rattle.pass_ledger.proofs.Groups.{marks, states}
 use Rattle.pass_ledger.proofs.Past.{past, new_row, row_covers}
 use Rattle.pass_ledger.proofs.Steps.{own_close}
+use Rattle.successors.specs.Searches.{Search}
 use Rattle.shard_core.specs.Calls.{IsReady, IsClosed}
 use Rattle.shard_core.specs.Floors.{floor_of}
 use Rattle.shard_core.specs.Layers.{nodes_at, busy_at, AreOf, Splits}
@@ -279,3 +280,7 @@ module _ {A B : Type 0} where
 
       all : CanClose p r (row_of taken) × Stands p (record s { layer = s.layer + 1; collected = collected'; past = past'; waiting = waiting'; told = 0; sent = sent'; total = 0; dropped = dropped'; least_floor = floor' }) (close r (row_of taken))
       all = closed p s r ready st taken splits past' past_layout past_nodes collected' are nodes busy waiting' wis sent' zeros same dropped' (dis ∙ ap (λ (n : ℕ). s.dropped + n) dropped_is) floor' floor_is
+
+  -- the expander is as it was
+  pub same_expander : (p : Pass) (r : ShardRecord) (out : Closed) (s : Shard A B) (x : Search) → x ≡ s.expander → IsClosed p r out s → IsClosed p r out (record s { expander = x })
+  same_expander p r out s x e h = subst (λ (y : Search). IsClosed p r out (record s { expander = y })) (sym e) h

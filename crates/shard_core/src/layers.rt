@@ -11,8 +11,7 @@ ghost use Rattle.shard_core.specs.Layers.{nodes_at, busy_at, AreOf, Merges, Spli
 
 use cost_laws::CostLaw;
 use dom_store::{Covers, DomStore, PastStore, Taken};
-use dp_base::Boxed;
-use state_layout::{Layout, Node};
+use state_layout::{Layout, Node, NodeBox};
 use std::alloc::{AllocError, Global};
 
 /// A layer that is not closed: its nodes so far, and whether a mark told that some shard has states of it.
@@ -97,8 +96,8 @@ pub(crate) fn collect<K: Covers>(
     layout: &Layout,
     layers: &mut Vec<Layer<K>>,
     place: u64,
-    node: Boxed<Node>,
-) -> Result<(), Boxed<Node>>
+    node: NodeBox,
+) -> Result<(), NodeBox>
     requires layouts { AreOf layout.now layers.old.items }
     requires node { IsNodeFor layout.now node }
     ensures layouts { AreOf layout.now layers.new.items }
@@ -119,8 +118,8 @@ fn add_at<K: Covers>(
     layout: &Layout,
     layers: &mut Vec<Layer<K>>,
     place: u64,
-    node: Boxed<Node>,
-) -> Result<(), Boxed<Node>>
+    node: NodeBox,
+) -> Result<(), NodeBox>
     requires layouts { AreOf layout.now layers.old.items }
     requires node { IsNodeFor layout.now node }
     requires there { place < length layers.old.items }
@@ -152,7 +151,7 @@ pub(crate) fn first_layers<K: Covers>(
     let Some(node) = start else {
         return Ok(layers);
     };
-    let boxed = Boxed::new(alloc, node)?;
+    let boxed = NodeBox::new(alloc, node)?;
     match collect(alloc, layout, &mut layers, 0, boxed) {
         Ok(()) => Ok(layers),
         Err(_) => Err(AllocError),

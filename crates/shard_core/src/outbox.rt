@@ -8,10 +8,9 @@ ghost use Rattle.state_layout.specs.declared.node.Node.{Node};
 ghost use Rattle.shard_core.specs.Outgoing.{letter_of, letters_of, is_to, count_to};
 
 use crate::counts::raise;
-use dp_base::Boxed;
 use dp_model::Seq;
 use pass_ledger::Unsent;
-use state_layout::{Layout, Node};
+use state_layout::{Layout, Node, NodeBox};
 use std::alloc::AllocError;
 use std::collections::VecDeque;
 
@@ -33,7 +32,7 @@ fn send(
     shards: u32,
     letters: &mut VecDeque<Unsent>,
     sent: &mut Vec<u64>,
-    node: Boxed<Node>,
+    node: NodeBox,
 ) -> Result<(), AllocError>
     requires node { IsNodeFor layout.now node }
     requires some { 1 ≤ shards }
@@ -55,8 +54,8 @@ pub(crate) fn send_all(
     shards: u32,
     letters: &mut VecDeque<Unsent>,
     sent: &mut Vec<u64>,
-    nodes: Seq<Boxed<Node>>,
-) -> Result<Seq<Boxed<Node>>, AllocError>
+    nodes: Seq<NodeBox>,
+) -> Result<Seq<NodeBox>, AllocError>
     requires nodes { (n : Node) → Has nodes n → IsNodeFor layout.now n }
     requires some { 1 ≤ shards }
     requires long { length sent.old.items ≡ shards }

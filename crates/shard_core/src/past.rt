@@ -8,9 +8,8 @@ ghost use Rattle.dom_store.specs.Past.{past_node};
 ghost use Rattle.pass_ledger.specs.Past.{past_with};
 
 use dom_store::{Covers, PastStore};
-use dp_base::Boxed;
 use dp_model::Keep;
-use state_layout::{Layout, Node};
+use state_layout::{Layout, NodeBox};
 use std::alloc::AllocError;
 
 /// Adds the kept nodes of a layer to the past, where they cover those of later layers. On `Err` memory ran out.
@@ -18,7 +17,7 @@ pub(crate) fn remember<K: Covers>(
     keep: Keep,
     layout: &Layout,
     past: &mut PastStore<K>,
-    kept: &[Boxed<Node>],
+    kept: &[NodeBox],
 ) -> Result<(), AllocError>
     requires layout { past.old.layout ≡ layout.now }
     requires nodes { (n : Node) → Has kept.now n → IsNodeFor layout.now n }
@@ -35,7 +34,7 @@ pub(crate) fn remember<K: Covers>(
 fn add_all<K: Covers>(
     layout: &Layout,
     past: &mut PastStore<K>,
-    nodes: &[Boxed<Node>],
+    nodes: &[NodeBox],
 ) -> Result<(), AllocError>
     requires layout { past.old.layout ≡ layout.now }
     requires nodes { (n : Node) → Has nodes.now n → IsNodeFor layout.now n }

@@ -1,6 +1,6 @@
 //! A shard, and what it does in a pass.
 
-ghost use Rattle.std.specs.Prelude.{◌≡◌, ◌↔◌, ℕ, ◌+◌, ◌<◌, ◌≤◌, true, false, IsTrue, List, [], ◌∷◌, ◌++◌, length, get_or, Some, None, ℤ, pos, ◌≤ℤ◌, is_some, IfSome, IfNone, IfOk, IfErr, OnOk, OnErr};
+ghost use Rattle.std.specs.Prelude.{◌≡◌, ◌↔◌, ℕ, ◌+◌, ◌<◌, ◌≤◌, true, false, IsTrue, List, [], ◌∷◌, ◌++◌, length, drop, get_or, Some, None, ℤ, pos, ◌≤ℤ◌, is_some, IfSome, IfNone, IfOk, IfErr, OnOk, OnErr};
 ghost use Rattle.std.specs.List.{All};
 ghost use Rattle.cost_laws.specs.Orders.{InWideRange, IsLawOf};
 ghost use Rattle.dp_model.specs.declared.parts.PlainState.{PlainState};
@@ -31,12 +31,11 @@ use crate::outbox::send_all;
 use crate::past::remember;
 use cost_laws::CostLaw;
 use dom_store::{Covers, PastStore};
-use dp_base::Boxed;
 use dp_model::{Keep, Model as DpModel, Options, Seq};
 use pass_ledger::{FaultHere, Held, Letter, Unsent};
 use path_log::{PathLog, StepId};
 use spot_eval::SpotFault;
-use state_layout::{Layout, Node};
+use state_layout::{Layout, Node, NodeBox};
 use std::alloc::{AllocError, Global};
 use std::collections::VecDeque;
 use std::mem;
@@ -66,7 +65,7 @@ pub struct Shard<'m, L: CostLaw, K: Covers> {
     /// The kept nodes of all closed layers, where they cover those of later layers; else none.
     pub past: PastStore<K>,
     /// The kept nodes of the last closed layer that were neither visited nor pruned.
-    pub waiting: VecDeque<Boxed<Node>>,
+    pub waiting: VecDeque<NodeBox>,
     /// The states that were made and not handed out.
     pub letters: VecDeque<Unsent>,
     /// Room for what a visit makes of a node. Between two visits it says nothing.
@@ -185,7 +184,7 @@ impl<'m, L: CostLaw, K: Covers> Shard<'m, L, K> {
     }
 
     // the node of a state goes to its layer
-    fn accept_state(&mut self, from: u32, layer: u64, node: Boxed<Node>) -> Result<(), Letter>
+    fn accept_state(&mut self, from: u32, layer: u64, node: NodeBox) -> Result<(), Letter>
         requires { (p : Pass) × (r : ShardRecord) × Stands p self.old r × CanTake p r (Letter.State from layer node) }
         ensures taken { (p : Pass) (r : ShardRecord) → Suited p L.minimize L.operator K.prune K.minimize K.operator → Stands p self.old r → CanTake p r (Letter.State from layer node) → OnOk result (Stands p self.new (take r (Letter.State from layer node))) }
         ensures same { (p : Pass) (r : ShardRecord) → Stands p self.old r → OnErr result (Stands p self.new r) }
@@ -274,6 +273,7 @@ impl<'m, L: CostLaw, K: Covers> Shard<'m, L, K> {
         );
         self.dropped = dropped;
         self.waiting = VecDeque::from_vec(taken.kept.into_list());
+        give_back_all(&mut self.expander, taken.dropped.into_list());
         self.layer = layer;
         self.told = 0;
         self.total = 0;
@@ -302,7 +302,7 @@ impl<'m, L: CostLaw, K: Covers> Shard<'m, L, K> {
         if !is_pruned::<L>(node.get(), best) {
             return false;
         }
-        self.waiting.pop_front();
+        drop_first(&mut self.waiting, &mut self.expander);
         true
     }
 
@@ -326,7 +326,7 @@ impl<'m, L: CostLaw, K: Covers> Shard<'m, L, K> {
             .expander
             .expand(self.alloc, node, id, best, &mut self.batch)
         {
-            Ok(()) => match self.take_batch(node, id) {
+            Ok(()) => match self.take_batch(first, id) {
                 Ok(offer) => Visited::Done { offer },
                 Err(_) => Visited::Memory,
             },
@@ -346,10 +346,10 @@ impl<'m, L: CostLaw, K: Covers> Shard<'m, L, K> {
         }
     }
 
-    // What a visit made goes to the letters, the visit is logged, and the best of its solutions is held. The answer is the word
-    // of this one, where it is better than what was held. On `Err` memory ran out, and the log, the count of visits and what is
+    // What a visit made goes to the letters, the visit is logged, the best of its solutions is held, and the box of the visited node
+    // is used again. The answer is the word of that solution, where it is better than what was held. On `Err` memory ran out, and the log, the count of visits and what is
     // held are as before.
-    fn take_batch(&mut self, node: &Node, id: StepId) -> Result<Option<u64>, AllocError>
+    fn take_batch(&mut self, node: NodeBox, id: StepId) -> Result<Option<u64>, AllocError>
         requires letters { (n : Node) → Has self.old.batch.letters n → IsNodeFor self.old.layout n }
         requires offers { All (λ (offer : Offer). InRange offer.cost) self.old.batch.offers }
         requires held { IfSome self.old.held (λ h. InRange h.cost) }
@@ -360,7 +360,7 @@ impl<'m, L: CostLaw, K: Covers> Shard<'m, L, K> {
         ensures sent { OnOk result ((j : ℕ) → get_or self.new.sent.items j 0 ≡ get_or self.old.sent.items j 0 + count_to j (letters_of self.old.layout self.old.shards self.old.batch.letters)) }
         ensures long { OnOk result (length self.new.sent.items ≡ self.old.shards) }
         ensures total { OnOk result (self.new.total ≡ self.old.total + length self.old.batch.letters) }
-        ensures log { OnOk result (self.new.log ≡ with_step self.old.log (entry node.now.parent node.now.transition)) }
+        ensures log { OnOk result (self.new.log ≡ with_step self.old.log (entry node.parent node.transition)) }
         ensures visited { OnOk result (self.new.visited ≡ self.old.visited + 1) }
         ensures held { OnOk result (self.new.held ≡ best_held L.minimize L.operator id self.old.held self.old.batch.offers) }
         ensures news { IfOk result (λ offer. is_some offer ≡ is_news L.minimize L.operator self.old.held self.new.held) }
@@ -376,7 +376,8 @@ impl<'m, L: CostLaw, K: Covers> Shard<'m, L, K> {
             &mut self.sent,
             nodes,
         )?;
-        log_visit(&mut self.log, &mut self.visited, node)?;
+        log_visit(&mut self.log, &mut self.visited, node.get())?;
+        self.expander.give_back(node);
         self.total = total;
         Ok(hold_best::<L>(&mut self.held, id, self.batch.offers.list()))
     }
@@ -464,6 +465,25 @@ impl<'m, L: CostLaw, K: Covers> Shard<'m, L, K> {
             },
             self.log,
         )
+    }
+}
+
+/// Takes the first node out. Its box is used again.
+fn drop_first<'m, L: CostLaw>(waiting: &mut VecDeque<NodeBox>, expander: &mut Expander<'m, L>)
+    ensures waiting { waiting.new.items ≡ drop 1 waiting.old.items }
+    ensures expander { expander.new ≡ expander.old }
+{
+    if let Some(first) = waiting.pop_front() {
+        expander.give_back(first);
+    }
+}
+
+/// The boxes of the nodes are used again.
+fn give_back_all<'m, L: CostLaw>(expander: &mut Expander<'m, L>, nodes: Vec<NodeBox>)
+    ensures { expander.new ≡ expander.old }
+{
+    for node in nodes {
+        expander.give_back(node);
     }
 }
 

@@ -1,6 +1,8 @@
-use Rattle.std.proofs.Common.{refl, sym, subst, ◌∙◌, rules}
+use Rattle.std.proofs.Common.{refl, sym, subst, ap, ◌∙◌, rules}
 use Rattle.dp_model.specs.declared.whole.Model.{Model}
+use Rattle.path_log.specs.Paths.{entry, with_step}
 use Rattle.state_layout.specs.Conditions.{IsNodeOf}
+use Rattle.state_layout.specs.declared.node.Node.{Node}
 use Rattle.shard_core.proofs.Ranges.{held_range}
 use Rattle.shard_core.proofs.Tells.{head_good}
 use Rattle.shard_core.proofs.Visits.{all_has, first_is, took, met_fault, finds_batch, finds_fault}
@@ -26,7 +28,7 @@ returns-in-Ok-take_batch g c =
     let e = c.in-Ok-take_batch.ensures in
     record {
       visited = λ p r suited st _. took p g.L.CostLaw.minimize g.L.CostLaw.operator suited.law s r st c.get-node.result.now c.pop_front.new.self.items (first_is c.pop_front.new.self.items c.in-Some.ensures.items c.get-node.ensures) c.args.best c.expand.new.batch c.expand.ensures.fits c.in-Ok.ensures.batch
-          c.pop_front.new.self refl c.expand.new.self c.expand.ensures.same c.take_batch.new.self c.take_batch.ensures.frame e.letters e.sent e.long e.total e.log e.visited e.held c.in-Ok-take_batch.offer e.news e.word;
+          c.pop_front.new.self refl c.expand.new.self c.expand.ensures.same c.take_batch.new.self c.take_batch.ensures.frame e.letters e.sent e.long e.total (e.log ∙ ap (λ (n : Node). with_step s.log (entry n.parent n.transition)) (sym c.get-node.ensures)) e.visited e.held c.in-Ok-take_batch.offer e.news e.word;
       found = λ p r st. finds_batch p s r st c.get-node.result.now c.pop_front.new.self.items (first_is c.pop_front.new.self.items c.in-Some.ensures.items c.get-node.ensures) c.args.best c.expand.new.batch c.in-Ok.ensures.batch;
       me = search rules;
     }
