@@ -252,7 +252,12 @@ fn composed_word(at: &Scene<'_>, e: &SetEx, count: u32, stack: &mut [u64]) -> Re
 /// The members of a set, in one word, behind the words that it would be written to.
 #[cycle(eval)]
 #[inline(always)]
-pub fn operand_word(at: &Scene<'_>, e: &SetEx, count: u32, stack: &mut [u64]) -> Result<u64, FaultKind>
+pub fn operand_word(
+    at: &Scene<'_>,
+    e: &SetEx,
+    count: u32,
+    stack: &mut [u64],
+) -> Result<u64, FaultKind>
     requires fits { IsTrue (operand_fits at.now.model.now (set_fits at.now.model.now e.now) (length at.now.args.now) (length stack.old)) }
     requires count { count ≡ count_of at.now.model.now (set_fits at.now.model.now e.now).0 }
     requires few { count ≤ 64 }
