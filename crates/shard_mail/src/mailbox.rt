@@ -69,6 +69,7 @@ impl<T: Signed> Mailbox<T> {
     }
 
     /// Posts a letter at the back, in one step. Where memory runs out the letter comes back.
+    #[inline(always)]
     pub fn post<R: Wait>(&self, rt: &R, poster: &mut Poster<T>, letter: T) -> Result<(), T>
         requires poster { IsPosterOf self.now poster.old }
         requires sender { T.sender_of letter ≡ poster.old.number }
@@ -82,6 +83,7 @@ impl<T: Signed> Mailbox<T> {
 
     /// Takes the letter at the front, which is the next one of its sender, in one step. `None` comes only where the mailbox
     /// was empty at a step of this call.
+    #[inline(always)]
     pub fn take<R: Wait>(&self, rt: &R, taker: &mut Taker<T>) -> Option<T>
         requires { IsTakerOf self.now taker.old }
         ensures taker { IsTakerOf self.now taker.new }
