@@ -14,7 +14,7 @@ use dom_store::{Added, Covers, DomStore, Taken};
 use dp_model::Model as DpModel;
 use path_log::StepId;
 use spot_eval::SpotFault;
-use state_layout::{Layout, Node, Packed};
+use state_layout::{Layout, Node, NodeBox, Packed};
 use std::alloc::{AllocError, Global};
 use std::marker::Model;
 use successors::{Batch, ExpandEnd, Expander, Start};
@@ -178,7 +178,8 @@ impl<'m, L: CostLaw, K: Covers> Bench<'m, L, K> {
         requires floor { IfSome floor InWideRange }
         ensures { self.new ≡ self.old }
     {
-        let node = self.node(alloc, cost, floor)?;
+        let made = self.node(alloc, cost, floor)?;
+        let node = NodeBox::new(alloc, made)?;
         Ok(self.store.add(&self.layout, node).ok())
     }
 

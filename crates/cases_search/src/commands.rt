@@ -1,6 +1,6 @@
 //! The commands of a session: what each is given, and how its answer is written.
 
-ghost use Rattle.cases_search.specs.Fits.{AllFit};
+ghost use Rattle.cases_search.specs.Fits.{AllFit, FitsIn};
 
 use crate::bench::Bench;
 use crate::layers::{add, many, take};
@@ -12,7 +12,7 @@ use dom_store::Covers;
 use dp_base::{FILE_LIMIT, Seq};
 use dp_model::Model;
 use replay_list::read_list;
-use state_layout::Node;
+use state_layout::{Node, NodeBox};
 use std::alloc::{AllocError, Global};
 use std::io;
 use successors::{Batch, Offer, Start};
@@ -199,9 +199,23 @@ fn print_batch<R: Print + Alloc<A = Global>, L: CostLaw, K: Covers>(
     requires letters { AllFit bench.now batch.now.letters }
     requires pruned { AllFit bench.now batch.now.pruned }
 {
-    print_nodes(rt, bench, "letter", batch.letters.list())?;
+    print_letters(rt, bench, batch.letters.list())?;
     print_offers(rt, bench.model(), batch.offers.list())?;
     print_nodes(rt, bench, "pruned", batch.pruned.list())
+}
+
+/// Prints letters, each on a line, with the steps that made them.
+fn print_letters<R: Print + Alloc<A = Global>, L: CostLaw, K: Covers>(
+    rt: &R,
+    bench: &Bench<'_, L, K>,
+    letters: &[NodeBox],
+) -> io::Result<()>
+    requires { AllFit bench.now letters.now }
+{
+    for letter in letters {
+        print_node(rt, bench, "letter", letter.get())?;
+    }
+    Ok(())
 }
 
 /// Prints nodes, each on a line, with the steps that made them.
@@ -213,14 +227,25 @@ fn print_nodes<R: Print + Alloc<A = Global>, L: CostLaw, K: Covers>(
 ) -> io::Result<()>
     requires { AllFit bench.now nodes.now }
 {
-    let alloc = rt.alloc();
     for node in nodes {
-        let step = step_shown(alloc, bench.model(), node.transition)?;
-        let step = step.as_text();
-        let text = bench.node_shown(alloc, node)?;
-        println!(rt; "    {word} {step}: {text}")?;
+        print_node(rt, bench, word, node)?;
     }
     Ok(())
+}
+
+fn print_node<R: Print + Alloc<A = Global>, L: CostLaw, K: Covers>(
+    rt: &R,
+    bench: &Bench<'_, L, K>,
+    word: &str,
+    node: &Node,
+) -> io::Result<()>
+    requires { FitsIn bench.now node.now }
+{
+    let alloc = rt.alloc();
+    let step = step_shown(alloc, bench.model(), node.transition)?;
+    let step = step.as_text();
+    let text = bench.node_shown(alloc, node)?;
+    println!(rt; "    {word} {step}: {text}")
 }
 
 fn print_offers<R: Print + Alloc<A = Global>>(
