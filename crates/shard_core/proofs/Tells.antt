@@ -20,7 +20,6 @@ use Rattle.pass_ledger.specs.declared.records.ShardRecord.{ShardRecord}
 use Rattle.pass_ledger.proofs.Lists.{has_none, has_head}
 use Rattle.pass_ledger.proofs.Groups.{marks}
 use Rattle.pass_ledger.proofs.Steps.{own_prune}
-use Rattle.successors.specs.Searches.{Search}
 use Rattle.shard_core.specs.Calls.{IsReady, IsPruning}
 use Rattle.shard_core.specs.Layers.{busy_at}
 use Rattle.shard_core.specs.Stands.{Stands}
@@ -217,10 +216,6 @@ module _ {A B : Type 0} where
       let z = st.layer in
       let kept = st.ends.1.own.turns.kept (length r.rows - 1) n (omega (arith, pos, z)) (subst (λ (ns : List Node). Has ns n) (sym head) (0, refl)) in
       received_good p s r st (length r.rows - 1) n ((st.ends.1.own.rows (length r.rows - 1)).kept n kept)
-
-  -- the expander is as it was
-  pub prune_same : (p : Pass) (best : ℕ) (r : ShardRecord) (s : Shard A B) (x : Search) → x ≡ s.expander → IsPruning p best r s → IsPruning p best r (record s { expander = x })
-  prune_same p best r s x e h = subst (λ (y : Search). IsPruning p best r (record s { expander = y })) (sym e) h
 
   pub pruned_head : (p : Pass) (s : Shard A B) (r : ShardRecord) → Stands p s r → (n : Node) (rest : List Node) → s.waiting.items ≡ n ∷ rest → (best : ℕ) → Prunes p best n → (waiting' : VecDeque Node Global) → waiting'.items ≡ rest
       → IsPruning p best r (record s { waiting = waiting' })

@@ -1,6 +1,6 @@
 //! A shard, and what it does in a pass.
 
-ghost use Rattle.std.specs.Prelude.{◌≡◌, ◌↔◌, ℕ, ◌+◌, ◌<◌, ◌≤◌, true, false, IsTrue, List, [], ◌∷◌, ◌++◌, length, drop, get_or, Some, None, ℤ, pos, ◌≤ℤ◌, is_some, IfSome, IfNone, IfOk, IfErr, OnOk, OnErr};
+ghost use Rattle.std.specs.Prelude.{◌≡◌, ◌↔◌, ℕ, ◌+◌, ◌<◌, ◌≤◌, true, false, IsTrue, List, [], ◌∷◌, ◌++◌, length, get_or, Some, None, ℤ, pos, ◌≤ℤ◌, is_some, IfSome, IfNone, IfOk, IfErr, OnOk, OnErr};
 ghost use Rattle.std.specs.List.{All};
 ghost use Rattle.cost_laws.specs.Orders.{InWideRange, IsLawOf};
 ghost use Rattle.dp_model.specs.declared.parts.PlainState.{PlainState};
@@ -302,7 +302,7 @@ impl<'m, L: CostLaw, K: Covers> Shard<'m, L, K> {
         if !is_pruned::<L>(node.get(), best) {
             return false;
         }
-        drop_first(&mut self.waiting, &mut self.expander);
+        self.waiting.pop_front();
         true
     }
 
@@ -465,16 +465,6 @@ impl<'m, L: CostLaw, K: Covers> Shard<'m, L, K> {
             },
             self.log,
         )
-    }
-}
-
-/// Takes the first node out. Its box is used again.
-fn drop_first<'m, L: CostLaw>(waiting: &mut VecDeque<NodeBox>, expander: &mut Expander<'m, L>)
-    ensures waiting { waiting.new.items ≡ drop 1 waiting.old.items }
-    ensures expander { expander.new ≡ expander.old }
-{
-    if let Some(first) = waiting.pop_front() {
-        expander.give_back(first);
     }
 }
 
