@@ -5,8 +5,9 @@ Draws larger problems for the models in models/ (always the same ones), runs the
 worker and with four, and prints for each run the visits, the seconds of the processor, visits in a second, the largest memory and
 the verdict. A NAME picks the runs whose names begin so. With the word growth it runs four of them with budgets of 100,000, 1,000,000
 and 10,000,000 visits, so that one sees whether time grows with the visits. With the word threads it runs models with wide layers with
-one worker, two and four, and prints seconds by the clock, those of the processor, and how many times as fast as one worker each is;
-the machine should have nothing else to do then. docs/SPEED.md has what was measured."""
+one worker, two and four, and prints seconds by the clock, those of the processor, how much of the workers' time was spent asleep, how many times as fast as
+one worker each is, and how many times as fast as one run so many runs of one worker are that begin at once, which is the most that this machine has
+to give; it should have nothing else to do then. docs/SPEED.md has what was measured."""
 
 import os
 import random
@@ -193,17 +194,29 @@ def print_growth(program, path):
             print_run(program, name, ["solve", file, path, "--budget", budget, *more])
 
 
+def seconds_beside(program, words, count):
+    """Seconds by the clock until so many runs that begin at once have all ended."""
+    start = time.monotonic()
+    runs = [subprocess.Popen([program, *words], stdout=subprocess.DEVNULL) for _ in range(count)]
+    for run in runs:
+        run.wait()
+    return time.monotonic() - start
+
+
 def print_threads(program, path):
-    """The least seconds by the clock of three runs for each number of workers."""
+    """The least seconds by the clock of three runs for each number of workers, how much of the workers' time was spent asleep, and how many
+    times as fast the machine makes so many runs with one worker each."""
     for name, file, problem, more in WIDE:
         with open(path, "w", encoding="utf-8") as it:
             it.write(problem)
         alone = None
-        for workers in ("1", "2", "4"):
-            runs = [measured(program, ["solve", file, path, "--workers", workers, *more]) for _ in range(3)]
-            visits, seconds, wall, _, last = min(runs, key=lambda run: run[2])
+        for workers in (1, 2, 4):
+            words = ["solve", file, path, *more, "--workers"]
+            visits, seconds, wall, _, last = min((measured(program, [*words, str(workers)]) for _ in range(3)), key=lambda run: run[2])
             alone = alone or wall
-            times = f"{wall:7.2f} s {seconds:7.2f} s of the processor {alone / wall:5.2f} times"
+            asleep = max(0, 1 - seconds / (workers * wall))
+            most = workers * alone / min(seconds_beside(program, [*words, "1"], workers) for _ in range(3))
+            times = f"{wall:7.2f} s {seconds:7.2f} s of the processor, {asleep:4.0%} asleep, {alone / wall:5.2f} times (apart {most:4.2f})"
             print(f"{name:26} {workers} workers {visits:9} {times}  {last}", flush=True)
 
 
