@@ -16,6 +16,7 @@ use crate::covers::Covers;
 use crate::glance::Glance;
 use crate::places::{covers_at, covers_in_chain, put_node};
 use crate::rising::raise_long;
+use crate::spares::keep_box;
 use crate::stairs::Stairs;
 use state_layout::{Layout, Node, NodeBox};
 use std::alloc::AllocError;
@@ -35,6 +36,7 @@ pub(crate) fn add_node<K: Covers>(
     chains: &mut Chains,
     stairs: &mut Stairs,
     places: &mut Vec<Option<NodeBox>>,
+    spare: &mut Vec<NodeBox>,
     glances: &mut Vec<Glance>,
     count: &mut usize,
     node: NodeBox,
@@ -54,10 +56,11 @@ pub(crate) fn add_node<K: Covers>(
     let Some(covering) = covers_by_steps::<K>(
         layout, chains, stairs, places, glances, seen, key, glance,
     ) else {
+        keep_box(spare, node);
         return Ok(Added::Covered);
     };
     let gone = keep_node::<K>(
-        layout, chains, stairs, places, glances, covering, node, key, glance,
+        layout, chains, stairs, places, spare, glances, covering, node, key, glance,
     )?;
     *count = *count + 1 - gone;
     raise_long::<K>(layout, one_resource, chains, stairs, places, glances, key);
@@ -126,6 +129,7 @@ fn keep_node<K: Covers>(
     chains: &mut Chains,
     stairs: &mut Stairs,
     places: &mut Vec<Option<NodeBox>>,
+    spare: &mut Vec<NodeBox>,
     glances: &mut Vec<Glance>,
     covering: bool,
     node: NodeBox,
@@ -155,7 +159,7 @@ fn keep_node<K: Covers>(
         return Err(node);
     };
     Ok(put_node::<K>(
-        layout, chains, stairs, places, glances, covering, place, node, key, glance,
+        layout, chains, stairs, places, spare, glances, covering, place, node, key, glance,
     ))
 }
 

@@ -10,6 +10,7 @@ mod past;
 mod past_node;
 mod places;
 mod rising;
+mod spares;
 mod stairs;
 mod store;
 mod sweep;

@@ -14,6 +14,7 @@ ghost use Rattle.dom_store.specs.Stairs.{AreSteps};
 use crate::chains::Chains;
 use crate::covers::Covers;
 use crate::glance::{Glance, may_be_covered_at, may_cover_at};
+use crate::spares::clear_place;
 use crate::stairs::Stairs;
 use state_layout::{Layout, Node, NodeBox};
 
@@ -142,6 +143,7 @@ fn clear_covered<K: Covers>(
     layout: &Layout,
     chains: &mut Chains,
     places: &mut Vec<Option<NodeBox>>,
+    spare: &mut Vec<NodeBox>,
     glances: &[Glance],
     place: usize,
     node: &Node,
@@ -160,7 +162,7 @@ fn clear_covered<K: Covers>(
     let mut gone = 0;
     let mut last = place;
     while let Some(next) = chains.older(last) {
-        if clear_at::<K>(layout, places, glances, next, node, glance) {
+        if clear_at::<K>(layout, places, spare, glances, next, node, glance) {
             chains.drop_older(last, next);
             gone += 1;
         } else {
@@ -176,6 +178,7 @@ fn clear_if<K: Covers>(
     chains: &mut Chains,
     stairs: &mut Stairs,
     places: &mut Vec<Option<NodeBox>>,
+    spare: &mut Vec<NodeBox>,
     glances: &[Glance],
     covering: bool,
     place: usize,
@@ -202,7 +205,7 @@ fn clear_if<K: Covers>(
         return 0;
     }
     clear_row::<K>(
-        layout, chains, stairs, places, glances, place, node, key, glance,
+        layout, chains, stairs, places, spare, glances, place, node, key, glance,
     )
 }
 
@@ -212,6 +215,7 @@ fn clear_row<K: Covers>(
     chains: &mut Chains,
     stairs: &mut Stairs,
     places: &mut Vec<Option<NodeBox>>,
+    spare: &mut Vec<NodeBox>,
     glances: &[Glance],
     place: usize,
     node: &Node,
@@ -232,11 +236,11 @@ fn clear_row<K: Covers>(
     ensures steps { AreSteps K.prune K.minimize K.operator layout.now stairs.new.row stairs.new.steps places.new.items }
     ensures links { length chains.new.older.items ≡ length chains.old.older.items }
 {
-    let gone = clear_steps::<K>(layout, stairs, places, glances, node, key, glance);
+    let gone = clear_steps::<K>(layout, stairs, places, spare, glances, node, key, glance);
     if stairs.is_of(key) {
         return gone;
     }
-    gone + clear_covered::<K>(layout, chains, places, glances, place, node, glance)
+    gone + clear_covered::<K>(layout, chains, places, spare, glances, place, node, glance)
 }
 
 // takes out the nodes that the node with this glance covers, and their steps, where the row of the key has steps; where a step shows
@@ -245,6 +249,7 @@ fn clear_steps<K: Covers>(
     layout: &Layout,
     stairs: &mut Stairs,
     places: &mut Vec<Option<NodeBox>>,
+    spare: &mut Vec<NodeBox>,
     glances: &[Glance],
     node: &Node,
     key: u64,
@@ -264,7 +269,7 @@ fn clear_steps<K: Covers>(
 {
     let mut gone = 0;
     while let Some((word, step)) = stairs.first_covered_in(key, glance) {
-        if !clear_at::<K>(layout, places, glances, step.place, node, glance) {
+        if !clear_at::<K>(layout, places, spare, glances, step.place, node, glance) {
             stairs.end();
             return gone;
         }
@@ -278,6 +283,7 @@ fn clear_steps<K: Covers>(
 fn clear_at<K: Covers>(
     layout: &Layout,
     places: &mut Vec<Option<NodeBox>>,
+    spare: &mut Vec<NodeBox>,
     glances: &[Glance],
     place: usize,
     node: &Node,
@@ -295,7 +301,7 @@ fn clear_at<K: Covers>(
     if !is_covered_at::<K>(layout, places, glances, place, node, glance) {
         return false;
     }
-    places[place] = None;
+    clear_place(places, spare, place);
     true
 }
 
@@ -334,6 +340,7 @@ pub(crate) fn put_node<K: Covers>(
     chains: &mut Chains,
     stairs: &mut Stairs,
     places: &mut Vec<Option<NodeBox>>,
+    spare: &mut Vec<NodeBox>,
     glances: &[Glance],
     covering: bool,
     place: usize,
@@ -362,6 +369,7 @@ pub(crate) fn put_node<K: Covers>(
         chains,
         stairs,
         places,
+        spare,
         glances,
         covering,
         place,

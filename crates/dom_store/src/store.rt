@@ -35,6 +35,7 @@ pub struct DomStore<K: Covers> {
     places: Vec<Option<NodeBox>>,
     glances: Vec<Glance>,
     count: usize,
+    spare: Vec<NodeBox>,
     covering: PhantomData<K>,
 }
 
@@ -66,6 +67,7 @@ impl<K: Covers> DomStore<K> {
             places: Vec::new(alloc),
             glances: Vec::new(alloc),
             count: 0,
+            spare: Vec::new(alloc),
             covering: PhantomData,
         })
     }
@@ -89,6 +91,7 @@ impl<K: Covers> DomStore<K> {
             &mut self.chains,
             &mut self.stairs,
             &mut self.places,
+            &mut self.spare,
             &mut self.glances,
             &mut self.count,
             node,
@@ -104,7 +107,7 @@ impl<K: Covers> DomStore<K> {
         ensures left { (m : DpModel) → IsLayoutOf m layout.now → IsLawOf m K.minimize K.operator → (n : Node) → Has self.old.nodes n → Has self.new.nodes n ⊎ IsPast m K.prune past.now.nodes n }
         ensures news { (m : DpModel) → IsLayoutOf m layout.now → IsLawOf m K.minimize K.operator → (n : Node) → Has self.new.nodes n → IsPast m K.prune past.now.nodes n → ⊥ }
     {
-        let gone = clear_past::<K>(layout, &mut self.places, past);
+        let gone = clear_past::<K>(layout, &mut self.places, &mut self.spare, past);
         self.count -= gone;
     }
 
@@ -129,6 +132,14 @@ impl<K: Covers> DomStore<K> {
         self.glances.clear();
         self.count = 0;
         Ok(taken)
+    }
+
+    /// A box whose node is no longer needed, to put another node into it, where there is one: such are the boxes of the nodes that
+    /// were covered when they came, that a later node covered, or that a past covered. Its node says nothing. It takes no memory.
+    pub fn take_spare(&mut self) -> Option<NodeBox>
+        ensures { self.new ≡ self.old }
+    {
+        self.spare.pop()
     }
 
     /// How many nodes are held.

@@ -9,9 +9,9 @@ pub is_past_at-requires-clause-nodes : goal.is_past_at-requires-clause-nodes
 is_past_at-requires-clause-nodes g c = λ p n there. c.requires.nodes p n (rw c.deref.ensures.value at there)
 
 pub returns-clause-nodes : goal.returns-clause-nodes
-returns-clause-nodes g c = λ p n there. emptied_loses c.args.places.now.items c.args.place p n there
+returns-clause-nodes g c = λ p n there. emptied_loses c.args.places.now.items c.args.place p n (rw c.clear_place.ensures at there)
 
 pub returns-clause-counted : goal.returns-clause-counted
 returns-clause-counted g c =
     let test : Node → Bool = is_past (covers_past g.K.Covers.prune g.K.Covers.minimize g.K.Covers.operator c.args.layout.now) c.args.past.now.nodes in
-    emptied_count test c.args.places.now.items c.args.place (ap (λ (ps : List (Option Node)). passes test (node_at ps c.args.place)) (sym c.deref.ensures.value) ∙ sym c.is_past_at.ensures.value ∙ c.if-not-is_past_at.false)
+    rw c.clear_place.ensures (emptied_count test c.args.places.now.items c.args.place (ap (λ (ps : List (Option Node)). passes test (node_at ps c.args.place)) (sym c.deref.ensures.value) ∙ sym c.is_past_at.ensures.value ∙ c.if-not-is_past_at.false))
