@@ -11,5 +11,6 @@ pub mod Sorting
 pub mod Ranking
 pub mod Sharing
 pub mod Sweeping
+pub mod Reading
 pub mod Remembering
 pub mod Climbing

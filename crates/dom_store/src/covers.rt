@@ -1,11 +1,11 @@
 //! When a node covers another, so that the other is needless. No call takes memory.
 
-ghost use Rattle.std.specs.Prelude.{◌≡◌, ◌↔◌, IsTrue, IfSome, Bool, true, false, int_le};
+ghost use Rattle.std.specs.Prelude.{◌≡◌, ◌↔◌, IsTrue, IfSome, Bool, true, false, int_le, pos};
 ghost use Rattle.dp_model.specs.Costs.{InRange, order_word};
 ghost use Rattle.dp_model.specs.declared.parts.JoinOp.{JoinOp};
 ghost use Rattle.dp_model.specs.declared.whole.Model.{Model as DpModel};
 ghost use Rattle.dp_claims.specs.Dominance.{Covers as CoversIn};
-ghost use Rattle.cost_laws.specs.Orders.{IsLawOf};
+ghost use Rattle.cost_laws.specs.Orders.{InWideRange, IsLawOf};
 ghost use Rattle.state_layout.specs.Conditions.{IsLayoutOf, IsPackedFor, IsNodeFor};
 ghost use Rattle.dom_store.specs.Covering.{bare, covers, key_of, IsReflexive, IsTransitive, KeepsKey};
 ghost use Rattle.dom_store.specs.Glances.{IsGlanceOf, ShowsAtGlance};
@@ -48,6 +48,11 @@ pub trait Covers {
     fn key(layout: &Layout, n: &Node) -> u64
         requires { IsNodeFor layout.now n.now }
         ensures { result ≡ key_of prune layout.now n.now };
+
+    /// The order word of a cost so far under the law.
+    fn word(cost: Option<i64>) -> u64
+        requires { IfSome cost InWideRange }
+        ensures { pos result ≡ order_word minimize operator cost };
 
     /// What shows at a glance of a node.
     fn glance(layout: &Layout, n: &Node) -> Glance
@@ -95,6 +100,10 @@ impl<L: CostLaw> Covers for Exact<L> {
         layout.state_key(&n.state)
     }
 
+    fn word(cost: Option<i64>) -> u64 {
+        L::word(cost)
+    }
+
     fn glance(layout: &Layout, n: &Node) -> Glance {
         glance_of::<L>(layout, n)
     }
@@ -126,6 +135,10 @@ impl<L: CostLaw> Covers for Dominating<L> {
 
     fn key(layout: &Layout, n: &Node) -> u64 {
         layout.signature_key(&n.state)
+    }
+
+    fn word(cost: Option<i64>) -> u64 {
+        L::word(cost)
     }
 
     fn glance(layout: &Layout, n: &Node) -> Glance {

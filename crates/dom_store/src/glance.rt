@@ -9,12 +9,13 @@ ghost use Rattle.dom_store.specs.Glances.{IsGlanceOf, may_cover, may_cover_at, m
 use cost_laws::CostLaw;
 use state_layout::{Layout, Node};
 
-/// The order word of a node's cost so far, of which a lesser one is better, and the merit of its state, of which a greater one
-/// is better.
+/// The order word of a node's cost so far, of which a lesser one is better, the merit of its state, of which a greater one is
+/// better, and its first word in the order of its layer: that of its floor, or of its cost so far where it has no floor.
 #[derive(Clone, Copy, Debug, PartialEq, Eq)]
 pub struct Glance {
     pub word: u64,
     pub merit: i64,
+    pub first: u64,
 }
 
 /// The glance of a node.
@@ -25,6 +26,7 @@ pub(crate) fn glance_of<L: CostLaw>(layout: &Layout, n: &Node) -> Glance
     Glance {
         word: L::word(n.cost),
         merit: layout.merit(&n.state),
+        first: L::word(n.floor.or(n.cost)),
     }
 }
 

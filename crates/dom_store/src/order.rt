@@ -1,10 +1,17 @@
 //! The order in which the nodes of a layer are kept and visited.
 
-ghost use Rattle.std.specs.Prelude.{◌≡◌, ◌<◌, ℕ, length, Some, IfOk};
+ghost use Rattle.std.specs.Prelude.{◌≡◌, ◌<◌, ℕ, ℤ, true, length, Option, Some, IfOk};
 ghost use Rattle.std.specs.List.Sorted.{IsPermutation, IsSortedByKey, IsStableByKey};
-ghost use Rattle.dom_store.specs.Order.{is_wide, word_or_last, rank_of, rank_cmp};
+ghost use Rattle.dp_claims.specs.Enough.{Has};
+ghost use Rattle.dp_model.specs.Costs.{order_word};
+ghost use Rattle.state_layout.specs.declared.layout.Layout.{Layout};
+ghost use Rattle.state_layout.specs.declared.node.Node.{Node};
+ghost use Rattle.dom_store.specs.Order.{is_wide, word_or_last, rank_of, rank_cmp, HasWords};
+ghost use Rattle.dom_store.specs.Places.{nodes_of, node_at, AreGlanced};
 ghost use Rattle.dom_store.specs.Ranking.{is_there, ranked_at, ranks_of};
 
+use crate::covers::Covers;
+use crate::glance::Glance;
 use cost_laws::CostLaw;
 use state_layout::{Node, NodeBox};
 use std::alloc::{AllocError, Global};
@@ -19,28 +26,38 @@ pub(crate) struct Ranked {
     pub(crate) place: usize,
 }
 
-/// The places of nodes, sorted by the words of these, the lesser first. Places of the same words stay in their order.
-pub(crate) fn sorted_places<L: CostLaw>(
+/// The places of nodes, sorted by the words of these, the lesser first. Places of the same words stay in their order. The words
+/// are read from the glances, which stand side by side, where the law that `K` covers by gives the same ones.
+pub(crate) fn sorted_places<L: CostLaw, K: Covers>(
     alloc: Global,
     places: &[Option<NodeBox>],
+    glances: &[Glance],
 ) -> Result<Vec<Ranked>, AllocError>
+    requires words { (n : Node) → Has (nodes_of places.now) n → HasWords n }
+    requires glanced { (layout : Layout) × AreGlanced K.minimize K.operator layout places.now glances.now }
     ensures permutation { IfOk result (λ ranked. IsPermutation (ranks_of L.minimize L.operator places.now) ranked.items) }
     ensures sorted { IfOk result (λ ranked. IsSortedByKey (λ (r : Ranked). r.words) rank_cmp ranked.items) }
     ensures stable { IfOk result (λ ranked. IsStableByKey (λ (r : Ranked). r.words) rank_cmp (ranks_of L.minimize L.operator places.now) ranked.items) }
 {
-    let mut ranked = ranks::<L>(alloc, places)?;
+    let mut ranked = ranks::<L, K>(alloc, places, glances)?;
     ranked.sort_by_key(|ranked| ranked.words)?;
     Ok(ranked)
 }
 
 // the places of nodes in their order
-fn ranks<L: CostLaw>(alloc: Global, places: &[Option<NodeBox>]) -> Result<Vec<Ranked>, AllocError>
+fn ranks<L: CostLaw, K: Covers>(
+    alloc: Global,
+    places: &[Option<NodeBox>],
+    glances: &[Glance],
+) -> Result<Vec<Ranked>, AllocError>
+    requires words { (n : Node) → Has (nodes_of places.now) n → HasWords n }
+    requires glanced { (layout : Layout) × AreGlanced K.minimize K.operator layout places.now glances.now }
     ensures { IfOk result (λ ranked. ranked.items ≡ ranks_of L.minimize L.operator places.now) }
 {
     let mut ranked = Vec::with_capacity(alloc, places.len())?;
     for place in 0..places.len() {
         if is_there(&places[place]) {
-            ranked.push(ranked_at::<L>(places, place))?;
+            ranked.push(ranked_at::<L, K>(places, glances, place))?;
         }
     }
     Ok(ranked)
@@ -55,14 +72,48 @@ fn is_there(place: &Option<NodeBox>) -> bool
     }
 }
 
-fn ranked_at<L: CostLaw>(places: &[Option<NodeBox>], place: usize) -> Ranked
-    requires { place < length places.now }
+fn ranked_at<L: CostLaw, K: Covers>(
+    places: &[Option<NodeBox>],
+    glances: &[Glance],
+    place: usize,
+) -> Ranked
+    requires within { place < length places.now }
+    requires there { is_there (node_at places.now place) ≡ true }
+    requires words { (n : Node) → Has (nodes_of places.now) n → HasWords n }
+    requires glanced { (layout : Layout) × AreGlanced K.minimize K.operator layout places.now glances.now }
     ensures { result ≡ ranked_at L.minimize L.operator places.now place }
 {
     Ranked {
-        words: rank::<L>(&places[place]),
+        words: words_at::<L, K>(places, glances, place),
         place,
     }
+}
+
+// the words of the node that stands at a place
+#[inline]
+fn words_at<L: CostLaw, K: Covers>(
+    places: &[Option<NodeBox>],
+    glances: &[Glance],
+    place: usize,
+) -> (u64, u64)
+    requires within { place < length places.now }
+    requires there { is_there (node_at places.now place) ≡ true }
+    requires words { (n : Node) → Has (nodes_of places.now) n → HasWords n }
+    requires glanced { (layout : Layout) × AreGlanced K.minimize K.operator layout places.now glances.now }
+    ensures { result ≡ rank_of L.minimize L.operator (node_at places.now place) }
+{
+    match glances.get(place) {
+        Some(glance) if has_same_words::<L, K>() => (glance.first, glance.word),
+        _ => rank::<L>(&places[place]),
+    }
+}
+
+// whether two laws give each cost so far the same word, as these two tell; the machine's code has the answer and not the question
+#[inline]
+fn has_same_words<L: CostLaw, K: Covers>() -> bool
+    ensures { result ≡ true → (cost : Option ℤ) → order_word K.minimize K.operator cost ≡ order_word L.minimize L.operator cost }
+{
+    L::word(None) == K::word(None) && L::word(Some(1)) == K::word(Some(1))
 }
 
 fn rank<L: CostLaw>(place: &Option<NodeBox>) -> (u64, u64)

@@ -126,7 +126,7 @@ impl<K: Covers> DomStore<K> {
         ensures covered { (m : DpModel) → IsLayoutOf m self.old.layout → IsLawOf m K.minimize K.operator → (n : Node) → IsCovered m K.prune self.old.nodes n → IfOk result (λ taken. IsCovered m K.prune (taken.kept ++ taken.dropped) n) }
         ensures apart { (m : DpModel) → IsLayoutOf m self.old.layout → IsLawOf m K.minimize K.operator → IfOk result (λ taken. Apart m K.prune (taken.kept ++ taken.dropped)) }
     {
-        let taken = take_nodes::<L>(alloc, &mut self.places, self.count, share)?;
+        let taken = take_nodes::<L, K>(alloc, &mut self.places, &self.glances, self.count, share)?;
         self.chains.clear();
         self.stairs.end();
         self.glances.clear();

@@ -4,13 +4,16 @@ ghost use Rattle.std.specs.Prelude.{◌≡◌, ℕ, ◌+◌, ◌-◌, ◌<◌, �
 ghost use Rattle.std.specs.List.{All, IsDistinct};
 ghost use Rattle.dp_claims.specs.Enough.{Has};
 ghost use Rattle.cost_laws.specs.Orders.{InWideRange};
+ghost use Rattle.state_layout.specs.declared.layout.Layout.{Layout};
 ghost use Rattle.state_layout.specs.declared.node.Node.{Node};
 ghost use Rattle.dom_store.specs.Contents.{AreApart};
-ghost use Rattle.dom_store.specs.Places.{nodes_of};
+ghost use Rattle.dom_store.specs.Places.{nodes_of, AreGlanced};
 ghost use Rattle.dom_store.specs.Order.{HasWords, IsOrdering, IsLeastFloor, better_floor};
 ghost use Rattle.dom_store.specs.Ranking.{ordered, same_place};
 ghost use Rattle.dom_store.specs.declared.order.Ranked.{Ranked};
 
+use crate::covers::Covers;
+use crate::glance::Glance;
 use crate::order::{Ranked, sorted_places};
 use cost_laws::CostLaw;
 use dp_base::Seq;
@@ -27,14 +30,16 @@ pub struct Taken {
 }
 
 /// Takes the nodes out of their places, in order. On an error the places are as they were.
-pub(crate) fn take_nodes<L: CostLaw>(
+pub(crate) fn take_nodes<L: CostLaw, K: Covers>(
     alloc: Global,
     places: &mut Vec<Option<NodeBox>>,
+    glances: &[Glance],
     count: usize,
     share: u64,
 ) -> Result<Taken, AllocError>
     requires count { count ≡ length (nodes_of places.old.items) }
     requires words { (n : Node) → Has (nodes_of places.old.items) n → HasWords n }
+    requires glanced { (layout : Layout) × AreGlanced K.minimize K.operator layout places.old.items glances.now }
     ensures order { IfOk result (λ taken. IsOrdering L.minimize L.operator (nodes_of places.old.items) (taken.kept ++ taken.dropped)) }
     ensures share { IfOk result (λ taken. length taken.kept ≡ min share (length (nodes_of places.old.items))) }
     ensures all { IfOk result (λ taken. length taken.kept + length taken.dropped ≡ length (nodes_of places.old.items)) }
@@ -46,7 +51,7 @@ pub(crate) fn take_nodes<L: CostLaw>(
     let kept_count = share.min(count as u64) as usize;
     let mut kept = Vec::with_capacity(alloc, kept_count)?;
     let mut dropped = Vec::with_capacity(alloc, count - kept_count)?;
-    let order = sorted_places::<L>(alloc, places)?;
+    let order = sorted_places::<L, K>(alloc, places, glances)?;
     share_out(places, &order, share, &mut kept, &mut dropped);
     places.clear();
     let least_floor = least_floor::<L>(&dropped);
