@@ -9,7 +9,7 @@ ghost use Rattle.dp_claims.specs.Enough.{Has};
 ghost use Rattle.dom_store.specs.Covering.{covers, key_of};
 ghost use Rattle.dom_store.specs.Glances.{IsGlanceOf};
 ghost use Rattle.dom_store.specs.Places.{nodes_of, passes, node_at, without, cleared, StandsAt, KeepsRows, AreFiled, AreGlanced};
-ghost use Rattle.dom_store.specs.Stairs.{AreSteps};
+ghost use Rattle.dom_store.specs.Stairs.{AreSteps, NoneCovers, NoneCovered};
 
 use crate::chains::Chains;
 use crate::covers::Covers;
@@ -191,11 +191,15 @@ fn clear_if<K: Covers>(
     requires covering { covering ≡ false → (p : ℕ) (n : Node) → StandsAt places.old.items p n → covers K.prune K.minimize K.operator layout.now node.now n ≡ false }
     requires key { key ≡ key_of K.prune layout.now node.now }
     requires steps { AreSteps K.prune K.minimize K.operator layout.now stairs.old.row stairs.old.steps places.old.items }
+    requires none_covers { stairs.old.row ≡ Some key → NoneCovers stairs.old.steps glance }
+    requires sought { stairs.old.row ≡ Some key → covering ≡ true }
     requires complete { (p : ℕ) (n : Node) → StandsAt places.old.items p n → covers K.prune K.minimize K.operator layout.now node.now n ≡ true → Has (chain_from chains.old.older.items (older_at chains.old.older.items place)) p }
     ensures places { places.new.items ≡ fold (cleared (λ (held : Node). covers K.prune K.minimize K.operator layout.now node.now held)) places.old.items (chain_from chains.old.older.items (older_at chains.old.older.items place)) }
     ensures counted { length (nodes_of places.new.items) + result ≡ length (nodes_of places.old.items) }
     ensures rows { KeepsRows (row_in chains.old.heads.items chains.old.older.items chains.old.keys.items) (row_in chains.new.heads.items chains.new.older.items chains.new.keys.items) place places.new.items }
     ensures steps { AreSteps K.prune K.minimize K.operator layout.now stairs.new.row stairs.new.steps places.new.items }
+    ensures none_covers { stairs.new.row ≡ Some key → NoneCovers stairs.new.steps glance }
+    ensures none_covered { stairs.new.row ≡ Some key → NoneCovered stairs.new.steps glance }
     ensures links { length chains.new.older.items ≡ length chains.old.older.items }
 {
     if !covering {
@@ -225,11 +229,14 @@ fn clear_row<K: Covers>(
     requires glance { IsGlanceOf K.minimize K.operator layout.now node.now glance }
     requires key { key ≡ key_of K.prune layout.now node.now }
     requires steps { AreSteps K.prune K.minimize K.operator layout.now stairs.old.row stairs.old.steps places.old.items }
+    requires none_covers { stairs.old.row ≡ Some key → NoneCovers stairs.old.steps glance }
     requires complete { (p : ℕ) (n : Node) → StandsAt places.old.items p n → covers K.prune K.minimize K.operator layout.now node.now n ≡ true → Has (chain_from chains.old.older.items (older_at chains.old.older.items place)) p }
     ensures places { places.new.items ≡ fold (cleared (λ (held : Node). covers K.prune K.minimize K.operator layout.now node.now held)) places.old.items (chain_from chains.old.older.items (older_at chains.old.older.items place)) }
     ensures counted { length (nodes_of places.new.items) + result ≡ length (nodes_of places.old.items) }
     ensures rows { KeepsRows (row_in chains.old.heads.items chains.old.older.items chains.old.keys.items) (row_in chains.new.heads.items chains.new.older.items chains.new.keys.items) place places.new.items }
     ensures steps { AreSteps K.prune K.minimize K.operator layout.now stairs.new.row stairs.new.steps places.new.items }
+    ensures none_covers { stairs.new.row ≡ Some key → NoneCovers stairs.new.steps glance }
+    ensures none_covered { stairs.new.row ≡ Some key → NoneCovered stairs.new.steps glance }
     ensures links { length chains.new.older.items ≡ length chains.old.older.items }
 {
     let gone = clear_steps::<K>(layout, stairs, places, glances, node, key, glance);
@@ -256,10 +263,13 @@ fn clear_steps<K: Covers>(
     requires glance { IsGlanceOf K.minimize K.operator layout.now node.now glance }
     requires key { key ≡ key_of K.prune layout.now node.now }
     requires steps { AreSteps K.prune K.minimize K.operator layout.now stairs.old.row stairs.old.steps places.old.items }
+    requires none_covers { stairs.old.row ≡ Some key → NoneCovers stairs.old.steps glance }
     ensures same { map (without (λ (held : Node). covers K.prune K.minimize K.operator layout.now node.now held)) places.new.items ≡ map (without (λ (held : Node). covers K.prune K.minimize K.operator layout.now node.now held)) places.old.items }
     ensures none { stairs.new.row ≡ Some key → (p : ℕ) (n : Node) → StandsAt places.new.items p n → covers K.prune K.minimize K.operator layout.now node.now n ≡ false }
     ensures nodes { (p : ℕ) (n : Node) → StandsAt places.new.items p n → StandsAt places.old.items p n }
     ensures steps { AreSteps K.prune K.minimize K.operator layout.now stairs.new.row stairs.new.steps places.new.items }
+    ensures none_covers { stairs.new.row ≡ Some key → NoneCovers stairs.new.steps glance }
+    ensures none_covered { stairs.new.row ≡ Some key → NoneCovered stairs.new.steps glance }
     ensures counted { length (nodes_of places.new.items) + result ≡ length (nodes_of places.old.items) }
 {
     let mut gone = 0;
@@ -350,6 +360,8 @@ pub(crate) fn put_node<K: Covers>(
     requires covering { covering ≡ false → (p : ℕ) (n : Node) → StandsAt places.old.items p n → covers K.prune K.minimize K.operator layout.now node n ≡ false }
     requires key { key ≡ key_of K.prune layout.now node }
     requires steps { AreSteps K.prune K.minimize K.operator layout.now stairs.old.row stairs.old.steps places.old.items }
+    requires none_covers { stairs.old.row ≡ Some key → NoneCovers stairs.old.steps glance }
+    requires sought { stairs.old.row ≡ Some key → covering ≡ true }
     requires complete { (p : ℕ) (n : Node) → StandsAt places.old.items p n → covers K.prune K.minimize K.operator layout.now node n ≡ true → Has (chain_from chains.old.older.items (older_at chains.old.older.items place)) p }
     ensures places { places.new.items ≡ slice_set (fold (cleared (λ (held : Node). covers K.prune K.minimize K.operator layout.now node held)) places.old.items (chain_from chains.old.older.items (older_at chains.old.older.items place))) place (Some node) }
     ensures counted { length (nodes_of places.new.items) + result ≡ length (nodes_of places.old.items) + 1 }
