@@ -13,7 +13,7 @@ ghost use Rattle.dom_store.specs.Stairs.{AreSteps, NoneCovers, NoneCovered};
 
 use crate::chains::Chains;
 use crate::covers::Covers;
-use crate::glance::{Glance, may_be_covered_at, may_cover_at};
+use crate::glance::{Glance, is_apart_at, may_be_covered_at, may_cover_at};
 use crate::stairs::Stairs;
 use state_layout::{Layout, Node, NodeBox};
 
@@ -41,12 +41,11 @@ pub(crate) fn covers_in_chain<K: Covers>(
     let mut found = false;
     let mut next = newest;
     while let Some(place) = next {
-        if covers_there::<K>(layout, chains, places, glances, place, node, key, glance) {
-            return None;
-        }
-        let is_covered = is_covered_there::<K>(
+        let Some(is_covered) = covers_there::<K>(
             layout, chains, places, glances, place, node, key, glance,
-        );
+        ) else {
+            return None;
+        };
         found = either(found, is_covered);
         next = chains.older(place);
     }
@@ -59,8 +58,9 @@ fn either(a: bool, b: bool) -> bool
     a || b
 }
 
-// whether the node at a place covers the node with this key and this glance: one of another key does not
-#[inline]
+// whether the node with this key and this glance covers the one at a place, and `None` where that one covers it; neither does where
+// the keys are two, or the glances show it
+#[inline(always)]
 fn covers_there<K: Covers>(
     layout: &Layout,
     chains: &Chains,
@@ -70,43 +70,26 @@ fn covers_there<K: Covers>(
     node: &Node,
     key: u64,
     glance: Glance,
-) -> bool
+) -> Option<bool>
     requires node { IsNodeFor layout.now node.now }
     requires filed { AreFiled (key_of K.prune layout.now) layout.now (row_in chains.now.heads.items chains.now.older.items chains.now.keys.items) places.now }
     requires key { key ≡ key_of K.prune layout.now node.now }
     requires glanced { AreGlanced K.minimize K.operator layout.now places.now glances.now }
     requires glance { IsGlanceOf K.minimize K.operator layout.now node.now glance }
-    ensures { result ≡ passes (λ (held : Node). covers K.prune K.minimize K.operator layout.now held node.now) (node_at places.now place) }
+    ensures none { IfNone result (passes (λ (held : Node). covers K.prune K.minimize K.operator layout.now held node.now) (node_at places.now place) ≡ true) }
+    ensures free { IfSome result (λ covering. passes (λ (held : Node). covers K.prune K.minimize K.operator layout.now held node.now) (node_at places.now place) ≡ false) }
+    ensures covers { IfSome result (λ covering. covering ≡ passes (λ (held : Node). covers K.prune K.minimize K.operator layout.now node.now held) (node_at places.now place)) }
 {
     if !chains.has(place, key) {
-        return false;
+        return Some(false);
     }
-    covers_at::<K>(layout, places, glances, place, node, glance)
-}
-
-// whether the node with this key and this glance covers the one at a place: it covers none of another key
-#[inline]
-fn is_covered_there<K: Covers>(
-    layout: &Layout,
-    chains: &Chains,
-    places: &[Option<NodeBox>],
-    glances: &[Glance],
-    place: usize,
-    node: &Node,
-    key: u64,
-    glance: Glance,
-) -> bool
-    requires node { IsNodeFor layout.now node.now }
-    requires filed { AreFiled (key_of K.prune layout.now) layout.now (row_in chains.now.heads.items chains.now.older.items chains.now.keys.items) places.now }
-    requires key { key ≡ key_of K.prune layout.now node.now }
-    requires glanced { AreGlanced K.minimize K.operator layout.now places.now glances.now }
-    requires glance { IsGlanceOf K.minimize K.operator layout.now node.now glance }
-    ensures { result ≡ passes (λ (held : Node). covers K.prune K.minimize K.operator layout.now node.now held) (node_at places.now place) }
-{
-    if !chains.has(place, key) {
-        return false;
+    if is_apart_at(glances, place, &glance) {
+        return Some(false);
     }
-    is_covered_at::<K>(layout, places, glances, place, node, glance)
+    if covers_at::<K>(layout, places, glances, place, node, glance) {
+        return None;
+    }
+    Some(is_covered_at::<K>(layout, places, glances, place, node, glance))
 }
 
 /// Whether the node at a place covers the node with this glance.
@@ -285,6 +268,7 @@ fn clear_steps<K: Covers>(
 }
 
 // whether a node was there that the node covers; it is gone then
+#[inline(always)]
 fn clear_at<K: Covers>(
     layout: &Layout,
     places: &mut Vec<Option<NodeBox>>,
