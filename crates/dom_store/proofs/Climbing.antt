@@ -91,7 +91,7 @@ module _ (steps new : BTreeMap ℕ Step) (word : ℕ) (left : Updates nat_cmp st
   pub left_has : (w : ℕ) (s : Step) → get nat_cmp steps w ≡ Some s → (word ≡ w → ⊥) → get nat_cmp new w ≡ Some s
   left_has w s at apart = left.2 w (not_at word w apart) ∙ at
 
-  left_was : (w : ℕ) (s : Step) → get nat_cmp new w ≡ Some s → get nat_cmp steps w ≡ Some s
+  pub left_was : (w : ℕ) (s : Step) → get nat_cmp new w ≡ Some s → get nat_cmp steps w ≡ Some s
   left_was w s at = sym (left.2 w (not_at word w apart)) ∙ at
     where
       apart : word ≡ w → ⊥

@@ -83,6 +83,7 @@ impl Chains {
     }
 
     // the same where there is room
+    #[inline(always)]
     fn push_within(&mut self, key: u64)
         requires buckets { 0 < length self.old.heads.items }
         requires older { vec_len self.old.older < vec_capacity self.old.older }

@@ -1,7 +1,7 @@
 //! What shows at a glance of nodes: that one of them can't cover another. Glances stand side by side, so that a row is gone over
 //! without a look at its nodes. No call takes memory.
 
-ghost use Rattle.std.specs.Prelude.{◌≡◌, Bool};
+ghost use Rattle.std.specs.Prelude.{◌≡◌, Bool, true, false};
 ghost use Rattle.dp_model.specs.declared.parts.JoinOp.{JoinOp};
 ghost use Rattle.state_layout.specs.Conditions.{IsNodeFor};
 ghost use Rattle.dom_store.specs.Glances.{IsGlanceOf, may_cover, may_cover_at, may_be_covered_at};
@@ -54,5 +54,24 @@ pub(crate) fn may_be_covered_at(glances: &[Glance], place: usize, glance: Glance
     match glances.get(place) {
         Some(held) => may_cover(glance, *held),
         None => false,
+    }
+}
+
+// whether one glance has the lesser word and the lesser merit, so that of nodes with the two neither may cover the other
+fn is_less(glance: &Glance, other: &Glance) -> bool
+    ensures left { result ≡ true → may_cover glance.now other.now ≡ false }
+    ensures right { result ≡ true → may_cover other.now glance.now ≡ false }
+{
+    glance.word < other.word && glance.merit < other.merit
+}
+
+/// Whether it shows that neither of the node at a place and one with this glance covers the other.
+pub(crate) fn is_apart_at(glances: &[Glance], place: usize, glance: &Glance) -> bool
+    ensures held { result ≡ true → may_cover_at glances.now place glance.now ≡ false }
+    ensures other { result ≡ true → may_be_covered_at glances.now place glance.now ≡ false }
+{
+    match glances.get(place) {
+        Some(held) => is_less(held, glance) || is_less(glance, held),
+        None => true,
     }
 }

@@ -1,6 +1,6 @@
 //! A node is added to the places of a store.
 
-ghost use Rattle.std.specs.Prelude.{◌≡◌, ℕ, ◌<◌, ◌+◌, ◌++◌, ◌∷◌, [], true, false, length, vec_len, vec_capacity, if◌then◌else◌, None, IfNone, IfSome, IfOk, OnOk, IfErr, OnErr};
+ghost use Rattle.std.specs.Prelude.{◌≡◌, ℕ, ◌<◌, ◌+◌, ◌++◌, ◌∷◌, [], true, false, length, vec_len, vec_capacity, if◌then◌else◌, Some, None, IfNone, IfSome, IfOk, OnOk, IfErr, OnErr};
 ghost use Rattle.dp_claims.specs.Enough.{Has};
 ghost use Rattle.state_layout.specs.Conditions.{IsNodeFor};
 ghost use Rattle.state_layout.specs.declared.node.Node.{Node};
@@ -9,7 +9,7 @@ ghost use Rattle.dom_store.specs.Covering.{covers, key_of};
 ghost use Rattle.dom_store.specs.Glances.{IsGlanceOf};
 ghost use Rattle.dom_store.specs.Contents.{is_covered, with_node};
 ghost use Rattle.dom_store.specs.Places.{nodes_of, StandsAt, AreFiled, AreGlanced, IsKept};
-ghost use Rattle.dom_store.specs.Stairs.{AreSteps};
+ghost use Rattle.dom_store.specs.Stairs.{AreSteps, NoneCovers};
 
 use crate::chains::Chains;
 use crate::covers::Covers;
@@ -90,11 +90,12 @@ fn covers_held<K: Covers>(
     covers_in_chain::<K>(layout, chains, places, glances, newest, node, key, glance)
 }
 
-// the same, by the steps of the row of the key where it has them
+// the same, by the steps of the row of the key where it has them; where a step shows that it may cover the node and its node does not,
+// no row has steps any more
 fn covers_by_steps<K: Covers>(
     layout: &Layout,
     chains: &Chains,
-    stairs: &Stairs,
+    stairs: &mut Stairs,
     places: &[Option<NodeBox>],
     glances: &[Glance],
     node: &Node,
@@ -104,12 +105,15 @@ fn covers_by_steps<K: Covers>(
     requires node { IsNodeFor layout.now node.now }
     requires filed { AreFiled (key_of K.prune layout.now) layout.now (row_in chains.now.heads.items chains.now.older.items chains.now.keys.items) places.now }
     requires glanced { AreGlanced K.minimize K.operator layout.now places.now glances.now }
-    requires steps { AreSteps K.prune K.minimize K.operator layout.now stairs.now.row stairs.now.steps places.now }
+    requires steps { AreSteps K.prune K.minimize K.operator layout.now stairs.old.row stairs.old.steps places.now }
     requires key { key ≡ key_of K.prune layout.now node.now }
     requires glance { IsGlanceOf K.minimize K.operator layout.now node.now glance }
     ensures none { IfNone result (is_covered (covers K.prune K.minimize K.operator layout.now) (nodes_of places.now) node.now ≡ true) }
     ensures free { IfSome result (λ covering. is_covered (covers K.prune K.minimize K.operator layout.now) (nodes_of places.now) node.now ≡ false) }
     ensures covering { IfSome result (λ covering. covering ≡ false → (p : ℕ) (n : Node) → StandsAt places.now p n → covers K.prune K.minimize K.operator layout.now node.now n ≡ false) }
+    ensures steps { AreSteps K.prune K.minimize K.operator layout.now stairs.new.row stairs.new.steps places.now }
+    ensures none_covers { IfSome result (λ covering. stairs.new.row ≡ Some key → NoneCovers stairs.new.steps glance) }
+    ensures sought { IfSome result (λ covering. stairs.new.row ≡ Some key → covering ≡ true) }
 {
     if !stairs.is_of(key) {
         return covers_held::<K>(layout, chains, places, glances, node, key, glance);
@@ -120,6 +124,7 @@ fn covers_by_steps<K: Covers>(
     if covers_at::<K>(layout, places, glances, place, node, glance) {
         return None;
     }
+    stairs.end();
     covers_held::<K>(layout, chains, places, glances, node, key, glance)
 }
 
@@ -145,6 +150,8 @@ fn keep_node<K: Covers>(
     requires linked { length chains.old.older.items ≡ length places.old.items }
     requires steps { AreSteps K.prune K.minimize K.operator layout.now stairs.old.row stairs.old.steps places.old.items }
     requires covering { covering ≡ false → (p : ℕ) (n : Node) → StandsAt places.old.items p n → covers K.prune K.minimize K.operator layout.now node n ≡ false }
+    requires none_covers { stairs.old.row ≡ Some key → NoneCovers stairs.old.steps glance }
+    requires sought { stairs.old.row ≡ Some key → covering ≡ true }
     ensures nodes { OnOk result (nodes_of places.new.items ≡ with_node (covers K.prune K.minimize K.operator layout.now) (nodes_of places.old.items) node) }
     ensures counted { IfOk result (λ gone. length (nodes_of places.new.items) + gone ≡ length (nodes_of places.old.items) + 1) }
     ensures err { IfErr result (λ back. (back ≡ node) × (places.new.items ≡ places.old.items)) }

@@ -9,11 +9,11 @@ ghost use Rattle.dp_claims.specs.Enough.{Has};
 ghost use Rattle.dom_store.specs.Covering.{covers, key_of};
 ghost use Rattle.dom_store.specs.Glances.{IsGlanceOf};
 ghost use Rattle.dom_store.specs.Places.{nodes_of, passes, node_at, without, cleared, StandsAt, KeepsRows, AreFiled, AreGlanced};
-ghost use Rattle.dom_store.specs.Stairs.{AreSteps};
+ghost use Rattle.dom_store.specs.Stairs.{AreSteps, NoneCovers, NoneCovered};
 
 use crate::chains::Chains;
 use crate::covers::Covers;
-use crate::glance::{Glance, may_be_covered_at, may_cover_at};
+use crate::glance::{Glance, is_apart_at, may_be_covered_at, may_cover_at};
 use crate::spares::clear_place;
 use crate::stairs::Stairs;
 use state_layout::{Layout, Node, NodeBox};
@@ -42,12 +42,11 @@ pub(crate) fn covers_in_chain<K: Covers>(
     let mut found = false;
     let mut next = newest;
     while let Some(place) = next {
-        if covers_there::<K>(layout, chains, places, glances, place, node, key, glance) {
-            return None;
-        }
-        let is_covered = is_covered_there::<K>(
+        let Some(is_covered) = covers_there::<K>(
             layout, chains, places, glances, place, node, key, glance,
-        );
+        ) else {
+            return None;
+        };
         found = either(found, is_covered);
         next = chains.older(place);
     }
@@ -60,8 +59,9 @@ fn either(a: bool, b: bool) -> bool
     a || b
 }
 
-// whether the node at a place covers the node with this key and this glance: one of another key does not
-#[inline]
+// whether the node with this key and this glance covers the one at a place, and `None` where that one covers it; neither does where
+// the keys are two, or the glances show it
+#[inline(always)]
 fn covers_there<K: Covers>(
     layout: &Layout,
     chains: &Chains,
@@ -71,43 +71,26 @@ fn covers_there<K: Covers>(
     node: &Node,
     key: u64,
     glance: Glance,
-) -> bool
+) -> Option<bool>
     requires node { IsNodeFor layout.now node.now }
     requires filed { AreFiled (key_of K.prune layout.now) layout.now (row_in chains.now.heads.items chains.now.older.items chains.now.keys.items) places.now }
     requires key { key ≡ key_of K.prune layout.now node.now }
     requires glanced { AreGlanced K.minimize K.operator layout.now places.now glances.now }
     requires glance { IsGlanceOf K.minimize K.operator layout.now node.now glance }
-    ensures { result ≡ passes (λ (held : Node). covers K.prune K.minimize K.operator layout.now held node.now) (node_at places.now place) }
+    ensures none { IfNone result (passes (λ (held : Node). covers K.prune K.minimize K.operator layout.now held node.now) (node_at places.now place) ≡ true) }
+    ensures free { IfSome result (λ covering. passes (λ (held : Node). covers K.prune K.minimize K.operator layout.now held node.now) (node_at places.now place) ≡ false) }
+    ensures covers { IfSome result (λ covering. covering ≡ passes (λ (held : Node). covers K.prune K.minimize K.operator layout.now node.now held) (node_at places.now place)) }
 {
     if !chains.has(place, key) {
-        return false;
+        return Some(false);
     }
-    covers_at::<K>(layout, places, glances, place, node, glance)
-}
-
-// whether the node with this key and this glance covers the one at a place: it covers none of another key
-#[inline]
-fn is_covered_there<K: Covers>(
-    layout: &Layout,
-    chains: &Chains,
-    places: &[Option<NodeBox>],
-    glances: &[Glance],
-    place: usize,
-    node: &Node,
-    key: u64,
-    glance: Glance,
-) -> bool
-    requires node { IsNodeFor layout.now node.now }
-    requires filed { AreFiled (key_of K.prune layout.now) layout.now (row_in chains.now.heads.items chains.now.older.items chains.now.keys.items) places.now }
-    requires key { key ≡ key_of K.prune layout.now node.now }
-    requires glanced { AreGlanced K.minimize K.operator layout.now places.now glances.now }
-    requires glance { IsGlanceOf K.minimize K.operator layout.now node.now glance }
-    ensures { result ≡ passes (λ (held : Node). covers K.prune K.minimize K.operator layout.now node.now held) (node_at places.now place) }
-{
-    if !chains.has(place, key) {
-        return false;
+    if is_apart_at(glances, place, &glance) {
+        return Some(false);
     }
-    is_covered_at::<K>(layout, places, glances, place, node, glance)
+    if covers_at::<K>(layout, places, glances, place, node, glance) {
+        return None;
+    }
+    Some(is_covered_at::<K>(layout, places, glances, place, node, glance))
 }
 
 /// Whether the node at a place covers the node with this glance.
@@ -194,11 +177,15 @@ fn clear_if<K: Covers>(
     requires covering { covering ≡ false → (p : ℕ) (n : Node) → StandsAt places.old.items p n → covers K.prune K.minimize K.operator layout.now node.now n ≡ false }
     requires key { key ≡ key_of K.prune layout.now node.now }
     requires steps { AreSteps K.prune K.minimize K.operator layout.now stairs.old.row stairs.old.steps places.old.items }
+    requires none_covers { stairs.old.row ≡ Some key → NoneCovers stairs.old.steps glance }
+    requires sought { stairs.old.row ≡ Some key → covering ≡ true }
     requires complete { (p : ℕ) (n : Node) → StandsAt places.old.items p n → covers K.prune K.minimize K.operator layout.now node.now n ≡ true → Has (chain_from chains.old.older.items (older_at chains.old.older.items place)) p }
     ensures places { places.new.items ≡ fold (cleared (λ (held : Node). covers K.prune K.minimize K.operator layout.now node.now held)) places.old.items (chain_from chains.old.older.items (older_at chains.old.older.items place)) }
     ensures counted { length (nodes_of places.new.items) + result ≡ length (nodes_of places.old.items) }
     ensures rows { KeepsRows (row_in chains.old.heads.items chains.old.older.items chains.old.keys.items) (row_in chains.new.heads.items chains.new.older.items chains.new.keys.items) place places.new.items }
     ensures steps { AreSteps K.prune K.minimize K.operator layout.now stairs.new.row stairs.new.steps places.new.items }
+    ensures none_covers { stairs.new.row ≡ Some key → NoneCovers stairs.new.steps glance }
+    ensures none_covered { stairs.new.row ≡ Some key → NoneCovered stairs.new.steps glance }
     ensures links { length chains.new.older.items ≡ length chains.old.older.items }
 {
     if !covering {
@@ -229,11 +216,14 @@ fn clear_row<K: Covers>(
     requires glance { IsGlanceOf K.minimize K.operator layout.now node.now glance }
     requires key { key ≡ key_of K.prune layout.now node.now }
     requires steps { AreSteps K.prune K.minimize K.operator layout.now stairs.old.row stairs.old.steps places.old.items }
+    requires none_covers { stairs.old.row ≡ Some key → NoneCovers stairs.old.steps glance }
     requires complete { (p : ℕ) (n : Node) → StandsAt places.old.items p n → covers K.prune K.minimize K.operator layout.now node.now n ≡ true → Has (chain_from chains.old.older.items (older_at chains.old.older.items place)) p }
     ensures places { places.new.items ≡ fold (cleared (λ (held : Node). covers K.prune K.minimize K.operator layout.now node.now held)) places.old.items (chain_from chains.old.older.items (older_at chains.old.older.items place)) }
     ensures counted { length (nodes_of places.new.items) + result ≡ length (nodes_of places.old.items) }
     ensures rows { KeepsRows (row_in chains.old.heads.items chains.old.older.items chains.old.keys.items) (row_in chains.new.heads.items chains.new.older.items chains.new.keys.items) place places.new.items }
     ensures steps { AreSteps K.prune K.minimize K.operator layout.now stairs.new.row stairs.new.steps places.new.items }
+    ensures none_covers { stairs.new.row ≡ Some key → NoneCovers stairs.new.steps glance }
+    ensures none_covered { stairs.new.row ≡ Some key → NoneCovered stairs.new.steps glance }
     ensures links { length chains.new.older.items ≡ length chains.old.older.items }
 {
     let gone = clear_steps::<K>(layout, stairs, places, spare, glances, node, key, glance);
@@ -261,10 +251,13 @@ fn clear_steps<K: Covers>(
     requires glance { IsGlanceOf K.minimize K.operator layout.now node.now glance }
     requires key { key ≡ key_of K.prune layout.now node.now }
     requires steps { AreSteps K.prune K.minimize K.operator layout.now stairs.old.row stairs.old.steps places.old.items }
+    requires none_covers { stairs.old.row ≡ Some key → NoneCovers stairs.old.steps glance }
     ensures same { map (without (λ (held : Node). covers K.prune K.minimize K.operator layout.now node.now held)) places.new.items ≡ map (without (λ (held : Node). covers K.prune K.minimize K.operator layout.now node.now held)) places.old.items }
     ensures none { stairs.new.row ≡ Some key → (p : ℕ) (n : Node) → StandsAt places.new.items p n → covers K.prune K.minimize K.operator layout.now node.now n ≡ false }
     ensures nodes { (p : ℕ) (n : Node) → StandsAt places.new.items p n → StandsAt places.old.items p n }
     ensures steps { AreSteps K.prune K.minimize K.operator layout.now stairs.new.row stairs.new.steps places.new.items }
+    ensures none_covers { stairs.new.row ≡ Some key → NoneCovers stairs.new.steps glance }
+    ensures none_covered { stairs.new.row ≡ Some key → NoneCovered stairs.new.steps glance }
     ensures counted { length (nodes_of places.new.items) + result ≡ length (nodes_of places.old.items) }
 {
     let mut gone = 0;
@@ -280,6 +273,7 @@ fn clear_steps<K: Covers>(
 }
 
 // whether a node was there that the node covers; it is gone then
+#[inline(always)]
 fn clear_at<K: Covers>(
     layout: &Layout,
     places: &mut Vec<Option<NodeBox>>,
@@ -357,6 +351,8 @@ pub(crate) fn put_node<K: Covers>(
     requires covering { covering ≡ false → (p : ℕ) (n : Node) → StandsAt places.old.items p n → covers K.prune K.minimize K.operator layout.now node n ≡ false }
     requires key { key ≡ key_of K.prune layout.now node }
     requires steps { AreSteps K.prune K.minimize K.operator layout.now stairs.old.row stairs.old.steps places.old.items }
+    requires none_covers { stairs.old.row ≡ Some key → NoneCovers stairs.old.steps glance }
+    requires sought { stairs.old.row ≡ Some key → covering ≡ true }
     requires complete { (p : ℕ) (n : Node) → StandsAt places.old.items p n → covers K.prune K.minimize K.operator layout.now node n ≡ true → Has (chain_from chains.old.older.items (older_at chains.old.older.items place)) p }
     ensures places { places.new.items ≡ slice_set (fold (cleared (λ (held : Node). covers K.prune K.minimize K.operator layout.now node held)) places.old.items (chain_from chains.old.older.items (older_at chains.old.older.items place))) place (Some node) }
     ensures counted { length (nodes_of places.new.items) + result ≡ length (nodes_of places.old.items) + 1 }

@@ -95,6 +95,7 @@ impl Stairs {
     pub(crate) fn remove(&mut self, word: u64)
         ensures row { self.new.row ≡ self.old.row }
         ensures others { (w : ℕ) (s : TheStep) → get nat_cmp self.old.steps w ≡ Some s → (word ≡ w → ⊥) → get nat_cmp self.new.steps w ≡ Some s }
+        ensures none { (w : ℕ) (s : TheStep) → get nat_cmp self.new.steps w ≡ Some s → get nat_cmp self.old.steps w ≡ Some s }
         ensures less { (s : TheStep) → get nat_cmp self.old.steps word ≡ Some s → btree_map_len self.new.steps + 1 ≡ btree_map_len self.old.steps }
     {
         let _ = self.steps.remove(&word);
@@ -102,6 +103,7 @@ impl Stairs {
 
     /// Puts a step in. It is not put in, and the answer is false, where it may cover another or another may cover it, or where memory
     /// ran out.
+    #[inline(never)]
     pub(crate) fn insert(&mut self, glance: Glance, place: usize) -> bool
         ensures row { self.new.row ≡ self.old.row }
         ensures has { result ≡ true → HasStep self.old.steps self.new.steps glance place }
@@ -112,6 +114,16 @@ impl Stairs {
         let None = self.first_covered(glance) else {
             return false;
         };
+        self.put(glance, place)
+    }
+
+    /// The same for a step that is known to cover none and to be covered by none. The answer is false where memory ran out.
+    fn put(&mut self, glance: Glance, place: usize) -> bool
+        requires covering { NoneCovers self.old.steps glance }
+        requires covered { NoneCovered self.old.steps glance }
+        ensures row { self.new.row ≡ self.old.row }
+        ensures has { result ≡ true → HasStep self.old.steps self.new.steps glance place }
+    {
         let step = Step {
             merit: glance.merit,
             place,
@@ -119,8 +131,11 @@ impl Stairs {
         self.steps.insert(glance.word, step).is_ok()
     }
 
-    /// Puts a step in where the row of this key has the steps. Where it can't be put in no row has steps any more.
+    /// Puts a step in where the row of this key has the steps, none of which may cover it or be covered by it. Where memory runs out
+    /// no row has steps any more.
     pub(crate) fn add(&mut self, key: u64, glance: Glance, place: usize)
+        requires covering { self.old.row ≡ Some key → NoneCovers self.old.steps glance }
+        requires covered { self.old.row ≡ Some key → NoneCovered self.old.steps glance }
         ensures row { (k : ℕ) → self.new.row ≡ Some k → self.old.row ≡ Some k }
         ensures has { self.new.row ≡ Some key → HasStep self.old.steps self.new.steps glance place }
         ensures others { (k : ℕ) → self.new.row ≡ Some k → (w : ℕ) (s : TheStep) → get nat_cmp self.old.steps w ≡ Some s → get nat_cmp self.new.steps w ≡ Some s }
@@ -128,7 +143,7 @@ impl Stairs {
         if !self.is_of(key) {
             return;
         }
-        if !self.insert(glance, place) {
+        if !self.put(glance, place) {
             self.end();
         }
     }

@@ -25,6 +25,9 @@ covers_by_steps-requires-clause-steps g c = rw c.deref.ensures.value c.requires.
 pub covers_by_steps-requires-clause-glanced : goal.covers_by_steps-requires-clause-glanced
 covers_by_steps-requires-clause-glanced g c = rw (c.deref.ensures.value, c.deref-2.ensures.value) c.requires.kept.glanced
 
+pub keep_node-requires-clause-steps : goal.keep_node-requires-clause-steps
+keep_node-requires-clause-steps g c = rw c.deref.ensures.value at c.covers_by_steps.ensures.steps
+
 pub keep_node-requires-clause-covering : goal.keep_node-requires-clause-covering
 keep_node-requires-clause-covering g c = λ none p n stands. rw c.get-seen.ensures at c.in-Some.ensures.covering none p n (subst (λ (ps : List (Option Node)). StandsAt ps p n) (sym c.deref.ensures.value) stands)
 

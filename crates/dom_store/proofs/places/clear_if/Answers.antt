@@ -1,4 +1,4 @@
-use Rattle.std.proofs.Common.{sym}
+use Rattle.std.proofs.Common.{◌≡◌, true, false, sym, ◌∙◌}
 use Rattle.state_layout.specs.declared.node.Node.{Node}
 use Rattle.dom_store.specs.Chains.{older_at, chain_from}
 use Rattle.dom_store.specs.Covering.{covers}
@@ -11,3 +11,6 @@ returns-then-not-covering-clause-places g c =
 
 pub returns-then-not-covering-clause-rows : goal.returns-then-not-covering-clause-rows
 returns-then-not-covering-clause-rows g c = λ key p n has at. has
+
+pub returns-then-not-covering-clause-none_covered : goal.returns-then-not-covering-clause-none_covered
+returns-then-not-covering-clause-none_covered g c = λ on. (let clash : false ≡ true = sym c.if-not-covering.true ∙ c.requires.sought on in absurd (cc))

@@ -34,3 +34,9 @@ returns-clause-steps g c =
 
 pub overflow_add-result : goal.overflow_add-result
 overflow_add-result g c = omega (arith, c.args.places.now.ok.0, c.args.places.now.ok.1, c.args.places.now.small, nodes_few c.args.places.now.items, c.clear_steps-gone.ensures.counted, c.clear_covered.ensures.counted)
+
+pub returns-clause-none_covers : goal.returns-clause-none_covers
+returns-clause-none_covers g c = λ on. absurd (c.is_of.ensures.no c.if-is_of.false on)
+
+pub returns-clause-none_covered : goal.returns-clause-none_covered
+returns-clause-none_covered g c = λ on. absurd (c.is_of.ensures.no c.if-is_of.false on)

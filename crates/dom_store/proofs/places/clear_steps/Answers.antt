@@ -21,6 +21,7 @@ loop-word-preserved g c = record {
   steps =
       step_gone g.K.Covers.prune g.K.Covers.minimize g.K.Covers.operator c.args.layout.now c.loop-word.stairs.row c.remove.new.self.row c.loop-word.stairs.steps c.remove.new.self.steps c.loop-word.places.items c.clear_at.new.places.items c.in-Some.word c.in-Some.step c.loop-word.invariant.steps
       c.remove.ensures.row c.in-Some.ensures.some c.remove.ensures.others c.clear_at.ensures.nodes (c.clear_at.ensures.gone c.if-not-clear_at.false);
+  none_covers = λ on w s at low. c.loop-word.invariant.none_covers (sym c.remove.ensures.row ∙ on) w s (c.remove.ensures.none w s at) low;
   counted = grind arith;
 }
 
@@ -52,3 +53,15 @@ returns-clause-nodes g c = c.loop-word.invariant.nodes
 
 pub returns-clause-steps : goal.returns-clause-steps
 returns-clause-steps g c = c.loop-word.invariant.steps
+
+pub returns-then-not-clear_at-clause-none_covers : goal.returns-then-not-clear_at-clause-none_covers
+returns-then-not-clear_at-clause-none_covers g c = λ on. (let clash : None ≡ Some c.args.key = sym c.end.ensures ∙ on in absurd (cc))
+
+pub returns-then-not-clear_at-clause-none_covered : goal.returns-then-not-clear_at-clause-none_covered
+returns-then-not-clear_at-clause-none_covered g c = λ on. (let clash : None ≡ Some c.args.key = sym c.end.ensures ∙ on in absurd (cc))
+
+pub returns-clause-none_covers : goal.returns-clause-none_covers
+returns-clause-none_covers g c = c.loop-word.invariant.none_covers
+
+pub returns-clause-none_covered : goal.returns-clause-none_covered
+returns-clause-none_covered g c = c.in_default.ensures.none
