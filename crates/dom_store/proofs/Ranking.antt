@@ -8,7 +8,7 @@ use Rattle.std.proofs.lemmas.Bool.Decides.{nat_tests}
 use Rattle.std.proofs.lemmas.List.{append-nil, get_or-map, length-map, get_or-set_other}
 use Rattle.std.proofs.lemmas.List.Elements.{All-filter, filter-append}
 use Rattle.std.proofs.lemmas.List.FromFn.{fill_by_all, map-range_with_len_more, get_or-map-range_with_len, length-map-range_with_len}
-use Rattle.std.proofs.lemmas.List.Sorted.{All-permutation, IsPermutation-map, IsPermutation-sym}
+use Rattle.std.proofs.lemmas.List.Sorted.{All-permutation, Contains-permutation, IsPermutation-map, IsPermutation-sym}
 use Rattle.std.proofs.lemmas.Map.Keys.{IsDistinct-IsPermutation, IsDistinct-from_apart, apart_from_distinct}
 use Rattle.std.proofs.lemmas.Option.{slice_get-get_or, slice_get_within, get_or_from_slice_get}
 use Rattle.dp_claims.specs.Enough.{Has}
@@ -17,9 +17,9 @@ use Rattle.state_layout.specs.declared.node.Node.{Node}
 use Rattle.dom_store.specs.Contents.{AreApart}
 use Rattle.dom_store.specs.Order.{HasWords, IsOrdering, rank_of, rank_cmp}
 use Rattle.dom_store.specs.Places.{nodes_of, node_at}
-use Rattle.dom_store.specs.Ranking.{is_there, ranked_at, ranks_to, ranks_of, ordered, same_place}
+use Rattle.dom_store.specs.Ranking.{is_there, ranked_at, ranks_to, ranks_of, ordered, same_place, HasRank}
 use Rattle.dom_store.specs.declared.order.Ranked.{Ranked}
-use Rattle.dom_store.proofs.Members.{has_more}
+use Rattle.dom_store.proofs.Members.{has_more, has_filtered}
 use Rattle.dom_store.proofs.Sorting.{ordering, moved_nodes, apart_moved, length_moved}
 
 -- a place that stands for any past the last
@@ -139,6 +139,24 @@ module _ (minimize : Bool) (operator : JoinOp) (places : List (Option Node)) whe
 
     moved_ordered : IsPermutation standing (ordered places order)
     moved_ordered = subst (λ (xs : List (Option Node)). IsPermutation xs (ordered places order)) stand_all (IsPermutation-map at ranks order moved)
+
+    -- each node has its rank
+    pub has_rank : (i : ℕ) (n : Node) → slice_get (nodes_of (ordered places order)) i ≡ Some n → HasRank minimize operator order i n
+    has_rank i n h = ranked_of order (λ r has. stands r has) (λ r has. all_has (λ (r : Ranked). r.words ≡ rank_of minimize operator (at r)) order r words_are has) i n h
+      where
+        stands : (r : Ranked) → Has order r → there r ≡ true
+        stands r has =
+            let c = Contains-permutation order ranks r (IsPermutation-sym ranks order moved) (has.0, slice_get_within order has.0 r has.1, get_or_from_slice_get order has.0 r r has.1) in
+            (has_filtered there all_ranks r (c.0, slice_get-get_or ranks c.0 r c.1 ∙ ap Some c.2)).1
+
+        ranked_of : (rs : List Ranked) → ((r : Ranked) → Has rs r → there r ≡ true) → ((r : Ranked) → Has rs r → r.words ≡ rank_of minimize operator (at r)) → (i : ℕ) (n : Node) → slice_get (nodes_of (map at rs)) i ≡ Some n → HasRank minimize operator rs i n
+        ranked_of [] stand words i n h = absurd (cc)
+        ranked_of (r ∷ rs) stand words i n h = by (at r) refl i h (λ j k. ranked_of rs (λ q has. stand q (has_more r rs q has)) (λ q has. words q (has_more r rs q has)) j n k)
+          where
+            by : (x : Option Node) → at r ≡ x → (j : ℕ) → slice_get (nodes_of (x ∷ map at rs)) j ≡ Some n → ((k : ℕ) → slice_get (nodes_of (map at rs)) k ≡ Some n → HasRank minimize operator rs k n) → HasRank minimize operator (r ∷ rs) j n
+            by None e j k rest = let t : is_there None ≡ true = ap is_there (sym e) ∙ stand r (0, refl) in absurd (cc)
+            by (Some m) e zero k rest = (r, refl, words r (0, refl) ∙ ap (rank_of minimize operator) (e ∙ k))
+            by (Some m) e (suc j) k rest = rest j k
 
     sorted_ordered : IsSortedByKey (λ (r : Ranked). r.words) rank_cmp order → IsSortedByKey (rank_of minimize operator) rank_cmp (ordered places order)
     sorted_ordered sorted k d low less =

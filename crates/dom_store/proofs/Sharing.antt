@@ -1,17 +1,22 @@
 -- Nodes are moved out of their places one by one, up to the share to one list and then to another.
-use Rattle.std.proofs.Common.{◌≡◌, ℕ, zero, suc, ◌+◌, ◌<◌, ◌≤◌, ◌⊎◌, inl, inr, List, [], ◌∷◌, ◌++◌, length, take, drop, min, Option, Some, None, refl, sym, ap, ◌∙◌, arith, length-take, length-append}
+use Rattle.std.proofs.Common.{◌≡◌, ℕ, zero, suc, ◌+◌, ◌<◌, ◌≤◌, ◌⊎◌, inl, inr, List, [], ◌∷◌, ◌++◌, length, take, drop, min, get_or, Option, Some, None, refl, sym, ap, ◌∙◌, subst, arith, length-take, length-append}
 use Rattle.std.specs.List.{slice_get}
-use Rattle.std.specs.Prelude.{ℤ, ◌≤ℤ◌, int_lt, IfSome, if◌then◌else◌}
-use Rattle.std.proofs.Math.Seq.{take-length}
-use Rattle.cost_laws.specs.Orders.{InWideRange}
+use Rattle.std.specs.Prelude.{ℤ, ◌≤ℤ◌, ◌<ℤ◌, is_some}
+use Rattle.std.specs.Ordering.{is_lt, int_cmp, ordering_then, MatchOrdering}
+use Rattle.std.specs.declared.cmp.Ordering.{Ordering}
+use Rattle.std.specs.declared.cmp.Ordering.TheVariants.{Less, Equal, Greater}
+use Rattle.std.proofs.lemmas.Cmp.{int_ranked}
 use Rattle.std.proofs.lemmas.Int.{ints}
 use Rattle.dp_claims.specs.Enough.{Has}
 use Rattle.dp_model.specs.Costs.{order_word}
 use Rattle.dp_model.specs.declared.parts.JoinOp.{JoinOp}
 use Rattle.state_layout.specs.declared.node.Node.{Node}
 use Rattle.dom_store.specs.Places.{nodes_of}
-use Rattle.dom_store.specs.Order.{better_floor, IsLeastFloor}
-use Rattle.dom_store.proofs.Members.{has_none, has_more, has_cases}
+use Rattle.dom_store.specs.Ranking.{HasRank}
+use Rattle.dom_store.specs.declared.order.Ranked.{Ranked}
+use Rattle.std.proofs.lemmas.Option.{slice_get_within, get_or_from_slice_get}
+use Rattle.dom_store.specs.Order.{first_word, second_word, AreInOrder, IsLeastFloor, rank_of}
+use Rattle.dom_store.proofs.Members.{has_more, has_cases}
 use Rattle.std.proofs.Common.{Bool, true, false}
 
 -- ---- the nodes of the first places
@@ -80,63 +85,89 @@ shared_more share ns n kept kept' dropped dropped' is_kept is_dropped first beyo
         let t = take_more share ns n (omega (arith, few)) in
         (r.0 ∙ is_kept ∙ sym t.0, r.1 ∙ ap (λ (xs : List Node). xs ++ n ∷ []) is_dropped ∙ sym t.1)
 
--- ---- the best floor of the first nodes
+-- ---- a node that is dropped
 
-abbrev pub IsBelow : Bool → JoinOp → List Node → ℤ → Type 0
-IsBelow minimize operator nodes least = (n : Node) → Has nodes n → (f : ℤ) × (n.floor ≡ Some f) × (order_word minimize operator (Some least) ≤ℤ order_word minimize operator (Some f))
+pub dropped_at : (share : ℕ) (xs : List Node) (i : ℕ) (n : Node) → slice_get (drop share xs) i ≡ Some n → slice_get xs (length (take share xs) + i) ≡ Some n
+dropped_at zero xs i n h = ap (slice_get xs) (omega arith) ∙ h
+dropped_at (suc share) [] i n h = absurd (cc)
+dropped_at (suc share) (x ∷ xs) i n h =
+    let same : length (take (suc share) (x ∷ xs)) + i ≡ suc (length (take share xs) + i) = omega arith in
+    ap (slice_get (x ∷ xs)) same ∙ dropped_at share xs i n h
 
-has_next : (nodes : List Node) (i : ℕ) (node : Node) → slice_get nodes i ≡ Some node → (n : Node) → Has (take (suc i) nodes) n → (node ≡ n) ⊎ Has (take i nodes) n
-has_next [] i node h n there = absurd (has_none n there)
-has_next (m ∷ nodes) zero node h n there = by (has_cases m [] n there)
+pub dropped_order : (minimize : Bool) (operator : JoinOp) (share : ℕ) (xs : List Node) → AreInOrder minimize operator xs → AreInOrder minimize operator (drop share xs)
+dropped_order minimize operator zero xs h = h
+dropped_order minimize operator (suc share) [] h = h
+dropped_order minimize operator (suc share) (x ∷ xs) h = dropped_order minimize operator share xs h.1
+
+-- ---- each node has its rank
+
+module _ (minimize : Bool) (operator : JoinOp) (order : List Ranked) (start : ℕ) (nodes : List Node) where
+  pub rank_within : (i : ℕ) → ((j : ℕ) (n : Node) → slice_get nodes j ≡ Some n → HasRank minimize operator order (start + j) n) → i < length nodes → start + i < length order
+  rank_within i ranks h =
+      let at = got nodes i h in
+      let r = ranks i at.0 at.1 in
+      slice_get_within order (start + i) r.0 r.1
+    where
+      got : (ns : List Node) (j : ℕ) → j < length ns → (n : Node) × (slice_get ns j ≡ Some n)
+      got [] j h = absurd (omega (arith, h))
+      got (n ∷ ns) zero h = (n, refl)
+      got (n ∷ ns) (suc j) h = got ns j (omega (arith, h))
+
+  pub rank_there : (i : ℕ) (n : Node) → ((j : ℕ) (m : Node) → slice_get nodes j ≡ Some m → HasRank minimize operator order (start + j) m) → slice_get nodes i ≡ Some n → (d : Ranked) → (get_or order (start + i) d).words ≡ rank_of minimize operator (Some n)
+  rank_there i n ranks at d =
+      let r = ranks i n at in
+      ap (λ (q : Ranked). q.words) (get_or_from_slice_get order (start + i) r.0 d r.1) ∙ r.2
+
+-- all up to one more have floors
+pub next_some : (nodes : List Node) (p : ℕ) (node : Node) → slice_get nodes p ≡ Some node → is_some node.floor ≡ true → ((i : ℕ) (n : Node) → i < p → slice_get nodes i ≡ Some n → is_some n.floor ≡ true)
+    → (i : ℕ) (n : Node) → i < p + 1 → slice_get nodes i ≡ Some n → is_some n.floor ≡ true
+next_some nodes p node here some before i n less at = by (less_or_not i p)
   where
-    by : (m ≡ n) ⊎ Has [] n → (node ≡ n) ⊎ Has [] n
-    by (inl e) = let f : m ≡ node = cc in inl (sym f ∙ e)
-    by (inr r) = inr r
-has_next (m ∷ nodes) (suc i) node h n there = by (has_cases m (take (suc i) nodes) n there) (λ r. has_next nodes i node h n r)
+    last : p ≤ i → is_some n.floor ≡ true
+    last h =
+        let same : i ≡ p = omega (arith, h, less) in
+        let e : Some n ≡ Some node = sym at ∙ (ap (slice_get nodes) same ∙ here) in
+        let f : n ≡ node = cc in
+        ap (λ (m : Node). is_some m.floor) f ∙ some
+
+    by : (i < p) ⊎ (p ≤ i) → is_some n.floor ≡ true
+    by (inl h) = before i n h at
+    by (inr h) = last h
+
+-- ---- the best floor
+
+not_less : (a b x y : ℤ) → is_lt (ordering_then (int_cmp a b) (int_cmp x y)) ≡ false → b ≤ℤ a
+not_less a b x y h = by (int_cmp a b) (int_ranked a b (int_cmp a b) refl) h
   where
-    next : (node ≡ n) ⊎ Has (take i nodes) n → (node ≡ n) ⊎ Has (m ∷ take i nodes) n
-    next (inl e) = inl e
-    next (inr r) = inr (has_more m (take i nodes) n r)
+    by : (o : Ordering) → MatchOrdering o (a <ℤ b) (a ≡ b) (b <ℤ a) → is_lt (ordering_then o (int_cmp x y)) ≡ false → b ≤ℤ a
+    by Less m k = absurd (cc)
+    by Equal m k = omega (arith, ints, m)
+    by Greater m k = omega (arith, ints, m)
 
-    by : (m ≡ n) ⊎ Has (take (suc i) nodes) n → (Has (take (suc i) nodes) n → (node ≡ n) ⊎ Has (take i nodes) n) → (node ≡ n) ⊎ Has (m ∷ take i nodes) n
-    by (inl e) rest = inr (0, ap Some e)
-    by (inr r) rest = next (rest r)
+some_floor : (o : Option ℤ) → is_some o ≡ true → (f : ℤ) × (o ≡ Some f)
+some_floor None h = absurd (cc)
+some_floor (Some f) h = (f, refl)
 
--- the floor so far: of a node that has none, or of one of the nodes and no worse than those of the first ones
-abbrev pub IsLeastSoFar : Bool → JoinOp → List Node → ℕ → Option ℤ → Type 0
-IsLeastSoFar minimize operator nodes i None = (n : Node) × Has nodes n × (n.floor ≡ None)
-IsLeastSoFar minimize operator nodes i (Some least) = ((n : Node) × Has nodes n × (n.floor ≡ Some least)) × IsBelow minimize operator (take i nodes) least
-
-pub least_begins : (minimize : Bool) (operator : JoinOp) (nodes : List Node) (n : Node) (floor : Option ℤ) → Has nodes n → n.floor ≡ floor → IsLeastSoFar minimize operator nodes 0 floor
-least_begins minimize operator nodes n None there is = (n, there, is)
-least_begins minimize operator nodes n (Some floor) there is = ((n, there, is), λ m none. absurd (has_none m none))
-
-pub least_next : (minimize : Bool) (operator : JoinOp) (nodes : List Node) (i : ℕ) (node : Node) (least floor : Option ℤ) → slice_get nodes i ≡ Some node → node.floor ≡ floor → IsLeastSoFar minimize operator nodes i least
-    → IsLeastSoFar minimize operator nodes (suc i) (better_floor minimize operator least floor)
-least_next minimize operator nodes i node None floor at is h = h
-least_next minimize operator nodes i node (Some least) None at is h = (node, (i, at), is)
-least_next minimize operator nodes i node (Some least) (Some floor) at is h = by (int_lt (order_word minimize operator (Some floor)) (order_word minimize operator (Some least))) refl
+-- where all nodes have floors, and the first words are in order, the first floor is the best
+pub first_least : (minimize : Bool) (operator : JoinOp) (nodes : List Node) (n : Node) → slice_get nodes 0 ≡ Some n → AreInOrder minimize operator nodes → ((m : Node) → Has nodes m → is_some m.floor ≡ true) → IsLeastFloor minimize operator nodes n.floor
+first_least minimize operator [] n at sorted some = absurd (cc)
+first_least minimize operator (x ∷ nodes) n at sorted some =
+    let first : x ≡ n = cc in
+    subst (λ (m : Node). IsLeastFloor minimize operator (x ∷ nodes) m.floor) first (by x.floor refl (some x (0, refl)))
   where
-    below : (least' : ℤ) → order_word minimize operator (Some least') ≤ℤ order_word minimize operator (Some least) → order_word minimize operator (Some least') ≤ℤ order_word minimize operator (Some floor) → IsBelow minimize operator (take (suc i) nodes) least'
-    below least' le le_floor n there = one (has_next nodes i node at n there)
-      where
-        one : (node ≡ n) ⊎ Has (take i nodes) n → (f : ℤ) × (n.floor ≡ Some f) × (order_word minimize operator (Some least') ≤ℤ order_word minimize operator (Some f))
-        one (inl e) = (floor, ap (λ (x : Node). x.floor) (sym e) ∙ is, le_floor)
-        one (inr r) = let b = h.1 n r in (b.0, b.1, omega (arith, ints, b.2, le))
+    word : ℤ → ℤ
+    word f = order_word minimize operator (Some f)
 
-    by : (b : Bool) → int_lt (order_word minimize operator (Some floor)) (order_word minimize operator (Some least)) ≡ b → IsLeastSoFar minimize operator nodes (suc i) (better_floor minimize operator (Some least) (Some floor))
-    by true e = rw e ((node, (i, at), is), below floor (grind (arith, ints)) (grind (arith, ints)))
-    by false e = rw e (h.0, below least (grind (arith, ints)) (grind (arith, ints)))
+    later : (f : ℤ) → x.floor ≡ Some f → (m : Node) → Has nodes m → (g : ℤ) × (m.floor ≡ Some g) × (word f ≤ℤ word g)
+    later f is m there =
+        let g = some_floor m.floor (some m (has_more x nodes m there)) in
+        let le = not_less (first_word minimize operator m) (first_word minimize operator x) (second_word minimize operator m) (second_word minimize operator x) (sorted.0 m there) in
+        (g.0, g.1, rw (is, g.1) at le)
 
-pub better_wide : (minimize : Bool) (operator : JoinOp) (a b : Option ℤ) → IfSome a InWideRange → IfSome b InWideRange → IfSome (better_floor minimize operator a b) InWideRange
-better_wide minimize operator None b h k = tt
-better_wide minimize operator (Some a) None h k = tt
-better_wide minimize operator (Some a) (Some b) h k = by (int_lt (order_word minimize operator (Some b)) (order_word minimize operator (Some a)))
-  where
-    by : (t : Bool) → IfSome (if t then Some b else Some a) InWideRange
-    by true = k
-    by false = h
+    each : (f : ℤ) → x.floor ≡ Some f → (m : Node) → (x ≡ m) ⊎ Has nodes m → (g : ℤ) × (m.floor ≡ Some g) × (word f ≤ℤ word g)
+    each f is m (inl e) = (f, ap (λ (y : Node). y.floor) (sym e) ∙ is, omega (arith, ints))
+    each f is m (inr there) = later f is m there
 
-pub least_ends : (minimize : Bool) (operator : JoinOp) (nodes : List Node) (least : Option ℤ) → IsLeastSoFar minimize operator nodes (length nodes) least → IsLeastFloor minimize operator nodes least
-least_ends minimize operator nodes None h = inr h
-least_ends minimize operator nodes (Some least) h = (h.0, λ n there. h.1 n (rw (take-length nodes) there))
+    by : (o : Option ℤ) → x.floor ≡ o → is_some o ≡ true → IsLeastFloor minimize operator (x ∷ nodes) o
+    by None is h = absurd (cc)
+    by (Some f) is h = ((x, (0, refl), is), λ m there. each f is m (has_cases x nodes m there))

@@ -1,15 +1,14 @@
 //! The nodes of a layer are shared out: the best are kept, and the others dropped.
 
-ghost use Rattle.std.specs.Prelude.{◌≡◌, ℕ, ◌+◌, ◌-◌, ◌<◌, ◌≤◌, ◌++◌, ◌∷◌, [], length, take, drop, min, vec_len, vec_capacity, IfSome, IfOk, OnOk, OnErr, Bool};
+ghost use Rattle.std.specs.Prelude.{◌≡◌, ℕ, ◌+◌, ◌-◌, ◌<◌, ◌≤◌, ◌++◌, ◌∷◌, [], length, take, drop, min, vec_len, vec_capacity, slice_get, is_some, true, false, Some, None, IfOk, OnOk, OnErr, Bool};
 ghost use Rattle.std.specs.List.{All, IsDistinct};
 ghost use Rattle.dp_claims.specs.Enough.{Has};
-ghost use Rattle.cost_laws.specs.Orders.{InWideRange};
 ghost use Rattle.state_layout.specs.declared.layout.Layout.{Layout};
 ghost use Rattle.state_layout.specs.declared.node.Node.{Node};
 ghost use Rattle.dom_store.specs.Contents.{AreApart};
 ghost use Rattle.dom_store.specs.Places.{nodes_of, AreGlanced};
-ghost use Rattle.dom_store.specs.Order.{HasWords, IsOrdering, IsLeastFloor, better_floor};
-ghost use Rattle.dom_store.specs.Ranking.{ordered, same_place};
+ghost use Rattle.dom_store.specs.Order.{HasWords, AreInOrder, IsOrdering, IsLeastFloor, rank_of};
+ghost use Rattle.dom_store.specs.Ranking.{ordered, same_place, HasRank};
 ghost use Rattle.dom_store.specs.declared.order.Ranked.{Ranked};
 
 use crate::covers::Covers;
@@ -54,7 +53,7 @@ pub(crate) fn take_nodes<L: CostLaw, K: Covers>(
     let order = sorted_places::<L, K>(alloc, places, glances)?;
     share_out(places, &order, share, &mut kept, &mut dropped);
     places.clear();
-    let least_floor = least_floor::<L>(&dropped);
+    let least_floor = least_floor::<L>(&order, kept.len(), &dropped);
     Ok(Taken {
         kept: Seq::of(kept),
         dropped: Seq::of(dropped),
@@ -104,33 +103,44 @@ fn put_out(node: NodeBox, share: u64, kept: &mut Vec<NodeBox>, dropped: &mut Vec
     }
 }
 
-// the best floor of nodes: none where there are no nodes, or where one has no floor
-fn least_floor<L: CostLaw>(nodes: &[NodeBox]) -> Option<i64>
-    requires { (n : Node) → Has nodes.now n → IfSome n.floor InWideRange }
+// the best floor of nodes in the order of their words: the first one's, and none where there are no nodes, or where one has no
+// floor; `order` has their words from `start` on
+fn least_floor<L: CostLaw>(order: &[Ranked], start: usize, nodes: &[NodeBox]) -> Option<i64>
+    requires words { (i : ℕ) (n : Node) → slice_get nodes.now i ≡ Some n → HasRank L.minimize L.operator order.now (start + i) n }
+    requires sorted { AreInOrder L.minimize L.operator nodes.now }
     ensures { IsLeastFloor L.minimize L.operator nodes.now result }
 {
-    let mut least = floor_of(nodes.first()?);
-    for node in nodes {
-        least = better_floor::<L>(least, floor_of(node));
+    if lacks_floor::<L>(order, start, nodes) {
+        return None;
     }
-    least
+    floor_of(nodes.first()?)
+}
+
+// whether one of the nodes has no floor
+fn lacks_floor<L: CostLaw>(order: &[Ranked], start: usize, nodes: &[NodeBox]) -> bool
+    requires { (i : ℕ) (n : Node) → slice_get nodes.now i ≡ Some n → HasRank L.minimize L.operator order.now (start + i) n }
+    ensures lacks { result ≡ true → (n : Node) × Has nodes.now n × (n.floor ≡ None) }
+    ensures has { result ≡ false → (n : Node) → Has nodes.now n → is_some n.floor ≡ true }
+{
+    for place in 0..nodes.len() {
+        if is_without_floor::<L>(order[start + place].words, &nodes[place]) {
+            return true;
+        }
+    }
+    false
+}
+
+// whether the node with these words has no floor: one with two words has a floor, so that few nodes are looked at
+fn is_without_floor<L: CostLaw>(words: (u64, u64), node: &NodeBox) -> bool
+    requires { words ≡ rank_of L.minimize L.operator (Some node.now) }
+    ensures lacks { result ≡ true → node.now.floor ≡ None }
+    ensures has { result ≡ false → is_some node.now.floor ≡ true }
+{
+    words.0 == words.1 && floor_of(node).is_none()
 }
 
 fn floor_of(node: &NodeBox) -> Option<i64>
     ensures { result ≡ node.now.floor }
 {
     node.get().floor
-}
-
-// the better of two floors, and none where one is missing
-fn better_floor<L: CostLaw>(floor: Option<i64>, other: Option<i64>) -> Option<i64>
-    requires left { IfSome floor InWideRange }
-    requires right { IfSome other InWideRange }
-    ensures { result ≡ better_floor L.minimize L.operator floor other }
-{
-    match (floor, other) {
-        (Some(a), Some(b)) if L::better(b, a) => Some(b),
-        (Some(a), Some(_)) => Some(a),
-        _ => None,
-    }
 }

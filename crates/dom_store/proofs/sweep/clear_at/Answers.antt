@@ -1,4 +1,4 @@
-use Rattle.std.proofs.Common.{Bool, List, Option, ap, sym, ◌∙◌}
+use Rattle.std.proofs.Common.{◌≡◌, Bool, true, List, Option, ap, sym, ◌∙◌}
 use Rattle.state_layout.specs.declared.node.Node.{Node}
 use Rattle.dom_store.specs.Past.{covers_past, is_past}
 use Rattle.dom_store.specs.Places.{passes, node_at}
@@ -14,4 +14,5 @@ returns-clause-nodes g c = λ p n there. emptied_loses c.args.places.now.items c
 pub returns-clause-counted : goal.returns-clause-counted
 returns-clause-counted g c =
     let test : Node → Bool = is_past (covers_past g.K.Covers.prune g.K.Covers.minimize g.K.Covers.operator c.args.layout.now) c.args.past.now.nodes in
-    rw c.clear_place.ensures (emptied_count test c.args.places.now.items c.args.place (ap (λ (ps : List (Option Node)). passes test (node_at ps c.args.place)) (sym c.deref.ensures.value) ∙ sym c.is_past_at.ensures.value ∙ c.if-not-is_past_at.false))
+    let passed : passes test (node_at c.args.places.now.items c.args.place) ≡ true = ap (λ (ps : List (Option Node)). passes test (node_at ps c.args.place)) (sym c.deref.ensures.value) ∙ sym c.is_past_at.ensures.value ∙ c.if-not-is_past_at.false in
+    rw c.clear_place.ensures (emptied_count test c.args.places.now.items c.args.place passed)

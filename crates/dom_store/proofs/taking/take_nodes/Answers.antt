@@ -1,12 +1,9 @@
-use Rattle.std.proofs.Common.{List, length, take, drop, min, arith, ap, ◌∙◌, subst, length-take, length-drop}
+use Rattle.std.proofs.Common.{◌≡◌, ◌+◌, slice_get, Some, length, take, drop, min, arith, ap, ◌∙◌, length-take, length-drop}
 use Rattle.std.proofs.lemmas.List.{take-append-drop}
-use Rattle.dp_claims.specs.Enough.{Has}
-use Rattle.state_layout.specs.declared.node.Node.{Node}
 use Rattle.dom_store.specs.Places.{nodes_of}
 use Rattle.dom_store.specs.Ranking.{ordered}
-use Rattle.dom_store.proofs.Members.{has_back}
-use Rattle.dom_store.proofs.Ranking.{order_within, order_once, ranked_ordering, ordered_long, ordered_nodes, ordered_apart}
-use Rattle.dom_store.proofs.Ranks.{floor_wide}
+use Rattle.dom_store.proofs.Ranking.{order_within, order_once, ranked_ordering, ordered_long, has_rank, ordered_apart}
+use Rattle.dom_store.proofs.Sharing.{dropped_at, dropped_order}
 use Rattle.dom_store.proofs.taking.take_nodes.Goals as goal
 
 pub share_out-requires-clause-within : goal.share_out-requires-clause-within
@@ -33,14 +30,25 @@ share_out-requires-clause-dropped_room g c =
     let long = ordered_long g.L.CostLaw.minimize g.L.CostLaw.operator places order (rw c.deref.ensures.value at c.in_ok-order.ensures.permutation) in
     rw c.deref-2.ensures.value (omega (arith, c.in_ok-dropped.ensures.capacity, long, c.requires.count, c.min-kept_count.ensures))
 
-pub least_floor-least_floor-requires : goal.least_floor-least_floor-requires
-least_floor-least_floor-requires g c = λ n there.
+pub least_floor-least_floor-requires-clause-words : goal.least_floor-least_floor-requires-clause-words
+least_floor-least_floor-requires-clause-words g c = λ i n at.
     let places = c.args.places.now.items in
     let order = c.in_ok-order.order.items in
-    let all = ordered places order in
-    let dropped : Has (drop c.args.share (nodes_of all)) n = rw (c.deref-3.ensures.value, c.share_out.ensures.dropped, c.deref-2.ensures.value) at there in
-    let sorted : Has (nodes_of all) n = subst (λ (ns : List Node). Has ns n) (take-append-drop c.args.share (nodes_of all)) (has_back (take c.args.share (nodes_of all)) (drop c.args.share (nodes_of all)) n dropped) in
-    floor_wide n.floor n.cost (c.requires.words n (ordered_nodes g.L.CostLaw.minimize g.L.CostLaw.operator places order (rw c.deref.ensures.value at c.in_ok-order.ensures.permutation) n sorted)).first
+    let moved = rw c.deref.ensures.value at c.in_ok-order.ensures.permutation in
+    let all = nodes_of (ordered places order) in
+    let dropped : slice_get (drop c.args.share all) i ≡ Some n = rw (c.deref-4.ensures.value, c.share_out.ensures.dropped, c.deref-2.ensures.value) at at in
+    let kept = ap length (rw c.deref-2.ensures.value at c.share_out.ensures.kept) in
+    let start : c.len.result ≡ length (take c.args.share all) = omega (arith, c.len.ensures, c.share_out.new.kept.ok.0, kept) in
+    rw (c.deref-3.ensures.value, start) (has_rank g.L.CostLaw.minimize g.L.CostLaw.operator places order moved (length (take c.args.share all) + i) n (dropped_at c.args.share all i n dropped))
+
+pub least_floor-least_floor-requires-clause-sorted : goal.least_floor-least_floor-requires-clause-sorted
+least_floor-least_floor-requires-clause-sorted g c =
+    let places = c.args.places.now.items in
+    let order = c.in_ok-order.order.items in
+    let moved = rw c.deref.ensures.value at c.in_ok-order.ensures.permutation in
+    let stable = rw c.deref.ensures.value at c.in_ok-order.ensures.stable in
+    let all = ranked_ordering g.L.CostLaw.minimize g.L.CostLaw.operator places order moved c.in_ok-order.ensures.sorted stable c.requires.words in
+    rw (c.deref-4.ensures.value, c.share_out.ensures.dropped, c.deref-2.ensures.value) (dropped_order g.L.CostLaw.minimize g.L.CostLaw.operator c.args.share (nodes_of (ordered places order)) all.sorted)
 
 pub returns-clause-order : goal.returns-clause-order
 returns-clause-order g c =
