@@ -1,5 +1,5 @@
 -- A shard that takes a letter stands for the record that took it.
-use Rattle.std.proofs.Common.{◌≡◌, ℕ, ◌+◌, ◌-◌, ◌≤◌, ◌<◌, inl, inr, true, [], ◌∷◌, ◌++◌, length, slice_set, subst, arith}
+use Rattle.std.proofs.Common.{◌≡◌, ℕ, ◌+◌, ◌-◌, ◌≤◌, ◌<◌, inl, inr, true, [], ◌∷◌, ◌++◌, length, slice_set, sym, subst, arith}
 use Rattle.std.proofs.lemmas.Bool.{cases_lt}
 use Rattle.std.specs.declared.alloc.Global.{Global}
 use Rattle.std.specs.declared.vec.Vec.{Vec}
@@ -13,6 +13,7 @@ use Rattle.pass_ledger.specs.Passes.{Pass}
 use Rattle.pass_ledger.specs.declared.mail.Letter.{Letter}
 use Rattle.pass_ledger.specs.declared.mail.Letter.TheVariants.{State, Mark}
 use Rattle.pass_ledger.specs.declared.records.ShardRecord.{ShardRecord}
+use Rattle.successors.specs.Searches.{Search}
 use Rattle.pass_ledger.proofs.Lists.{has_last}
 use Rattle.pass_ledger.proofs.Letters.{from_one}
 use Rattle.pass_ledger.proofs.Groups.{next, marks}
@@ -98,6 +99,10 @@ module _ {A B : Type 0} where
       taken p s r st (Mark f l y t) can open' collected'
       (intake_mark p.shards s.open_layers.items r.received st.intake st.ends.1.own.sizes.0 f f l y t can.from (suits p r (Mark f l y t) can) open'.items is)
       (collects_mark p s.layer s.layout s.collected.items r.start r.received st.collects st.ends.1.own.sizes.0 f f l (l - s.layer) y t (omega (arith, not_closed p s r st (Mark f l y t) can)) can.from collected'.items are nodes marked none others)
+
+  -- the expander is the same
+  pub same_expander : (p : Pass) (r : ShardRecord) (s : Shard A B) (x : Search) → x ≡ s.expander → Stands p s r → Stands p (record s { expander = x }) r
+  same_expander p r s x e h = subst (λ (y : Search). Stands p (record s { expander = y }) r) (sym e) h
 
   pub accept_none : (p : Pass) (s : Shard A B) (r : ShardRecord) → Stands p s r → (collected' : Vec (Layer B) Global) → AreOf s.layout collected'.items → ((d : ℕ) → nodes_at collected'.items d ≡ nodes_at s.collected.items d)
       → ((d : ℕ) → busy_at collected'.items d ≡ busy_at s.collected.items d) → Stands p (record s { collected = collected' }) r

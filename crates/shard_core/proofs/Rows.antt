@@ -80,6 +80,12 @@ module _ {B : Type 0} where
   set_all f (y ∷ layers) (suc k) x old at e zero = refl
   set_all f (y ∷ layers) (suc k) x old at e (suc d) = set_all f layers k x old at e d
 
+  -- a layer that is put where it stood
+  pub set_same : (layers : List (Layer B)) (k : ℕ) (x : Layer B) → slice_get layers k ≡ Some x → slice_set layers k x ≡ layers
+  set_same [] k x at = refl
+  set_same (y ∷ layers) zero x at = let same : y ≡ x = cc in ap (λ (z : Layer B). z ∷ layers) (sym same)
+  set_same (y ∷ layers) (suc k) x at = ap (λ (zs : List (Layer B)). y ∷ zs) (set_same layers k x at)
+
   pub set_merges : (p : Pass) (layers : List (Layer B)) (k : ℕ) (x old : Layer B) (node : Node) → k < length layers → slice_get layers k ≡ Some old → Merges p old.nodes.nodes node x.nodes.nodes → Merges p (nodes_at layers k) node (nodes_at (slice_set layers k x) k)
   set_merges p layers k x old node lt at merges =
       subst (λ (ns : List Node). Merges p (nodes_at layers k) node ns) (sym (set_at nodes_of layers k x lt)) (subst (λ (ns : List Node). Merges p ns node x.nodes.nodes) (sym (ap nodes_of at)) merges)

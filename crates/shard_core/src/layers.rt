@@ -134,6 +134,18 @@ fn add_at<K: Covers>(
     Ok(())
 }
 
+/// A box whose node is no longer needed, of the store of the layer at a place, where that has one.
+#[inline]
+#[tactic(auto, using(crate::proofs::Rows::set_same))]
+pub(crate) fn take_spare<K: Covers>(layers: &mut Vec<Layer<K>>, place: u64) -> Option<NodeBox>
+    ensures { layers.new.items ≡ layers.old.items }
+{
+    if layers.len() as u64 <= place {
+        return None;
+    }
+    layers[place as usize].nodes.take_spare()
+}
+
 /// The layers of a shard that has taken no letter: layer 0 has the node that it starts with.
 pub(crate) fn first_layers<K: Covers>(
     alloc: Global,

@@ -25,7 +25,7 @@ ghost use Rattle.shard_core.specs.Stands.{Stands, EndsAs, Suited};
 
 use crate::counts::{clear_counts, count_of, equal_counts, sum};
 use crate::intake::are_past;
-use crate::layers::{Layer, collect, first_layers, is_busy, note_total, take_layer};
+use crate::layers::{Layer, collect, first_layers, is_busy, note_total, take_layer, take_spare};
 use crate::offers::hold_best;
 use crate::outbox::send_all;
 use crate::past::remember;
@@ -193,7 +193,10 @@ impl<'m, L: CostLaw, K: Covers> Shard<'m, L, K> {
     {
         let place = layer - self.layer;
         match collect(self.alloc, &self.layout, &mut self.collected, place, node) {
-            Ok(()) => Ok(()),
+            Ok(()) => {
+                give_spare(&mut self.expander, &mut self.collected, place);
+                Ok(())
+            }
             Err(node) => Err(Letter::State { from, layer, node }),
         }
     }
@@ -302,7 +305,9 @@ impl<'m, L: CostLaw, K: Covers> Shard<'m, L, K> {
         if !is_pruned::<L>(node.get(), best) {
             return false;
         }
-        self.waiting.pop_front();
+        if let Some(node) = self.waiting.pop_front() {
+            self.expander.give_back(node);
+        }
         true
     }
 
@@ -465,6 +470,22 @@ impl<'m, L: CostLaw, K: Covers> Shard<'m, L, K> {
             },
             self.log,
         )
+    }
+}
+
+/// One box that the store of a layer no longer needs, where it has one, goes to the visits to come. A letter brings a box, and most of
+/// those that come are soon not needed, since their nodes are covered: so the next visit fills the box while it is in the processor's
+/// cache, and asks for no memory.
+fn give_spare<'m, L: CostLaw, K: Covers>(
+    expander: &mut Expander<'m, L>,
+    layers: &mut Vec<Layer<K>>,
+    place: u64,
+)
+    ensures expander { expander.new ≡ expander.old }
+    ensures layers { layers.new.items ≡ layers.old.items }
+{
+    if let Some(held) = take_spare(layers, place) {
+        expander.give_back(held);
     }
 }
 
