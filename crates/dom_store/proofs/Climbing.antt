@@ -1,6 +1,7 @@
 -- Steps of a staircase: what one more or one less leaves as it was, and what they say of the nodes of their row.
 use Rattle.std.proofs.Common.{◌≡◌, ℕ, zero, suc, ◌<◌, ◌≤◌, ◌⊎◌, inl, inr, Bool, true, false, ◌&&◌, List, [], ◌∷◌, ◌++◌, length, get_or, map, set, Option, Some, None, Result, Ok, Err, refl, sym, ap, ◌∙◌, subst, arith}
 use Rattle.std.specs.Prelude.{ℤ, pos, nat_eq, nat_le, int_le, int_lt, is_ok, OnOk, OnErr}
+use Rattle.std.specs.Int.{int_max}
 use Rattle.std.specs.BTreeMap.{BTreeMap, get, is_at, Updates}
 use Rattle.std.specs.List.{slice_get, list_any}
 use Rattle.std.specs.BTreeMap.Range.{IsLeBy, IsEntryInRange, IsRangeOf}
@@ -21,12 +22,50 @@ use Rattle.dom_store.specs.Chains.{chain_from}
 use Rattle.dom_store.specs.Covering.{covers, key_of, KeepsKey}
 use Rattle.dom_store.specs.Glances.{IsGlanceOf, may_cover, ShowsAtGlance}
 use Rattle.dom_store.specs.Places.{nodes_of, without, cleared, StandsAt, AreGlanced}
-use Rattle.dom_store.specs.Stairs.{IsRising, NoneCovers, NoneCovered, HasStep, AreSteps}
+use Rattle.dom_store.specs.Stairs.{IsRising, AreWithin, NoneCovers, NoneCovered, HasStep, AreSteps}
 use Rattle.dom_store.specs.declared.glance.Glance.{Glance}
 use Rattle.dom_store.specs.declared.stairs.Step.{Step}
 use Rattle.dom_store.proofs.Filing.{set_stands}
 use Rattle.dom_store.proofs.Members.{has_none, has_cases}
 use Rattle.dom_store.proofs.Rows.{twice, all_cleared, some_place}
+
+-- ---- the greatest word and merit tell of all steps
+
+module _ (steps : BTreeMap ℕ Step) (g : Glance) (word : ℕ) (merit : ℤ) (within : AreWithin steps word merit) where
+  pub beyond_merit : int_lt merit g.merit ≡ true → NoneCovers steps g
+  beyond_merit less w s at low =
+      let up : int_le s.merit merit ≡ true = (within w s at).1 in
+      grind (arith, ints)
+
+  pub beyond_word : word < g.word → NoneCovered steps g
+  beyond_word less w s at high = absurd (omega (arith, less, high, (within w s at).0))
+
+  -- where none may be covered, and the merit is the greatest, so is the word
+  pub word_greatest : NoneCovered steps g → int_le merit g.merit ≡ true → (w : ℕ) (s : Step) → get nat_cmp steps w ≡ Some s → w ≤ g.word
+  word_greatest below most w s at = by (nat_le w g.word) refl
+    where
+      by : (b : Bool) → nat_le w g.word ≡ b → w ≤ g.word
+      by true e = grind arith
+      by false e =
+          let more : int_lt g.merit s.merit ≡ true = below w s at (grind arith) in
+          let up : int_le s.merit merit ≡ true = (within w s at).1 in
+          absurd (grind (arith, ints))
+
+-- the greater of two merits is no less than either
+max_above : (a b m : ℤ) → m ≡ int_max a b → (int_le a m ≡ true) × (int_le b m ≡ true)
+max_above a b m is = (grind (arith, ints, is), grind (arith, ints, is))
+
+pub raised_within : (steps : BTreeMap ℕ Step) (g : Glance) (word word' : ℕ) (merit merit' : ℤ) → AreWithin steps word merit → ((w : ℕ) (s : Step) → get nat_cmp steps w ≡ Some s → w ≤ word') → merit' ≡ int_max merit g.merit → AreWithin steps word' merit'
+raised_within steps g word word' merit merit' within low is w s at =
+    let up : int_le s.merit merit ≡ true = (within w s at).1 in
+    let over : int_le merit merit' ≡ true = (max_above merit g.merit merit' is).0 in
+    (low w s at, grind (arith, ints))
+
+pub fewer_within : (steps new : BTreeMap ℕ Step) (word : ℕ) (merit : ℤ) → AreWithin steps word merit → ((w : ℕ) (s : Step) → get nat_cmp new w ≡ Some s → get nat_cmp steps w ≡ Some s) → AreWithin new word merit
+fewer_within steps new word merit within was w s at = within w s (was w s at)
+
+pub empty_within : (steps : BTreeMap ℕ Step) (word : ℕ) (merit : ℤ) → steps.entries ≡ [] → AreWithin steps word merit
+empty_within steps word merit none w s at = absurd (let clash : None ≡ Some s = sym (ap (λ (es : List (ℕ × Step)). lookup (is_at (nat_cmp w)) es) none) ∙ at in cc)
 
 -- ---- one more step, and one less
 
@@ -62,6 +101,13 @@ module _ (steps new : BTreeMap ℕ Step) (g : Glance) (place : ℕ) (rises : IsR
           inl (same, ap (λ (t : Step). t.merit) is_step)
       by false e = inr (sym (put.2 w (not_at g.word w (λ same. grind arith))) ∙ at)
 
+  pub put_within : (word : ℕ) (merit : ℤ) → AreWithin steps word merit → g.word ≤ word → int_le g.merit merit ≡ true → AreWithin new word merit
+  put_within word merit within low less w s at = by (put_cases w s at)
+    where
+      by : ((g.word ≡ w) × (g.merit ≡ s.merit)) ⊎ (get nat_cmp steps w ≡ Some s) → (w ≤ word) × (int_le s.merit merit ≡ true)
+      by (inl e) = (subst (λ q. q ≤ word) e.0 low, subst (λ m. int_le m merit ≡ true) e.1 less)
+      by (inr old) = within w s old
+
   pub put_rises : IsRising new
   put_rises v w s t less at_v at_w = by (put_cases v s at_v) (put_cases w t at_w)
     where
@@ -83,6 +129,11 @@ module _ {A B : Type 0} (steps new : BTreeMap ℕ Step) (g : Glance) (place : �
     where
       was : (v : ℕ) (s : Step) → get nat_cmp new v ≡ Some s → get nat_cmp steps v ≡ Some s
       was v s at = ap (λ (es : List (ℕ × Step)). lookup (is_at (nat_cmp v)) es) (sym same) ∙ at
+
+  pub insert_within : (r : Result A B) → OnOk r (Updates nat_cmp steps new g.word (Some (record { merit = g.merit; place = place }))) → OnErr r (new.entries ≡ steps.entries) → (word word' : ℕ) (merit merit' : ℤ) → AreWithin steps word merit → ((w : ℕ) (s : Step) → get nat_cmp steps w ≡ Some s → w ≤ word') → g.word ≤ word' → merit' ≡ int_max merit g.merit → AreWithin new word' merit'
+  insert_within (Ok x) put same word word' merit merit' within low reach is =
+      put_within steps new g place rises above below put word' merit' (raised_within steps g word word' merit merit' within low is) reach (max_above merit g.merit merit' is).1
+  insert_within (Err x) put same word word' merit merit' within low reach is = λ w s at. raised_within steps g word word' merit merit' within low is w s (ap (λ (es : List (ℕ × Step)). lookup (is_at (nat_cmp w)) es) (sym same) ∙ at)
 
 pub empty_rises : (steps : BTreeMap ℕ Step) → steps.entries ≡ [] → IsRising steps
 empty_rises steps none v w s t less at_v at_w = absurd (let clash : None ≡ Some s = sym (ap (λ (es : List (ℕ × Step)). lookup (is_at (nat_cmp v)) es) none) ∙ at_v in cc)

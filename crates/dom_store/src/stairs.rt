@@ -1,9 +1,9 @@
 //! The nodes of one row in order, so that a look-up takes few steps: a node of a greater word is of a greater merit than those before it.
 
-ghost use Rattle.std.specs.Prelude.{◌≡◌, ◌+◌, ℕ, true, false, Some, None, IfSome, IfNone};
+ghost use Rattle.std.specs.Prelude.{◌≡◌, ◌+◌, ◌≤◌, ℕ, true, false, Some, None, IfSome, IfNone};
 ghost use Rattle.std.specs.BTreeMap.{get, btree_map_len};
 ghost use Rattle.std.specs.Ordering.{nat_cmp};
-ghost use Rattle.dom_store.specs.Stairs.{IsRising, NoneCovers, NoneCovered, HasStep};
+ghost use Rattle.dom_store.specs.Stairs.{IsRising, AreWithin, NoneCovers, NoneCovered, HasStep};
 ghost use Rattle.dom_store.specs.declared.stairs.Step.{Step as TheStep};
 
 use crate::glance::Glance;
@@ -17,12 +17,16 @@ pub(crate) struct Step {
     pub(crate) place: usize,
 }
 
-/// The steps by their words, and the key of the row that they are of. Where there is no such row the steps mean nothing.
+/// The steps by their words, and the key of the row that they are of. Where there is no such row the steps mean nothing. No step is
+/// of a greater word or a greater merit than these two, so that a node beyond them is known without a look at the steps.
 #[derive(Drop)]
 pub(crate) struct Stairs {
     row: Option<u64>,
     steps: BTreeMap<u64, Step>,
+    top_word: u64,
+    top_merit: i64,
     ghost rising: { IsRising steps },
+    ghost within: { AreWithin steps top_word top_merit },
 }
 
 impl Stairs {
@@ -33,6 +37,8 @@ impl Stairs {
         Stairs {
             row: None,
             steps: BTreeMap::new(alloc),
+            top_word: 0,
+            top_merit: i64::MIN,
         }
     }
 
@@ -56,6 +62,9 @@ impl Stairs {
     pub(crate) fn covering(&self, glance: Glance) -> Option<usize>
         ensures { IfNone result (NoneCovers self.now.steps glance) }
     {
+        if self.top_merit < glance.merit {
+            return None;
+        }
         let Some((_, step)) = self.steps.range(..=glance.word).next_back() else {
             return None;
         };
@@ -71,6 +80,9 @@ impl Stairs {
         ensures none { IfNone result (NoneCovered self.now.steps glance) }
         ensures some { IfSome result (λ r. get nat_cmp self.now.steps r.0 ≡ Some r.1) }
     {
+        if self.top_word < glance.word {
+            return None;
+        }
         let Some((word, step)) = self.steps.range(glance.word..).next() else {
             return None;
         };
@@ -128,7 +140,22 @@ impl Stairs {
             merit: glance.merit,
             place,
         };
+        self.top_word = self.word_with(glance);
+        self.top_merit = self.top_merit.max(glance.merit);
         self.steps.insert(glance.word, step).is_ok()
+    }
+
+    // a word that no word of a step exceeds, nor that of a node with this glance, which may cover no step: where its merit is the
+    // greatest its word is so too
+    fn word_with(&self, glance: Glance) -> u64
+        requires { NoneCovered self.now.steps glance }
+        ensures steps { (w : ℕ) (s : TheStep) → get nat_cmp self.now.steps w ≡ Some s → w ≤ result }
+        ensures word { glance.word ≤ result }
+    {
+        if self.top_merit <= glance.merit {
+            return glance.word;
+        }
+        self.top_word.max(glance.word)
     }
 
     /// Puts a step in where the row of this key has the steps, none of which may cover it or be covered by it. Where memory runs out
@@ -162,5 +189,7 @@ impl Stairs {
     {
         self.row = None;
         self.steps.clear();
+        self.top_word = 0;
+        self.top_merit = i64::MIN;
     }
 }
