@@ -3,6 +3,7 @@
 #![tactic(auto)]
 
 mod logs;
+mod step;
 mod walking;
 
 pub use logs::{Entry, PathLog, StepId};

@@ -3,6 +3,7 @@
 ghost use Rattle.std.specs.Prelude.{◌≡◌, ◌<◌, [], ◌∷◌, ◌++◌, length, slice_get, IfOk, OnOk, OnErr};
 ghost use Rattle.path_log.specs.Paths.{entry};
 
+use crate::step::Step;
 use std::alloc::{AllocError, Global};
 use std::marker::Model;
 
@@ -25,7 +26,7 @@ pub struct Entry {
 #[derive(Drop)]
 pub struct PathLog {
     shard: u32,
-    entries: Vec<Entry>,
+    entries: Vec<Step>,
 }
 
 impl Model for PathLog {
@@ -47,14 +48,16 @@ impl PathLog {
         }
     }
 
-    /// Adds a step at the end, and answers where it stands.
+    /// Adds a step at the end, and answers where it stands. No log is so long that a parent could stand at the place 2^64 - 1;
+    /// with such a parent it answers `AllocError`.
     pub fn push(&mut self, parent: Option<StepId>, transition: u32) -> Result<StepId, AllocError>
         ensures added { OnOk result (self.new ≡ record { shard = self.old.shard; entries = self.old.entries ++ entry parent transition ∷ [] }) }
         ensures id { IfOk result (λ id. id ≡ record { shard = self.old.shard; place = length self.old.entries }) }
         ensures err { OnErr result (self.new ≡ self.old) }
     {
         let place = self.entries.len() as u64;
-        self.entries.push(Entry { parent, transition })?;
+        let step = Step::of(parent, transition).ok_or(AllocError)?;
+        self.entries.push(step)?;
         Ok(StepId {
             shard: self.shard,
             place,
@@ -66,6 +69,6 @@ impl PathLog {
         requires { place < length self.now.entries }
         ensures { slice_get self.now.entries place ≡ Some result }
     {
-        self.entries[place as usize]
+        self.entries[place as usize].entry()
     }
 }
