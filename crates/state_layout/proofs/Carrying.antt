@@ -116,3 +116,11 @@ five (a ∷ b ∷ []) h = absurd (omega (arith, h))
 five (a ∷ b ∷ c ∷ []) h = absurd (omega (arith, h))
 five (a ∷ b ∷ c ∷ d ∷ []) h = absurd (omega (arith, h))
 five (a ∷ b ∷ c ∷ d ∷ e ∷ f ∷ words) h = absurd (omega (arith, h))
+
+-- a state without variables has no place for any
+pub no_room : HasRoom [] (0 ∷ 0 ∷ 0 ∷ 0 ∷ 0 ∷ [])
+unfolding count_in
+no_room = record {
+  fits = record { count = refl; few = omega arith; row = omega arith; holds = λ p slot h e. absurd (omega (arith, h)) };
+  room = λ p j slot h e is some u. absurd (omega (arith, h));
+}

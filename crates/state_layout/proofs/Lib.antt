@@ -4,6 +4,7 @@ pub mod Signing
 pub mod Keying
 pub mod Deciding
 pub mod Stepping
+pub mod Flattening
 pub mod Placing
 pub mod Blanking
 pub mod Carrying

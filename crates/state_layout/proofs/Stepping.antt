@@ -39,7 +39,7 @@ use Rattle.state_layout.proofs.Keying.{key_append}
 use Rattle.state_layout.proofs.Ranking.{slots_length, ranked_slots, same_rank}
 use Rattle.state_layout.proofs.Deciding.{at_least_more}
 
-members_from : (x y : List ℕ) → Members x ≡ Members y → x ≡ y
+pub members_from : (x y : List ℕ) → Members x ≡ Members y → x ≡ y
 members_from x y e = cc
 
 pub get_or_default : (xs : List Slot) (i : ℕ) (d e : Slot) → i < length xs → get_or xs i d ≡ get_or xs i e
@@ -79,7 +79,7 @@ value_from_states a b i h k same = sym (value_at a i (value_in a i) h) ∙ ap (�
 
 -- ---- steps of the loops, at what the code reads as the slot
 
-read_again : (slots : List Slot) (i : ℕ) (d : Slot) → i < length slots → get_or slots i d ≡ get_or slots i (get_or slots i d)
+pub read_again : (slots : List Slot) (i : ℕ) (d : Slot) → i < length slots → get_or slots i d ≡ get_or slots i (get_or slots i d)
 read_again slots i d h = get_or_default slots i d (get_or slots i d) h
 
 module _ (slots : List Slot) (words : List ℕ) (fits : Fits slots words) (i : ℕ) (d : Slot) (h : i < length slots) where
@@ -129,7 +129,7 @@ module _ (slots : List Slot) (a b : List ℕ) (left : Fits slots a) (right : Fit
 
 -- ---- one value
 
-decided : (r t : Bool) (P : Type 0) → (IsTrue r ↔ P) → Decides t P → r ≡ t
+pub decided : (r t : Bool) (P : Type 0) → (IsTrue r ↔ P) → Decides t P → r ≡ t
 decided true true P e d = refl
 decided true false P e d = sym (d.1 (e.0 refl))
 decided false true P e d = e.1 (d.0 refl)

@@ -1,6 +1,7 @@
 pub mod Slots
 pub mod Packing
 pub mod Forms
+pub mod Flat
 pub mod Drafts
 pub mod Conditions
 pub mod Signatures

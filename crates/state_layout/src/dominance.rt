@@ -10,6 +10,7 @@ use crate::reading::{are_same_sets, is_set, number_in};
 use crate::sames::is_same_value;
 use dp_model::Preference;
 
+#[inline(never)]
 pub(crate) fn are_at_least(slots: &[Slot], a: &[u64], b: &[u64]) -> bool
     requires left { Fits slots.now a.now }
     requires right { Fits slots.now b.now }

@@ -1,6 +1,6 @@
 //! A state that is being made.
 
-ghost use Rattle.std.specs.Prelude.{◌≡◌, ℕ, ◌<◌, ◌≤◌, [], ◌∷◌, true, false, IfOk, length, slice_index, slice_index_or};
+ghost use Rattle.std.specs.Prelude.{◌≡◌, ℕ, ◌<◌, ◌≤◌, [], ◌∷◌, true, false, IfOk, OnOk, length, slice_index, slice_index_or};
 ghost use Rattle.bit_sets.specs.Sets.{has_bit, members_of};
 ghost use Rattle.dp_model.specs.declared.parts.PlainValue.TheVariants.{Number, Members};
 ghost use Rattle.state_layout.specs.Signatures.{word_count};
@@ -8,7 +8,7 @@ ghost use Rattle.state_layout.specs.Packing.{state_in, is_set};
 ghost use Rattle.state_layout.specs.Forms.{Fits, HasRoom, with_value};
 
 use crate::layout::Slot;
-use crate::packed::{Packed, Words, words_like};
+use crate::packed::{IN_PLACE, Packed, Words, words_like};
 use crate::writing;
 use smallvec::SmallVec;
 use std::alloc::{AllocError, Global};
@@ -37,7 +37,7 @@ impl<'l> Model for Draft<'l> {
 
 impl<'l> Draft<'l> {
     /// A copy of the state of the words.
-    #[inline(always)]
+    #[inline(never)]
     pub(crate) fn of(
         alloc: Global,
         slots: &'l [Slot],
@@ -52,6 +52,43 @@ impl<'l> Draft<'l> {
             slots,
             words: renewed(alloc, slots, blank, words)?,
         })
+    }
+
+    /// A draft of a state without variables, to be started. It takes no memory.
+    #[inline(always)]
+    #[tactic(auto, using(crate::proofs::Carrying::no_room))]
+    pub(crate) fn nothing(alloc: Global) -> Draft<'l>
+        ensures { result.slots ≡ [] }
+    {
+        Draft {
+            slots: &[],
+            words: SmallVec::from_buf(alloc, [0; IN_PLACE]),
+        }
+    }
+
+    /// Becomes a copy of the state of the words, of the layout with these slots. Five words, as nearly every state has, are
+    /// copied where they go.
+    #[inline(always)]
+    #[tactic(auto, using(crate::proofs::Carrying::whole_room, crate::proofs::Carrying::five))]
+    pub(crate) fn start(
+        &mut self,
+        alloc: Global,
+        slots: &'l [Slot],
+        blank: &[u64],
+        words: &[u64],
+    ) -> Result<(), AllocError>
+        requires blank { HasRoom slots.now blank.now }
+        requires fits { Fits slots.now words.now }
+        ensures { OnOk result (self.new ≡ record { slots = slots.now; state = state_in words.now }) }
+    {
+        if words.len() == 5 && blank.len() == 5 {
+            let five = [words[0], words[1], words[2], words[3], words[4]];
+            self.slots = slots;
+            self.words = SmallVec::from_buf(alloc, five);
+            return Ok(());
+        }
+        *self = Draft::of(alloc, slots, blank, words)?;
+        Ok(())
     }
 
     /// Sets a variable that holds a number.

@@ -11,11 +11,12 @@ use crate::reading::{first_word, is_set, word_count, word_in};
 use crate::words::{is_without, without_preference};
 
 // what the key of no words is
-const KEY_START: u64 = 0x243f_6a88_85a3_08d3;
+pub(crate) const KEY_START: u64 = 0x243f_6a88_85a3_08d3;
 
 const KEY_FACTOR: u64 = 0x9e37_79b9_7f4a_7c15;
 
 /// The key of the words of the values, in order.
+#[inline(never)]
 pub(crate) fn key_of(slots: &[Slot], words: &[u64]) -> u64
     requires { Fits slots.now words.now }
     ensures { result ≡ key_of (signature_in slots.now (state_in words.now).values) }
@@ -29,6 +30,7 @@ pub(crate) fn key_of(slots: &[Slot], words: &[u64]) -> u64
 }
 
 /// The key of the words of the values, in order, those of resources too.
+#[inline(never)]
 pub(crate) fn whole_key_of(slots: &[Slot], words: &[u64]) -> u64
     requires { Fits slots.now words.now }
     ensures { result ≡ key_of (signature_in (map without_preference slots.now) (state_in words.now).values) }
@@ -70,7 +72,8 @@ fn key_set(key: u64, words: &[u64], count: usize, place: usize, slot: Slot) -> u
     mixed
 }
 
-fn key_step(key: u64, word: u64) -> u64
+#[inline(always)]
+pub(crate) fn key_step(key: u64, word: u64) -> u64
     ensures { result ≡ key_step key word }
 {
     let product = (key ^ word).wrapping_mul(KEY_FACTOR);

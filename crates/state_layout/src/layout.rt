@@ -1,6 +1,6 @@
 //! The layout of a model's states, and the calls that need it.
 
-ghost use Rattle.std.specs.Prelude.{◌≡◌, ◌↔◌, ◌+◌, ◌<◌, ◌≤◌, IsTrue, IfOk, length};
+ghost use Rattle.std.specs.Prelude.{◌≡◌, ◌↔◌, ◌+◌, ◌<◌, ◌≤◌, [], IsTrue, IfOk, OnOk, length};
 ghost use Rattle.dp_model.specs.declared.whole.Model.{Model as DpModel};
 ghost use Rattle.dp_model.specs.Typing.{type_count};
 ghost use Rattle.dp_claims.specs.Dominance.{Dominates};
@@ -16,6 +16,10 @@ ghost use Rattle.state_layout.specs.Conditions.{IsLayoutOf, IsStateOf, IsStateFo
 use crate::blank::blank_of;
 use crate::dominance::are_at_least;
 use crate::draft::Draft;
+use crate::flat::{
+    are_at_least_flat, are_same_flat, flat_hash_of, flat_key_of, flat_signature_key_of,
+    has_resource, is_flat,
+};
 use crate::keys::{key_of, whole_key_of};
 use crate::merits::merit_in;
 use crate::packed::Packed;
@@ -40,11 +44,14 @@ pub struct Slot {
     pub sets: u32,
 }
 
-/// How the states of a model are packed: a slot for each variable, in order.
+/// How the states of a model are packed: a slot for each variable, in order. It knows whether each set has one word, and
+/// whether the model has a resource, since the calls that a search makes of each state are quicker without.
 #[derive(Debug, Drop)]
 pub struct Layout {
     slots: Vec<Slot>,
     blank: Vec<u64>,
+    is_flat: bool,
+    has_resource: bool,
 }
 
 impl Model for Layout {
@@ -55,9 +62,11 @@ impl Model for Layout {
 
     ghost view = { λ l. l.slots.items };
 
+    ghost use Rattle.std.specs.Prelude.{◌≡◌, ◌↔◌, false, IsTrue};
     ghost use Rattle.state_layout.specs.Forms.{HasRoom};
+    ghost use Rattle.state_layout.specs.Flat.{IsFlat, HasNoResource};
 
-    ghost invariant = { λ l. HasRoom l.slots.items l.blank.items };
+    ghost invariant = { λ l. HasRoom l.slots.items l.blank.items × (IsTrue l.is_flat ↔ IsFlat l.slots.items) × ((l.has_resource ≡ false) ↔ HasNoResource l.slots.items) };
 }
 
 impl Layout {
@@ -67,7 +76,14 @@ impl Layout {
     {
         let slots = slots_for(alloc, model)?;
         let blank = blank_of(alloc, &slots)?;
-        Ok(Layout { slots, blank })
+        let is_flat = is_flat(&slots);
+        let has_resource = has_resource(&slots);
+        Ok(Layout {
+            slots,
+            blank,
+            is_flat,
+            has_resource,
+        })
     }
 
     /// An equal layout.
@@ -77,6 +93,8 @@ impl Layout {
         Ok(Layout {
             slots: Vec::from_slice(alloc, &self.slots)?,
             blank: Vec::from_slice(alloc, &self.blank)?,
+            is_flat: self.is_flat,
+            has_resource: self.has_resource,
         })
     }
 
@@ -89,8 +107,30 @@ impl Layout {
         Ok(Packed::of(words_for(alloc, &self.slots, &self.blank, s)?))
     }
 
-    /// A copy of a packed state, in which variables may be set.
+    /// A draft without variables, in which copies of states may be started. It takes no memory.
     #[inline(always)]
+    pub fn no_draft(&self, alloc: Global) -> Draft<'_>
+        ensures { result.slots ≡ [] }
+    {
+        Draft::nothing(alloc)
+    }
+
+    /// Makes a draft, whatever it was, a copy of a packed state, in which variables may be set. A caller that makes one state after
+    /// another so has none of them moved.
+    #[inline(always)]
+    pub fn start_draft<'l>(
+        &'l self,
+        alloc: Global,
+        draft: &mut Draft<'l>,
+        p: &Packed,
+    ) -> Result<(), AllocError>
+        requires { IsPackedFor self.now p.now }
+        ensures { OnOk result (draft.new ≡ record { slots = self.now; state = p.now }) }
+    {
+        draft.start(alloc, &self.slots, &self.blank, self.words(p))
+    }
+
+    /// A copy of a packed state, in which variables may be set.
     pub fn draft(&self, alloc: Global, p: &Packed) -> Result<Draft<'_>, AllocError>
         requires { IsPackedFor self.now p.now }
         ensures { IfOk result (λ d. d ≡ record { slots = self.now; state = p.now }) }
@@ -125,12 +165,17 @@ impl Layout {
     }
 
     /// Whether two packed states are the same state. It takes no memory.
+    #[inline(always)]
     pub fn same(&self, a: &Packed, b: &Packed) -> bool
         requires left { IsPackedFor self.now a.now }
         requires right { IsPackedFor self.now b.now }
         ensures { IsTrue result ↔ (a.now ≡ b.now) }
     {
-        are_same(self.slots(), self.words(a), self.words(b))
+        if self.is_flat {
+            are_same_flat(self.slots(), self.words(a), self.words(b))
+        } else {
+            are_same(self.slots(), self.words(a), self.words(b))
+        }
     }
 
     /// The words of the values of all variables but the resources, in order of definition: one for an integer variable (in
@@ -149,7 +194,11 @@ impl Layout {
         requires { IsPackedFor self.now p.now }
         ensures { result ≡ hash_of (signature_of self.now p.now) }
     {
-        hash_of(self.slots(), self.words(p))
+        if self.has_resource {
+            hash_of(self.slots(), self.words(p))
+        } else {
+            self.state_hash(p)
+        }
     }
 
     /// The same over the words of all values, those of resources too. It takes no memory.
@@ -157,32 +206,53 @@ impl Layout {
         requires { IsPackedFor self.now p.now }
         ensures { result ≡ hash_of (state_words self.now p.now) }
     {
-        whole_hash_of(self.slots(), self.words(p))
+        if self.is_flat {
+            flat_hash_of(self.slots(), self.words(p))
+        } else {
+            whole_hash_of(self.slots(), self.words(p))
+        }
     }
 
     /// A key of a state's signature, cheaper than the hash over it. It takes no memory.
+    #[inline(always)]
     pub fn signature_key(&self, p: &Packed) -> u64
         requires { IsPackedFor self.now p.now }
         ensures { result ≡ key_of (signature_of self.now p.now) }
     {
-        key_of(self.slots(), self.words(p))
+        if !self.has_resource {
+            self.state_key(p)
+        } else if self.is_flat {
+            flat_signature_key_of(self.slots(), self.words(p))
+        } else {
+            key_of(self.slots(), self.words(p))
+        }
     }
 
     /// The same of the words of all values. It takes no memory.
+    #[inline(always)]
     pub fn state_key(&self, p: &Packed) -> u64
         requires { IsPackedFor self.now p.now }
         ensures { result ≡ key_of (state_words self.now p.now) }
     {
-        whole_key_of(self.slots(), self.words(p))
+        if self.is_flat {
+            flat_key_of(self.slots(), self.words(p))
+        } else {
+            whole_key_of(self.slots(), self.words(p))
+        }
     }
 
     /// How good a state is by its first resource: the value of this variable, or -1 less it where less is better; 0 in a
     /// model without resources. A state that dominates another has no lesser merit. It takes no memory.
+    #[inline(always)]
     pub fn merit(&self, p: &Packed) -> i64
         requires { IsPackedFor self.now p.now }
         ensures { result ≡ merit_of self.now p.now }
     {
-        merit_in(self.slots(), self.words(p))
+        if self.has_resource {
+            merit_in(self.slots(), self.words(p))
+        } else {
+            0
+        }
     }
 
     /// Which of so many shards owns a state: the hash over its signature, modulo their number. It takes no memory.
@@ -196,13 +266,20 @@ impl Layout {
 
     /// Whether a state dominates another: it has the same values on all variables but the resources, and is at least as
     /// good on each resource. Each state dominates itself. It takes no memory.
+    #[inline(always)]
     pub fn dominates(&self, a: &Packed, b: &Packed) -> bool
         requires left { IsPackedFor self.now a.now }
         requires right { IsPackedFor self.now b.now }
         ensures test { result ≡ dominates_by self.now a.now b.now }
         ensures dominates { (m : DpModel) → IsLayoutOf m self.now → IsTrue result ↔ Dominates m a.now b.now }
     {
-        are_at_least(self.slots(), self.words(a), self.words(b))
+        if !self.has_resource {
+            self.same(a, b)
+        } else if self.is_flat {
+            are_at_least_flat(self.slots(), self.words(a), self.words(b))
+        } else {
+            are_at_least(self.slots(), self.words(a), self.words(b))
+        }
     }
 }
 

@@ -4,6 +4,7 @@
 mod blank;
 mod dominance;
 mod draft;
+mod flat;
 mod keys;
 mod laws;
 mod layout;

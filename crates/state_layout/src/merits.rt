@@ -11,6 +11,7 @@ use crate::reading::{is_set, number_in};
 use dp_model::Preference;
 
 /// The merit of the first resource, and 0 where there is none.
+#[inline(never)]
 pub(crate) fn merit_in(slots: &[Slot], words: &[u64]) -> i64
     requires { Fits slots.now words.now }
     ensures { result ≡ merit_in slots.now (state_in words.now).values }

@@ -5,6 +5,7 @@ ghost use Rattle.std.specs.Prelude.{◌≡◌, IfOk};
 use crate::node::Node;
 use std::alloc::{AllocError, Global};
 use std::marker::Model;
+use std::mem;
 
 /// A node in a box, which contracts see as the node. It goes from hand to hand as a pointer, and is filled again where its
 /// node is no longer needed.
@@ -45,6 +46,14 @@ impl NodeBox {
         ensures { self.new ≡ node }
     {
         *self.inner = node;
+    }
+
+    /// Takes the node out. What is left in the box says nothing, and is to be filled again. It takes no memory.
+    #[inline(always)]
+    pub fn take(&mut self, alloc: Global) -> Node
+        ensures { result ≡ self.old }
+    {
+        mem::replace(&mut self.inner, Node::blank(alloc))
     }
 
     /// The node, without its box.

@@ -53,6 +53,14 @@ impl Packed {
         Packed { words }
     }
 
+    /// A state of no variables. It takes no memory.
+    #[inline(always)]
+    pub(crate) fn blank(alloc: Global) -> Packed {
+        Packed {
+            words: SmallVec::from_buf(alloc, [0; IN_PLACE]),
+        }
+    }
+
     pub(crate) fn words(&self) -> &[u64]
         ensures state { state_in result.now ≡ self.now }
         ensures row { HasFirstRow result.now }

@@ -8,6 +8,7 @@ use crate::layout::Slot;
 use crate::reading::{are_same_sets, is_set, number_in};
 
 /// States of the same words are the same at once.
+#[inline(never)]
 pub(crate) fn are_same(slots: &[Slot], a: &[u64], b: &[u64]) -> bool
     requires left { Fits slots.now a.now }
     requires right { Fits slots.now b.now }

@@ -13,7 +13,7 @@ use std::alloc::{AllocError, Global};
 use word_hash::hash_word;
 
 // what the hash over no bytes is
-const HASH_START: u64 = 0xcbf2_9ce4_8422_2325;
+pub(crate) const HASH_START: u64 = 0xcbf2_9ce4_8422_2325;
 
 /// The words of the values, in order.
 pub(crate) fn words_of(alloc: Global, slots: &[Slot], words: &[u64]) -> Result<Vec<u64>, AllocError>
