@@ -143,12 +143,12 @@ pub fn lowest(a: u64) -> Option<u32>
     Some(a.trailing_zeros())
 }
 
-/// A set without its first member.
+/// A set without its first member: the lowest bit is the one that a subtraction of 1 takes away, with no other above it.
 #[inline(always)]
 pub fn without_lowest(a: u64, first: u32) -> u64
     requires first { Some first ≡ slice_get (members_of (one_word a)) 0 }
     requires below { first < 64 }
     ensures { members_of (one_word a) ≡ first ∷ members_of (one_word result) }
 {
-    a & !(1 << first)
+    a & (a - 1)
 }
