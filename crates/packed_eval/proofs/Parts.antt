@@ -131,7 +131,7 @@ module _ (m : Model) (s : PlainState) (given : List ℕ) where
       let q : count ≡ count_of m (set_fits m a).0 = k ∙ ap (count_of m) (object_of_not e a p) in
       rw (not_is e a p, h, ← q, t) refl
 
-  object_of_with : (e : sets.SetEx) (n : nums.Num) (a : sets.SetEx) → sets.out-SetEx e ≡ sets.SetEx-F.With n a → (set_fits m e).0 ≡ (set_fits m a).0
+  pub object_of_with : (e : sets.SetEx) (n : nums.Num) (a : sets.SetEx) → sets.out-SetEx e ≡ sets.SetEx-F.With n a → (set_fits m e).0 ≡ (set_fits m a).0
   object_of_with e n a p = rw (sets.fold_out-SetEx ArgRoom RoomTest RoomTest SetRoom arg_room (cond_room m) (num_room m) (set_room m) e, p) refl
 
   with_is : (e : sets.SetEx) (n : nums.Num) (a : sets.SetEx) (z : ℤ) → sets.out-SetEx e ≡ sets.SetEx-F.With n a → num_value m s n given ≡ Ok z → (set_value m s e).1 given ≡ with_in (count_of m (set_fits m a).0) z ((set_value m s a).1 given)
@@ -142,7 +142,7 @@ module _ (m : Model) (s : PlainState) (given : List ℕ) where
       let q : count ≡ count_of m (set_fits m a).0 = k ∙ ap (count_of m) (object_of_with e n a p) in
       rw (with_is e n a z p h, ← q) t
 
-  object_of_without : (e : sets.SetEx) (n : nums.Num) (a : sets.SetEx) → sets.out-SetEx e ≡ sets.SetEx-F.Without n a → (set_fits m e).0 ≡ (set_fits m a).0
+  pub object_of_without : (e : sets.SetEx) (n : nums.Num) (a : sets.SetEx) → sets.out-SetEx e ≡ sets.SetEx-F.Without n a → (set_fits m e).0 ≡ (set_fits m a).0
   object_of_without e n a p = rw (sets.fold_out-SetEx ArgRoom RoomTest RoomTest SetRoom arg_room (cond_room m) (num_room m) (set_room m) e, p) refl
 
   without_is : (e : sets.SetEx) (n : nums.Num) (a : sets.SetEx) (z : ℤ) → sets.out-SetEx e ≡ sets.SetEx-F.Without n a → num_value m s n given ≡ Ok z → (set_value m s e).1 given ≡ without_in (count_of m (set_fits m a).0) z ((set_value m s a).1 given)

@@ -5,13 +5,16 @@ ghost use Rattle.bit_sets.specs.Sets.{members_of};
 ghost use Rattle.dp_model.specs.Evaluation.{count_of, num_value, set_value, cond_value};
 ghost use Rattle.state_layout.specs.Conditions.{IsLayoutOf, IsPackedFor};
 ghost use Rattle.state_layout.specs.Signatures.{word_count};
-ghost use Rattle.eval_room.specs.Fits.{num_fits, set_fits, cond_fits};
+ghost use Rattle.eval_room.specs.Fits.{num_fits, set_fits, cond_fits, operand_fits};
 ghost use Rattle.packed_words.specs.Operands.{Tells};
+ghost use Rattle.packed_words.specs.Sets.{IsClean, one_word};
 ghost use Rattle.packed_words.specs.Scenes.{Shows, AreSmall};
 ghost use Rattle.state_layout.specs.Packing.{state_in};
 ghost use Rattle.packed_eval.specs.Scratches.{IsScratchOf, room_of};
 
+use crate::evaluate;
 use crate::evaluate::{holds, number, set_into};
+use crate::quick::quick_set;
 use dp_base::Seq;
 use dp_model::{Cond, FaultKind, Model, Num, SetEx};
 use eval_room::{room_for, set_count};
@@ -182,4 +185,25 @@ pub fn packed_set(
         args: given,
     };
     set_into(&at, e, set_count(model, e), room, x.stack.as_mut_slice())
+}
+
+/// The members of a set, in one word, behind the words that it would be written to. What has few parts needs no stack.
+#[inline(always)]
+pub fn operand_word(
+    at: &Scene<'_>,
+    e: &SetEx,
+    count: u32,
+    stack: &mut [u64],
+) -> Result<u64, FaultKind>
+    requires fits { IsTrue (operand_fits at.now.model.now (set_fits at.now.model.now e.now) (length at.now.args.now) (length stack.old)) }
+    requires count { count ≡ count_of at.now.model.now (set_fits at.now.model.now e.now).0 }
+    requires few { count ≤ 64 }
+    ensures members { Tells (λ w. members_of (one_word w)) result
+        ((set_value at.now.model.now (state_in at.now.words.now) e.now).1 at.now.args.now) }
+    ensures clean { IfOk result (λ w. IsClean count (one_word w)) }
+{
+    match quick_set(at, e, count) {
+        Some(word) => Ok(word),
+        None => evaluate::operand_word(at, e, count, stack),
+    }
 }

@@ -10,5 +10,5 @@ mod quick;
 mod rows;
 mod sums;
 
-pub use calls::{Scratch, packed_cond, packed_num, packed_set, words_of};
-pub use evaluate::{holds, number, operand_word, set_into};
+pub use calls::{Scratch, operand_word, packed_cond, packed_num, packed_set, words_of};
+pub use evaluate::{holds, number, set_into};

@@ -1,6 +1,6 @@
 //! Expressions of few parts, which need no stack: numbers that are written, those of variables and parameters, cells whose
-//! arguments are such, and one operation on two such sets. `None` stands for an expression that has more parts and for a
-//! fault: it is evaluated as any other.
+//! arguments are such, and one operation on such sets, or on such a set and a number. `None` stands for an expression that
+//! has more parts and for a fault: it is evaluated as any other.
 
 ghost use Rattle.std.specs.Prelude.{◌≡◌, ◌≤◌, ◌∷◌, [], ℕ, length, Ok, IfSome, IsTrue};
 ghost use Rattle.bit_sets.specs.Sets.{members_of};
@@ -10,15 +10,15 @@ ghost use Rattle.eval_room.specs.Fits.{num_fits, set_fits, all_fit};
 ghost use Rattle.packed_words.specs.Operands.{at_operands, num_values, is_empty, both_within};
 ghost use Rattle.packed_words.specs.Places.{placed_at};
 ghost use Rattle.packed_words.specs.Sets.{IsClean, one_word};
-ghost use Rattle.packed_eval.specs.Plain.{compared_by};
+ghost use Rattle.packed_eval.specs.Plain.{compared_by, with_by, without_by};
 
 use crate::cells::word_placed;
 use crate::places::{place_of_one, place_of_two};
 use dp_base::Seq;
 use dp_model::{Compare, Num, SetEx};
 use packed_words::{
-    Scene, cell_count, compares, counts, is_empty_word, is_within_word, number_in, number_placed,
-    operate_words, parameter, set_slot, word_of,
+    Scene, cell_count, compares, counts, is_empty_word, is_within_word, member_of, number_in,
+    number_placed, operate_words, parameter, set_slot, word_of, word_with, word_without,
 };
 
 /// The value of a number that is written, a variable's or a parameter's. `None` stands for a number that has parts.
@@ -170,13 +170,46 @@ fn word_held(at: &Scene<'_>, e: &SetEx, count: u32) -> Option<u64>
     }
 }
 
+/// A set of few parts with one member more.
+#[inline(always)]
+fn quick_with(at: &Scene<'_>, n: &Num, a: &SetEx, count: u32) -> Option<u64>
+    requires number { (room : ℕ) × IsTrue (num_fits at.now.model.now n.now (length at.now.args.now) room) }
+    requires fits { (room : ℕ) × IsTrue ((set_fits at.now.model.now a.now).1 (length at.now.args.now) room) }
+    requires count { count ≡ count_of at.now.model.now (set_fits at.now.model.now a.now).0 }
+    requires few { count ≤ 64 }
+    ensures members { IfSome result (λ w. with_by count (num_value at.now.model.now (state_in at.now.words.now) n.now at.now.args.now) ((set_value at.now.model.now (state_in at.now.words.now) a.now).1 at.now.args.now) ≡ Ok (members_of (one_word w))) }
+    ensures clean { IfSome result (λ w. IsClean count (one_word w)) }
+{
+    let z = plain(at, n)?;
+    let word = word_held(at, a, count)?;
+    let member = member_of(count, z).ok()?;
+    Some(word_with(count, word, member))
+}
+
+/// A set of few parts without one member.
+#[inline(always)]
+fn quick_without(at: &Scene<'_>, n: &Num, a: &SetEx, count: u32) -> Option<u64>
+    requires number { (room : ℕ) × IsTrue (num_fits at.now.model.now n.now (length at.now.args.now) room) }
+    requires fits { (room : ℕ) × IsTrue ((set_fits at.now.model.now a.now).1 (length at.now.args.now) room) }
+    requires count { count ≡ count_of at.now.model.now (set_fits at.now.model.now a.now).0 }
+    requires few { count ≤ 64 }
+    ensures members { IfSome result (λ w. without_by count (num_value at.now.model.now (state_in at.now.words.now) n.now at.now.args.now) ((set_value at.now.model.now (state_in at.now.words.now) a.now).1 at.now.args.now) ≡ Ok (members_of (one_word w))) }
+    ensures clean { IfSome result (λ w. IsClean count (one_word w)) }
+{
+    let z = plain(at, n)?;
+    let word = word_held(at, a, count)?;
+    let member = member_of(count, z).ok()?;
+    Some(word_without(count, word, member))
+}
+
 /// A set of few parts, in one word.
 #[inline(always)]
 fn quick_word(at: &Scene<'_>, e: &SetEx, count: u32) -> Option<u64>
     requires fits { (room : ℕ) × IsTrue ((set_fits at.now.model.now e.now).1 (length at.now.args.now) room) }
     requires count { count ≡ count_of at.now.model.now (set_fits at.now.model.now e.now).0 }
     requires few { count ≤ 64 }
-    ensures { IfSome result (λ w. (set_value at.now.model.now (state_in at.now.words.now) e.now).1 at.now.args.now ≡ Ok (members_of (one_word w))) }
+    ensures members { IfSome result (λ w. (set_value at.now.model.now (state_in at.now.words.now) e.now).1 at.now.args.now ≡ Ok (members_of (one_word w))) }
+    ensures clean { IfSome result (λ w. IsClean count (one_word w)) }
 {
     match e {
         SetEx::Op(op, a, b) => {
@@ -184,8 +217,22 @@ fn quick_word(at: &Scene<'_>, e: &SetEx, count: u32) -> Option<u64>
             let y = word_held(at, b.get(), count)?;
             Some(operate_words(*op, count, x, y))
         }
+        SetEx::With(n, a) => quick_with(at, n.get(), a.get(), count),
+        SetEx::Without(n, a) => quick_without(at, n.get(), a.get(), count),
         _ => word_held(at, e, count),
     }
+}
+
+/// The same in one call.
+#[inline(never)]
+pub fn quick_set(at: &Scene<'_>, e: &SetEx, count: u32) -> Option<u64>
+    requires fits { (room : ℕ) × IsTrue ((set_fits at.now.model.now e.now).1 (length at.now.args.now) room) }
+    requires count { count ≡ count_of at.now.model.now (set_fits at.now.model.now e.now).0 }
+    requires few { count ≤ 64 }
+    ensures members { IfSome result (λ w. (set_value at.now.model.now (state_in at.now.words.now) e.now).1 at.now.args.now ≡ Ok (members_of (one_word w))) }
+    ensures clean { IfSome result (λ w. IsClean count (one_word w)) }
+{
+    quick_word(at, e, count)
 }
 
 /// Whether a set of few parts has no members.
