@@ -1,6 +1,6 @@
 //! What the effects of a transition make of a state: all are computed in the old state, and take place together.
 
-ghost use Rattle.std.specs.Prelude.{◌≡◌, ◌≤◌, Some, true, Ok, length, IsTrue, IfOk};
+ghost use Rattle.std.specs.Prelude.{◌≡◌, ◌≤◌, Some, true, Ok, length, IsTrue, IfOk, OnOk};
 ghost use Rattle.dp_model.specs.StepTexts.{ground_of};
 ghost use Rattle.dp_model.specs.Evaluation.{kind_of};
 ghost use Rattle.dp_model.specs.declared.parts.Effect.TheVariants as effects;
@@ -152,9 +152,30 @@ fn set_variables(
     Ok(())
 }
 
-/// The state that a ground transition leads to. It is a state of the model again.
+/// Sets what the effects of a ground transition set, in a copy of the state at hand: it becomes the state that the transition
+/// leads to, which is a state of the model again. After a fault some of the variables may be set.
 #[tactic(auto, using(spot_eval::proofs::Limits::few_effects, crate::proofs::Rooms::effects_room))]
 #[inline(always)]
+pub fn set_effects(
+    at: &Scene<'_>,
+    number: u32,
+    transition: &Transition,
+    draft: &mut Draft<'_>,
+    stack: &mut [u64],
+) -> Result<(), SpotFault>
+    requires step { ground_of at.now.model.now number ≡ Some (transition.now, at.now.args.now) }
+    requires slots { draft.old.slots ≡ at.now.slots.now }
+    requires copy { draft.old.state ≡ state_in at.now.words.now }
+    requires packed { IsPackedOf at.now.model.now (state_in at.now.words.now) }
+    requires room { ServesModel at.now.model.now (length stack.old) }
+    ensures next { TellsAt (λ _. draft.new.state) result (next_at at.now.model.now (state_in at.now.words.now) number (transition.now, at.now.args.now)) }
+    ensures packed { OnOk result (IsPackedOf at.now.model.now draft.new.state) }
+{
+    set_variables(at, number, &transition.effects, draft, stack)?;
+    Ok(())
+}
+
+/// The state that a ground transition leads to. It is a state of the model again.
 pub fn next_state(
     alloc: Global,
     layout: &Layout,
@@ -173,6 +194,6 @@ pub fn next_state(
     ensures packed { IfOk result (λ next. IsPackedOf at.now.model.now next) }
 {
     let mut draft = layout.draft(alloc, p)?;
-    set_variables(at, number, &transition.effects, &mut draft, stack)?;
+    set_effects(at, number, transition, &mut draft, stack)?;
     Ok(draft.done())
 }

@@ -10,7 +10,7 @@ mod moves;
 mod tests;
 
 pub use costs::cost_at;
-pub use effects::next_state;
+pub use effects::{next_state, set_effects};
 pub use looks::{allowed, base_cost, floor, look_at};
 pub use moves::{
     first_enabled, in_words, is_enabled, is_enabled_past_first, may_step, number_enabled,

@@ -8,6 +8,7 @@ ghost use Rattle.dp_steps.specs.States.{are_members};
 ghost use Rattle.state_layout.specs.Packing.{state_in};
 ghost use Rattle.packed_words.specs.Scenes.{AreSmall};
 ghost use Rattle.packed_spots.specs.Firsts.{first_holds};
+ghost use Rattle.packed_spots.specs.Values.{in_four};
 ghost use Rattle.eval_room.specs.Needs.{ServesModel};
 ghost use Rattle.spot_eval.specs.Moves.{enabled_at, first_enabled, forced_of, goes_before, is_forced, is_member, may_step_at, number_enabled};
 
@@ -28,11 +29,12 @@ fn value_at(args: &[u32], place: usize) -> u64
     }
 }
 
-/// The values of parameters, each in a word. A transition has no more than four.
+/// The values of parameters, each in a word, and zeros behind them. A transition has no more than four.
 #[tactic(auto, using(crate::proofs::Values::four, crate::proofs::Values::four_small))]
 #[inline(always)]
 pub fn in_words(args: &[u32]) -> [u64; 4]
     requires { length args.now ≤ 4 }
+    ensures words { result ≡ in_four args.now }
     ensures values { take (length args.now) result ≡ args.now }
     ensures small { AreSmall result }
 {
