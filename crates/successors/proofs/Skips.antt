@@ -16,9 +16,10 @@ use Rattle.dp_model.specs.declared.trees.Over.TheVariants.{Object, Members}
 use Rattle.dp_model.specs.declared.whole.Model.{Model}
 use Rattle.dp_steps.specs.States.{are_members}
 use Rattle.packed_spots.specs.Firsts.{first_holds}
+use Rattle.packed_spots.specs.Values.{in_four}
 use Rattle.packed_spots.proofs.Rooms.{params_typed}
 use Rattle.spot_eval.specs.Moves.{number_enabled, others_of}
-use Rattle.successors.specs.Candidates.{first_membership, first_asked, candidate_of}
+use Rattle.successors.specs.Candidates.{first_membership, first_asked, candidate_of, values_asked}
 use Rattle.successors.specs.Searches.{Visit}
 use Rattle.successors.specs.Visits.{with_tested}
 use Rattle.successors.specs.declared.batch.Batch.{Batch}
@@ -101,3 +102,8 @@ candidate_at m candidates i d e less = by (get_or candidates i d) (ap (λ (cs : 
   where
     by : (c : Candidate) → c ≡ candidate_of m (get_or (others_of m) i 0) → c ≡ candidate_of m c.number
     by c same = same ∙ ap (λ (x : Candidate). candidate_of m x.number) (sym same)
+
+-- ---- the values of a candidate's parameters
+
+pub values_are : (m : Model) (c : Candidate) (t : Transition) (given : List ℕ) → c ≡ candidate_of m c.number → ground_of m c.number ≡ Some (t, given) → c.values ≡ in_four given
+values_are m c t given e there = ap (λ (x : Candidate). x.values) e ∙ ap values_asked there

@@ -18,6 +18,7 @@ ghost use Rattle.successors.specs.Visits.{expansion};
 use crate::batch::Batch;
 use crate::candidates::{Candidate, candidates_of};
 use crate::ends::ExpandEnd;
+use crate::spares::Spares;
 use crate::starts::Start;
 use crate::visits::{Visitor, words_of};
 use cost_laws::CostLaw;
@@ -56,7 +57,7 @@ pub struct Expander<'m, L: CostLaw> {
     forced: Vec<u32>,
     others: Vec<Candidate>,
     stack: Vec<u64>,
-    spare: Vec<NodeBox>,
+    spares: Spares,
     law: PhantomData<L>,
 }
 
@@ -98,7 +99,7 @@ impl<'m, L: CostLaw> Expander<'m, L> {
             forced: spot_eval::forced_of(alloc, model)?,
             others: candidates_of(alloc, model)?,
             stack: stack_for(alloc, model)?,
-            spare: Vec::new(alloc),
+            spares: Spares::new(alloc),
             law: PhantomData,
         })
     }
@@ -227,15 +228,17 @@ impl<'m, L: CostLaw> Expander<'m, L> {
             &self.others,
             batch,
             &mut self.stack,
-            &mut self.spare,
+            &mut self.spares,
         )
     }
 
-    /// Takes a box whose node is no longer needed, to fill it again. Where there is no memory to keep it, it is let go.
+    /// Takes a box whose node is no longer needed, to fill it again. Where as many are kept as were asked for anew, or there is no
+    /// memory to keep it, it is let go.
+    #[inline(always)]
     pub fn give_back(&mut self, held: NodeBox)
         ensures { self.new ≡ self.old }
     {
-        let _kept = self.spare.push(held);
+        self.spares.give_back(held);
     }
 
     /// The successors of an inner node, which is visited under this step. The batch is emptied first, and filled in order

@@ -20,16 +20,16 @@ ghost use Rattle.successors.specs.Candidates.{candidate_of};
 ghost use Rattle.successors.specs.Visits.{expansion, is_pruned, with_next, with_node, with_number, with_successor, with_tested};
 
 use crate::batch::{Batch, Offer};
-use crate::candidates::Candidate;
+use crate::candidates::{Candidate, words_given};
 use crate::ends::ExpandEnd;
-use crate::spares::boxed;
+use crate::spares::Spares;
 use cost_laws::CostLaw;
 use dp_model::{Model as DpModel, Spot, Transition};
 use packed_spots::in_words;
 use packed_words::{Scene, Tables, has_in};
 use path_log::StepId;
 use spot_eval::{Look, SpotEnd};
-use state_layout::{Layout, Node, NodeBox, Packed};
+use state_layout::{Layout, Node, Packed};
 use std::alloc::{AllocError, Global};
 use std::marker::{Model, PhantomData};
 
@@ -138,7 +138,7 @@ impl<'a, L: CostLaw> Visitor<'a, L> {
         next: Packed,
         floor: Option<i64>,
         batch: &mut Batch,
-        spare: &mut Vec<NodeBox>,
+        spares: &mut Spares,
     ) -> Result<(), AllocError>
         requires state { IsPackedOf self.now.model next }
         requires cost { IfSome cost InRange }
@@ -157,7 +157,7 @@ impl<'a, L: CostLaw> Visitor<'a, L> {
         if self.is_pruned(floor) {
             batch.pruned.list_mut().push(node)?;
         } else {
-            let letter = boxed(alloc, spare, node)?;
+            let letter = spares.boxed(alloc, node)?;
             batch.letters.list_mut().push(letter)?;
         }
         Ok(())
@@ -174,7 +174,7 @@ impl<'a, L: CostLaw> Visitor<'a, L> {
         next: Packed,
         batch: &mut Batch,
         stack: &mut [u64],
-        spare: &mut Vec<NodeBox>,
+        spares: &mut Spares,
     ) -> Result<(), SpotEnd>
         requires state { IsPackedOf self.now.model next }
         requires cost { IfSome cost InRange }
@@ -195,7 +195,7 @@ impl<'a, L: CostLaw> Visitor<'a, L> {
                     transition: number,
                 })?;
             }
-            Look::Open(floor) => self.push_node(alloc, number, cost, next, floor, batch, spare)?,
+            Look::Open(floor) => self.push_node(alloc, number, cost, next, floor, batch, spares)?,
         }
         Ok(())
     }
@@ -210,7 +210,7 @@ impl<'a, L: CostLaw> Visitor<'a, L> {
         next: Packed,
         batch: &mut Batch,
         stack: &mut [u64],
-        spare: &mut Vec<NodeBox>,
+        spares: &mut Spares,
     ) -> Result<(), ExpandEnd>
         requires state { IsPackedOf self.now.model next }
         requires cost { IfSome cost InRange }
@@ -221,7 +221,7 @@ impl<'a, L: CostLaw> Visitor<'a, L> {
         ensures fits { OnOk result (BatchFits self.now.model batch.new) }
         ensures few { OnOk result (batch.new.not_allowed ≤ batch.old.not_allowed + 1) }
     {
-        match self.push_look(alloc, number, cost, next, batch, stack, spare) {
+        match self.push_look(alloc, number, cost, next, batch, stack, spares) {
             Ok(()) => Ok(()),
             Err(SpotEnd::Fault(met)) => Err(ExpandEnd::Fault {
                 spot: met.spot,
@@ -242,7 +242,7 @@ impl<'a, L: CostLaw> Visitor<'a, L> {
         transition: &Transition,
         batch: &mut Batch,
         stack: &mut [u64],
-        spare: &mut Vec<NodeBox>,
+        spares: &mut Spares,
     ) -> Result<(), ExpandEnd>
         requires model { at.now.model.now ≡ self.now.model }
         requires state { state_in at.now.words.now ≡ self.now.visit.state }
@@ -255,16 +255,10 @@ impl<'a, L: CostLaw> Visitor<'a, L> {
         ensures few { OnOk result (batch.new.not_allowed ≤ batch.old.not_allowed + 1) }
     {
         let cost = packed_spots::cost_at::<L>(at, number, transition, self.cost, stack)?;
-        let next = packed_spots::next_state(
-            alloc,
-            self.layout,
-            at,
-            self.state,
-            number,
-            transition,
-            stack,
-        )?;
-        self.push_next(alloc, number, cost, next, batch, stack, spare)
+        let mut draft = self.layout.no_draft(alloc);
+        self.layout.start_draft(alloc, &mut draft, self.state)?;
+        packed_spots::set_effects(at, number, transition, &mut draft, stack)?;
+        self.push_next(alloc, number, cost, draft.done(), batch, stack, spares)
     }
 
     /// Adds the successor that an enabled ground transition makes.
@@ -277,7 +271,7 @@ impl<'a, L: CostLaw> Visitor<'a, L> {
         number: u32,
         batch: &mut Batch,
         stack: &mut [u64],
-        spare: &mut Vec<NodeBox>,
+        spares: &mut Spares,
     ) -> Result<(), ExpandEnd>
         requires model { at.now.model.now ≡ self.now.model }
         requires state { state_in at.now.words.now ≡ self.now.visit.state }
@@ -299,45 +293,46 @@ impl<'a, L: CostLaw> Visitor<'a, L> {
             words: at.words,
             args: &given[..args.list().len()],
         };
-        self.push_successor(alloc, &there, number, transition, batch, stack, spare)
+        self.push_successor(alloc, &there, number, transition, batch, stack, spares)
     }
 
     /// Adds the successor that a ground transition makes which is not forced, if it is enabled. Its first
     /// membership is known to hold, where it has one.
     #[inline(always)]
-    #[tactic(auto, using(packed_spots::proofs::Rooms::few_values, packed_spots::proofs::Values::front_small))]
+    #[tactic(auto, using(packed_spots::proofs::Rooms::few_values, crate::proofs::Skips::values_are))]
     fn push_tested(
         &self,
         alloc: Global,
         at: &Scene<'_>,
-        number: u32,
+        candidate: &Candidate,
         batch: &mut Batch,
         stack: &mut [u64],
-        spare: &mut Vec<NodeBox>,
+        spares: &mut Spares,
     ) -> Result<(), ExpandEnd>
         requires model { at.now.model.now ≡ self.now.model }
         requires state { state_in at.now.words.now ≡ self.now.visit.state }
-        requires first { (t : Transition × List ℕ) → ground_of self.now.model number ≡ Some t → first_holds self.now.visit.state t.0.params t.1 ≡ true }
+        requires candidate { candidate.now ≡ candidate_of self.now.model candidate.now.number }
+        requires first { (t : Transition × List ℕ) → ground_of self.now.model candidate.now.number ≡ Some t → first_holds self.now.visit.state t.0.params t.1 ≡ true }
         requires room { ServesModel self.now.model (length stack.old) }
         requires fits { BatchFits self.now.model batch.old }
         requires few { batch.old.not_allowed < 65536 }
-        ensures batch { AnswersBy (λ _. batch.new) result (with_tested self.now.model self.now.visit batch.old number) }
+        ensures batch { AnswersBy (λ _. batch.new) result (with_tested self.now.model self.now.visit batch.old candidate.now.number) }
         ensures fits { OnOk result (BatchFits self.now.model batch.new) }
         ensures few { OnOk result (batch.new.not_allowed ≤ batch.old.not_allowed + 1) }
     {
+        let number = candidate.number;
         let Some((transition, args)) = at.model.step(number) else {
             return Ok(());
         };
-        let given = in_words(args.list());
         let there = Scene {
             model: at.model,
             tables: at.tables,
             slots: at.slots,
             words: at.words,
-            args: &given[..args.list().len()],
+            args: words_given(candidate, args.list()),
         };
         if packed_spots::is_enabled_past_first(&there, number, transition, stack)? {
-            self.push_successor(alloc, &there, number, transition, batch, stack, spare)
+            self.push_successor(alloc, &there, number, transition, batch, stack, spares)
         } else {
             Ok(())
         }
@@ -351,25 +346,25 @@ impl<'a, L: CostLaw> Visitor<'a, L> {
         &self,
         alloc: Global,
         at: &Scene<'_>,
-        candidate: Candidate,
+        candidate: &Candidate,
         batch: &mut Batch,
         stack: &mut [u64],
-        spare: &mut Vec<NodeBox>,
+        spares: &mut Spares,
     ) -> Result<(), ExpandEnd>
         requires model { at.now.model.now ≡ self.now.model }
         requires state { state_in at.now.words.now ≡ self.now.visit.state }
-        requires candidate { candidate ≡ candidate_of self.now.model candidate.number }
+        requires candidate { candidate.now ≡ candidate_of self.now.model candidate.now.number }
         requires room { ServesModel self.now.model (length stack.old) }
         requires fits { BatchFits self.now.model batch.old }
         requires few { batch.old.not_allowed < 65536 }
-        ensures batch { AnswersBy (λ _. batch.new) result (with_tested self.now.model self.now.visit batch.old candidate.number) }
+        ensures batch { AnswersBy (λ _. batch.new) result (with_tested self.now.model self.now.visit batch.old candidate.now.number) }
         ensures fits { OnOk result (BatchFits self.now.model batch.new) }
         ensures few { OnOk result (batch.new.not_allowed ≤ batch.old.not_allowed + 1) }
     {
-        if is_out(at, candidate) {
+        if is_out(at, *candidate) {
             return Ok(());
         }
-        self.push_tested(alloc, at, candidate.number, batch, stack, spare)
+        self.push_tested(alloc, at, candidate, batch, stack, spares)
     }
 
     /// Adds the successors that these candidates make, where no forced transition is enabled.
@@ -381,7 +376,7 @@ impl<'a, L: CostLaw> Visitor<'a, L> {
         candidates: &[Candidate],
         batch: &mut Batch,
         stack: &mut [u64],
-        spare: &mut Vec<NodeBox>,
+        spares: &mut Spares,
     ) -> Result<(), ExpandEnd>
         requires room { ServesModel self.now.model (length stack.old) }
         requires model { at.now.model.now ≡ self.now.model }
@@ -393,7 +388,7 @@ impl<'a, L: CostLaw> Visitor<'a, L> {
         ensures fits { OnOk result (BatchFits self.now.model batch.new) }
     {
         for candidate in candidates {
-            self.push_candidate(alloc, at, *candidate, batch, stack, spare)?;
+            self.push_candidate(alloc, at, candidate, batch, stack, spares)?;
         }
         Ok(())
     }
@@ -408,7 +403,7 @@ impl<'a, L: CostLaw> Visitor<'a, L> {
         others: &[Candidate],
         batch: &mut Batch,
         stack: &mut [u64],
-        spare: &mut Vec<NodeBox>,
+        spares: &mut Spares,
     ) -> Result<(), ExpandEnd>
         requires room { ServesModel self.now.model (length stack.old) }
         requires forced { forced.now ≡ forced_of self.now.model }
@@ -419,10 +414,10 @@ impl<'a, L: CostLaw> Visitor<'a, L> {
     {
         let at = scene(self.model, self.tables, self.layout, self.state, &[]);
         match packed_spots::first_enabled(&at, forced, stack)? {
-            Some(number) => self.push_number(alloc, &at, number, batch, stack, spare),
+            Some(number) => self.push_number(alloc, &at, number, batch, stack, spares),
             None => {
                 let visited = at;
-                self.push_each(alloc, &visited, others, batch, stack, spare)
+                self.push_each(alloc, &visited, others, batch, stack, spares)
             }
         }
     }
