@@ -18,15 +18,16 @@ use Rattle.dp_claims.specs.Enough.{Has}
 use Rattle.dp_model.specs.declared.parts.JoinOp.{JoinOp}
 use Rattle.state_layout.specs.declared.layout.Layout.{Layout}
 use Rattle.state_layout.specs.declared.node.Node.{Node}
-use Rattle.dom_store.specs.Chains.{chain_from}
+use Rattle.dom_store.specs.Chains.{chain_from, bucket_of, head_in, has_key, row_in}
 use Rattle.dom_store.specs.Covering.{covers, key_of, KeepsKey}
 use Rattle.dom_store.specs.Glances.{IsGlanceOf, may_cover, ShowsAtGlance}
 use Rattle.dom_store.specs.Places.{nodes_of, without, cleared, StandsAt, AreGlanced}
 use Rattle.dom_store.specs.Stairs.{IsRising, AreWithin, NoneCovers, NoneCovered, HasStep, AreSteps}
+use Rattle.dom_store.specs.declared.chains.Link.{Link}
 use Rattle.dom_store.specs.declared.glance.Glance.{Glance}
 use Rattle.dom_store.specs.declared.stairs.Step.{Step}
 use Rattle.dom_store.proofs.Filing.{set_stands}
-use Rattle.dom_store.proofs.Members.{has_none, has_cases}
+use Rattle.dom_store.proofs.Members.{has_none, has_cases, has_filtered}
 use Rattle.dom_store.proofs.Rows.{twice, all_cleared, some_place}
 
 -- ---- the greatest word and merit tell of all steps
@@ -302,6 +303,10 @@ same_glance minimize operator layout n g h a b =
 same_step : (m n : ℤ) (p q : ℕ) → m ≡ n → p ≡ q → ◌≡◌ {A = Option Step} (Some (record { merit = m; place = p })) (Some (record { merit = n; place = q }))
 same_step m n p q a b = rw (a, b) refl
 
+-- the places of a key have it
+pub of_row : (heads : List ℕ) (links : List Link) (key p : ℕ) → Has (row_in heads links key) p → has_key links key p ≡ true
+of_row heads links key p there = (has_filtered (has_key links key) (chain_from links (head_in (length links) heads (bucket_of (length heads) key))) p there).1
+
 module _ (prune minimize : Bool) (operator : JoinOp) (layout : Layout) where
   -- no row has steps
   pub no_steps : (row : Option ℕ) (steps : BTreeMap ℕ Step) (places : List (Option Node)) → row ≡ None → AreSteps prune minimize operator layout row steps places
@@ -344,29 +349,29 @@ module _ (prune minimize : Bool) (operator : JoinOp) (layout : Layout) where
       (p : ℕ) (n : Node) (g : Glance) → StandsAt places p n → key ≡ key_of prune layout n → IsGlanceOf minimize operator layout n g
       → Has list p ⊎ (get nat_cmp steps g.word ≡ Some (record { merit = g.merit; place = p }))
 
-  pub left_next : (key : ℕ) (steps new : BTreeMap ℕ Step) (places : List (Option Node)) (glances : List Glance) (older : List ℕ) (o next : Option ℕ) (place : ℕ) → AreGlanced minimize operator layout places glances → AreLeft key steps places (chain_from older o)
-      → o ≡ Some place → chain_from older (Some place) ≡ place ∷ chain_from older next
-      → ((n : Node) (g : Glance) → StandsAt places place n → slice_get glances place ≡ Some g → HasStep steps new g place)
-      → ((w : ℕ) (s : Step) → get nat_cmp steps w ≡ Some s → get nat_cmp new w ≡ Some s) → AreLeft key new places (chain_from older next)
-  left_next key steps new places glances older o next place all h here is has others = λ p n g stands key_is of_node. by p n g stands of_node (h p n g stands key_is of_node)
+  pub left_next : (key : ℕ) (steps new : BTreeMap ℕ Step) (places : List (Option Node)) (glances : List Glance) (links : List Link) (o next : Option ℕ) (place : ℕ) → AreGlanced minimize operator layout places glances → AreLeft key steps places (chain_from links o)
+      → o ≡ Some place → chain_from links (Some place) ≡ place ∷ chain_from links next
+      → ((n : Node) (g : Glance) → StandsAt places place n → key ≡ key_of prune layout n → slice_get glances place ≡ Some g → HasStep steps new g place)
+      → ((w : ℕ) (s : Step) → get nat_cmp steps w ≡ Some s → get nat_cmp new w ≡ Some s) → AreLeft key new places (chain_from links next)
+  left_next key steps new places glances links o next place all h here is has others = λ p n g stands key_is of_node. by p n g stands key_is of_node (h p n g stands key_is of_node)
     where
-      at : (p : ℕ) (n : Node) (g : Glance) → StandsAt places p n → IsGlanceOf minimize operator layout n g → (place ≡ p) ⊎ Has (chain_from older next) p → Has (chain_from older next) p ⊎ (get nat_cmp new g.word ≡ Some (record { merit = g.merit; place = p }))
-      at p n g stands of_node (inl e) =
+      at : (p : ℕ) (n : Node) (g : Glance) → StandsAt places p n → key ≡ key_of prune layout n → IsGlanceOf minimize operator layout n g → (place ≡ p) ⊎ Has (chain_from links next) p → Has (chain_from links next) p ⊎ (get nat_cmp new g.word ≡ Some (record { merit = g.merit; place = p }))
+      at p n g stands key_is of_node (inl e) =
           let glance = all p n stands in
           let eq = same_glance minimize operator layout n g glance.0 of_node glance.2 in
-          let step = (has n glance.0 (subst (λ q. StandsAt places q n) (sym e) stands) (ap (slice_get glances) e ∙ glance.1)).0 in
+          let step = (has n glance.0 (subst (λ q. StandsAt places q n) (sym e) stands) key_is (ap (slice_get glances) e ∙ glance.1)).0 in
           inr (ap (get nat_cmp new) eq.0 ∙ step ∙ same_step glance.0.merit g.merit place p (sym eq.1) e)
-      at p n g stands of_node (inr r) = inl r
+      at p n g stands key_is of_node (inr r) = inl r
 
-      by : (p : ℕ) (n : Node) (g : Glance) → StandsAt places p n → IsGlanceOf minimize operator layout n g → Has (chain_from older o) p ⊎ (get nat_cmp steps g.word ≡ Some (record { merit = g.merit; place = p })) → Has (chain_from older next) p ⊎ (get nat_cmp new g.word ≡ Some (record { merit = g.merit; place = p }))
-      by p n g stands of_node (inl there) = at p n g stands of_node (has_cases place (chain_from older next) p (subst (λ (ps : List ℕ). Has ps p) (ap (chain_from older) here ∙ is) there))
-      by p n g stands of_node (inr s) = inr (others g.word (record { merit = g.merit; place = p }) s)
+      by : (p : ℕ) (n : Node) (g : Glance) → StandsAt places p n → key ≡ key_of prune layout n → IsGlanceOf minimize operator layout n g → Has (chain_from links o) p ⊎ (get nat_cmp steps g.word ≡ Some (record { merit = g.merit; place = p })) → Has (chain_from links next) p ⊎ (get nat_cmp new g.word ≡ Some (record { merit = g.merit; place = p }))
+      by p n g stands key_is of_node (inl there) = at p n g stands key_is of_node (has_cases place (chain_from links next) p (subst (λ (ps : List ℕ). Has ps p) (ap (chain_from links) here ∙ is) there))
+      by p n g stands key_is of_node (inr s) = inr (others g.word (record { merit = g.merit; place = p }) s)
 
-  pub all_steps : (key : ℕ) (row : Option ℕ) (steps new : BTreeMap ℕ Step) (places : List (Option Node)) (older : List ℕ) (o : Option ℕ) → AreLeft key steps places (chain_from older o) → o ≡ None → row ≡ Some key → new ≡ steps → AreSteps prune minimize operator layout row new places
-  all_steps key row steps new places older o h ends on same = λ p n g stands of_row of_node.
+  pub all_steps : (key : ℕ) (row : Option ℕ) (steps new : BTreeMap ℕ Step) (places : List (Option Node)) (links : List Link) (o : Option ℕ) → AreLeft key steps places (chain_from links o) → o ≡ None → row ≡ Some key → new ≡ steps → AreSteps prune minimize operator layout row new places
+  all_steps key row steps new places links o h ends on same = λ p n g stands of_row of_node.
       let keys : Some key ≡ Some (key_of prune layout n) = sym on ∙ of_row in
       by p n g (h p n g stands (cc) of_node)
     where
-      by : (p : ℕ) (n : Node) (g : Glance) → Has (chain_from older o) p ⊎ (get nat_cmp steps g.word ≡ Some (record { merit = g.merit; place = p })) → get nat_cmp new g.word ≡ Some (record { merit = g.merit; place = p })
-      by p n g (inl there) = absurd (has_none p (subst (λ (ps : List ℕ). Has ps p) (ap (chain_from older) ends) there))
+      by : (p : ℕ) (n : Node) (g : Glance) → Has (chain_from links o) p ⊎ (get nat_cmp steps g.word ≡ Some (record { merit = g.merit; place = p })) → get nat_cmp new g.word ≡ Some (record { merit = g.merit; place = p })
+      by p n g (inl there) = absurd (has_none p (subst (λ (ps : List ℕ). Has ps p) (ap (chain_from links) ends) there))
       by p n g (inr s) = ap (λ (m : BTreeMap ℕ Step). get nat_cmp m g.word) same ∙ s

@@ -1,6 +1,5 @@
 -- How a store stays filed: a node is put at a new place, which its row gets.
 use Rattle.std.proofs.Common.{◌≡◌, ℕ, zero, suc, ◌<◌, ◌⊎◌, inl, inr, Bool, true, false, not, List, [], ◌∷◌, ◌++◌, length, set, map, fold, Option, Some, None, refl, sym, ap, ◌∙◌, subst, arith}
-use Rattle.std.specs.Prelude.{nat_eq}
 use Rattle.std.specs.List.{slice_get, filter}
 use Rattle.std.proofs.Math.ListN.{length-set}
 use Rattle.dp_claims.specs.Enough.{Has}
@@ -8,7 +7,6 @@ use Rattle.state_layout.specs.Conditions.{IsNodeFor}
 use Rattle.state_layout.specs.declared.layout.Layout.{Layout}
 use Rattle.state_layout.specs.declared.node.Node.{Node}
 use Rattle.dom_store.specs.Places.{nodes_of, node_at, without, cleared, StandsAt, AreFiled, KeepsRows}
-use Rattle.dom_store.proofs.Members.{has_more}
 use Rattle.dom_store.proofs.Rows.{all_cleared, nodes_without}
 
 -- ---- a place is added at the end, without a node
@@ -165,6 +163,14 @@ module _ (test : Node → Bool) (places new : List (Option Node)) (list : List �
 
   pub kept_stands : (p : ℕ) (n : Node) → StandsAt new p n → ((p ≡ length places) × (node ≡ n)) ⊎ StandsAt places p n
   kept_stands p n stands = put_stands test places list node p n (rw put.is at stands)
+
+  -- so it is the node, or stood there before
+  pub kept_stood : (p : ℕ) (n : Node) → StandsAt new p n → StandsAt places p n ⊎ (node ≡ n)
+  kept_stood p n stands = by (kept_stands p n stands)
+    where
+      by : ((p ≡ length places) × (node ≡ n)) ⊎ StandsAt places p n → StandsAt places p n ⊎ (node ≡ n)
+      by (inl e) = inr e.1
+      by (inr r) = inl r
 
   pub kept_length : length new ≡ length (places ++ None ∷ [])
   kept_length = ap length put.is

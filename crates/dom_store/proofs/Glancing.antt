@@ -5,12 +5,15 @@ use Rattle.dp_model.specs.declared.parts.JoinOp.{JoinOp}
 use Rattle.state_layout.specs.declared.layout.Layout.{Layout}
 use Rattle.state_layout.specs.declared.node.Node.{Node}
 use Rattle.dom_store.specs.Chains.{chain_from, bucket_of, head_in, has_key, row_in}
-use Rattle.dom_store.specs.Covering.{covers, key_of, KeepsKey}
+use Rattle.dom_store.specs.Covering.{covers, replaces, key_of, KeepsKey}
 use Rattle.dom_store.specs.Glances.{IsGlanceOf, may_cover, may_cover_at, may_be_covered_at, passes_glance, ShowsAtGlance}
+use Rattle.dom_store.specs.Laws.{covers_at_glance}
 use Rattle.dom_store.specs.Places.{passes, node_at, StandsAt, AreFiled, IsGlancedAt, AreGlanced}
+use Rattle.dom_store.specs.declared.chains.Link.{Link}
 use Rattle.dom_store.specs.declared.glance.Glance.{Glance}
 use Rattle.dom_store.proofs.Filing.{none_stands}
 use Rattle.dom_store.proofs.Members.{has_filtered}
+use Rattle.dom_store.proofs.Rows.{node_there}
 
 get_front : {A : Type 0} (xs ys : List A) (p : ℕ) (x : A) → slice_get xs p ≡ Some x → slice_get (xs ++ ys) p ≡ Some x
 get_front [] ys p x h = absurd (cc)
@@ -31,6 +34,12 @@ fails_at test (x ∷ places) (suc p) h = fails_at test places p h
 
 shown : (test : Glance → Bool) (glances : List Glance) (p : ℕ) (g : Glance) → slice_get glances p ≡ Some g → passes_glance test (slice_get glances p) ≡ false → test g ≡ false
 shown test glances p g h f = let e : passes_glance test (Some g) ≡ false = rw h at f in e
+
+shown_true : (test : Glance → Bool) (glances : List Glance) (p : ℕ) (g : Glance) → slice_get glances p ≡ Some g → passes_glance test (slice_get glances p) ≡ true → test g ≡ true
+shown_true test glances p g h t = let e : passes_glance test (Some g) ≡ true = rw h at t in e
+
+passes_here : (test : Node → Bool) (places : List (Option Node)) (p : ℕ) (n : Node) → StandsAt places p n → passes test (node_at places p) ≡ test n
+passes_here test places p n stands = ap (passes test) (node_there places p n stands)
 
 not_covered : (b c : Bool) → (b ≡ true → c ≡ true) → c ≡ false → b ≡ false
 not_covered true c h f = let e = h refl in absurd (cc)
@@ -56,24 +65,35 @@ module _ (prune minimize : Bool) (operator : JoinOp) (shows : ShowsAtGlance prun
           not_covered (covers prune minimize operator layout node n) (may_cover g at.0) (λ c. shows layout node n g at.0 of_node at.2 c)
           (shown (λ held. may_cover g held) glances p at.0 at.1 fails)
 
+  -- where the glances do not show it the states decide
+  pub held_decides : (answer : Bool) (held : Node) → StandsAt places p held → may_cover_at glances p g ≡ true → answer ≡ replaces prune layout held.state node.state → answer ≡ passes (λ held. covers prune minimize operator layout held node) (node_at places p)
+  held_decides answer held stands may test =
+      let at = all p held stands in
+      covers_at_glance prune minimize operator layout held node at.0 g answer at.2 of_node (shown_true (λ held. may_cover held g) glances p at.0 at.1 may) test ∙ sym (passes_here (λ held. covers prune minimize operator layout held node) places p held stands)
+
+  pub other_decides : (answer : Bool) (held : Node) → StandsAt places p held → may_be_covered_at glances p g ≡ true → answer ≡ replaces prune layout node.state held.state → answer ≡ passes (λ held. covers prune minimize operator layout node held) (node_at places p)
+  other_decides answer held stands may test =
+      let at = all p held stands in
+      covers_at_glance prune minimize operator layout node held g at.0 answer of_node at.2 (shown_true (λ held. may_cover g held) glances p at.0 at.1 may) test ∙ sym (passes_here (λ held. covers prune minimize operator layout node held) places p held stands)
+
 -- ---- a place of another key
 
-module _ (prune minimize : Bool) (operator : JoinOp) (one : KeepsKey prune minimize operator) (layout : Layout) (heads older keys : List ℕ) (places : List (Option Node)) (h : AreFiled (key_of prune layout) layout (row_in heads older keys) places)
+module _ (prune minimize : Bool) (operator : JoinOp) (one : KeepsKey prune minimize operator) (layout : Layout) (heads : List ℕ) (links : List Link) (places : List (Option Node)) (h : AreFiled (key_of prune layout) layout (row_in heads links) places)
     (node : Node) (key : ℕ) (is : key ≡ key_of prune layout node) (p : ℕ) where
-  same_key : (n : Node) → StandsAt places p n → key_of prune layout n ≡ key → has_key keys key p ≡ true
+  same_key : (n : Node) → StandsAt places p n → key_of prune layout n ≡ key → has_key links key p ≡ true
   same_key n stands e =
-      subst (λ k. has_key keys k p ≡ true) e
-      (has_filtered (has_key keys (key_of prune layout n)) (chain_from older (head_in (length older) heads (bucket_of (length heads) (key_of prune layout n)))) p (h.filed p n stands)).1
+      subst (λ k. has_key links k p ≡ true) e
+      (has_filtered (has_key links (key_of prune layout n)) (chain_from links (head_in (length links) heads (bucket_of (length heads) (key_of prune layout n)))) p (h.filed p n stands)).1
 
-  pub held_apart : has_key keys key p ≡ false → false ≡ passes (λ held. covers prune minimize operator layout held node) (node_at places p)
+  pub held_apart : has_key links key p ≡ false → false ≡ passes (λ held. covers prune minimize operator layout held node) (node_at places p)
   held_apart off =
       sym (fails_at (λ held. covers prune minimize operator layout held node) places p
-      (λ n stands. not_covered (covers prune minimize operator layout n node) (has_key keys key p) (λ t. same_key n stands (one layout n node t ∙ sym is)) off))
+      (λ n stands. not_covered (covers prune minimize operator layout n node) (has_key links key p) (λ t. same_key n stands (one layout n node t ∙ sym is)) off))
 
-  pub other_apart : has_key keys key p ≡ false → false ≡ passes (λ held. covers prune minimize operator layout node held) (node_at places p)
+  pub other_apart : has_key links key p ≡ false → false ≡ passes (λ held. covers prune minimize operator layout node held) (node_at places p)
   other_apart off =
       sym (fails_at (λ held. covers prune minimize operator layout node held) places p
-      (λ n stands. not_covered (covers prune minimize operator layout node n) (has_key keys key p) (λ t. same_key n stands (sym (one layout node n t) ∙ sym is)) off))
+      (λ n stands. not_covered (covers prune minimize operator layout node n) (has_key links key p) (λ t. same_key n stands (sym (one layout node n t) ∙ sym is)) off))
 
 -- ---- a place is opened
 

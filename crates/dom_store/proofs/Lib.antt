@@ -14,3 +14,4 @@ pub mod Sweeping
 pub mod Reading
 pub mod Remembering
 pub mod Climbing
+pub mod Indexing

@@ -7,6 +7,7 @@ use Rattle.state_layout.specs.declared.node.Node.{Node}
 use Rattle.dp_claims.specs.Enough.{Has}
 use Rattle.dom_store.specs.Chains.{chain_from}
 use Rattle.dom_store.specs.Places.{nodes_of, passes, node_at, without, cleared, StandsAt}
+use Rattle.dom_store.specs.declared.chains.Link.{Link}
 
 -- a place that was read has its node
 pub read_there : (places : List (Option Node)) (p : ℕ) (x : Option Node) (n : Node) → p < length places → x ≡ get_or places p x → x ≡ Some n → slice_get places p ≡ Some (Some n)
@@ -193,10 +194,10 @@ put_count test places new row p gone n h is counted = omega (arith, filled_count
 
 -- ---- a walk along a chain
 
-pub cleared_next : (test : Node → Bool) (older : List ℕ) (places new : List (Option Node)) (o next : Option ℕ) (p : ℕ) → o ≡ Some p → chain_from older (Some p) ≡ p ∷ chain_from older next → new ≡ cleared test places p
-    → fold (cleared test) places (chain_from older o) ≡ fold (cleared test) new (chain_from older next)
-cleared_next test older places new o next p e is put =
-    ap (λ (n : Option ℕ). fold (cleared test) places (chain_from older n)) e ∙ ap (fold (cleared test) places) is ∙ ap (λ (ps : List (Option Node)). fold (cleared test) ps (chain_from older next)) (sym put)
+pub cleared_next : (test : Node → Bool) (links : List Link) (places new : List (Option Node)) (o next : Option ℕ) (p : ℕ) → o ≡ Some p → chain_from links (Some p) ≡ p ∷ chain_from links next → new ≡ cleared test places p
+    → fold (cleared test) places (chain_from links o) ≡ fold (cleared test) new (chain_from links next)
+cleared_next test links places new o next p e is put =
+    ap (λ (n : Option ℕ). fold (cleared test) places (chain_from links n)) e ∙ ap (fold (cleared test) places) is ∙ ap (λ (ps : List (Option Node)). fold (cleared test) ps (chain_from links next)) (sym put)
 
 -- ---- no node passes
 

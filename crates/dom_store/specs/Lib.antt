@@ -8,3 +8,4 @@ pub mod Order
 pub mod Ranking
 pub mod Past
 pub mod Stairs
+pub mod Staircases

@@ -1,83 +1,91 @@
-//! Places by key: a table of buckets, of each of which a chain goes from its newest place to ever older ones.
+//! Places by key: a table of buckets, of each of which a chain goes from its newest place to ever older ones. Key and next older
+//! place of a place are read together, and stand together; numbers of places are held in 32 bits, to make tables small.
 
-ghost use Rattle.std.specs.Prelude.{◌≡◌, ℕ, ◌<◌, ◌+◌, ◌++◌, ◌∷◌, [], length, slice_get, vec_len, vec_capacity, Some, IfSome, OnOk, OnErr};
+ghost use Rattle.std.specs.Prelude.{◌≡◌, ℕ, ◌<◌, ◌≤◌, ◌+◌, ◌^◌, ◌∷◌, [], length, slice_get, vec_len, vec_capacity, Some, IfSome, OnOk, OnErr, unwrap_or};
 ghost use Rattle.dp_claims.specs.Enough.{Has};
-ghost use Rattle.dom_store.specs.Chains.{below, older_at, chain_from, bucket_of, head_in, has_key, row_in, IsLinked};
+ghost use Rattle.dom_store.specs.Chains.{below, named_by, key_in, older_at, chain_from, bucket_of, head_in, has_key, row_in, IsLinked};
 
 use std::alloc::{AllocError, Global};
 
 // what stands in a table where there is no place
-const NONE: usize = usize::MAX;
+const NONE: u32 = u32::MAX;
 
 // how many buckets a table has at first
 const FEW: usize = 16;
 
-/// The newest place of each bucket, beside each place the next older one of its bucket, and the key of each place. A key's
-/// bucket is told by its low bits. There are no more places than buckets, so that most chains are short.
+/// What is held of a place: its key, and the next older place of its bucket.
+#[derive(Clone, Copy)]
+struct Link {
+    key: u64,
+    older: u32,
+}
+
+/// The newest place of each bucket, and the link of each place. A key's bucket is told by its low bits. There are no more places
+/// than buckets, so that most chains are short.
 #[derive(Drop)]
 pub(crate) struct Chains {
-    heads: Vec<usize>,
-    older: Vec<usize>,
-    keys: Vec<u64>,
-    ghost level: { length keys.items ≡ length older.items },
+    heads: Vec<u32>,
+    links: Vec<Link>,
+    ghost few: { length links.items < 2 ^ 32 },
 }
 
 impl Chains {
     /// Chains without places.
     pub(crate) fn new(alloc: Global) -> Chains
-        ensures rows { (key : ℕ) → row_in result.heads.items result.older.items result.keys.items key ≡ [] }
-        ensures len { length result.older.items ≡ 0 }
+        ensures rows { (key : ℕ) → row_in result.heads.items result.links.items key ≡ [] }
+        ensures len { length result.links.items ≡ 0 }
     {
         Chains {
             heads: Vec::new(alloc),
-            older: Vec::new(alloc),
-            keys: Vec::new(alloc),
+            links: Vec::new(alloc),
         }
     }
 
     /// The newest place of the bucket of a key: the places of the key are in the chain from it on.
     pub(crate) fn newest(&self, key: u64) -> Option<usize>
-        ensures { (p : ℕ) → Has (row_in self.now.heads.items self.now.older.items self.now.keys.items key) p → Has (chain_from self.now.older.items result) p }
+        ensures { (p : ℕ) → Has (row_in self.now.heads.items self.now.links.items key) p → Has (chain_from self.now.links.items result) p }
     {
-        below(
+        head_in(
             &self.heads,
             bucket_of(self.heads.len(), key),
-            self.older.len(),
+            self.links.len(),
         )
     }
 
     /// Whether a place has this key.
     pub(crate) fn has(&self, place: usize, key: u64) -> bool
-        ensures { result ≡ has_key self.now.keys.items key place }
+        ensures { result ≡ has_key self.now.links.items key place }
     {
-        match self.keys.get(place) {
-            Some(held) => key == *held,
+        match self.links.get(place) {
+            Some(link) => key == link.key,
             None => false,
         }
     }
 
     /// The next older place of the same bucket.
     pub(crate) fn older(&self, place: usize) -> Option<usize>
-        ensures value { result ≡ older_at self.now.older.items place }
+        ensures value { result ≡ older_at self.now.links.items place }
         ensures below { IfSome result (λ older. older < place) }
-        ensures chain { chain_from self.now.older.items (Some place) ≡ place ∷ chain_from self.now.older.items result }
+        ensures chain { chain_from self.now.links.items (Some place) ≡ place ∷ chain_from self.now.links.items result }
     {
-        below(&self.older, place, place)
+        older_at(&self.links, place)
     }
 
-    /// Puts a new place, the number of those that there are, before the others of its bucket. On `Err` memory ran out, and there is
-    /// no new place.
+    /// Puts a new place, the number of those that there are, before the others of its bucket. On `Err` memory ran out, or there are as
+    /// many places as 32 bits number; there is no new place then.
     #[inline(always)]
     pub(crate) fn push(&mut self, key: u64) -> Result<(), AllocError>
-        ensures left { OnOk result ((p : ℕ) → Has (row_in self.old.heads.items self.old.older.items self.old.keys.items key) p → Has (chain_from self.new.older.items (older_at self.new.older.items (length self.old.older.items))) p) }
-        ensures first { OnOk result (Has (row_in self.new.heads.items self.new.older.items self.new.keys.items key) (length self.old.older.items)) }
-        ensures len { OnOk result (length self.new.older.items ≡ length self.old.older.items + 1) }
-        ensures rows { (k : ℕ) (p : ℕ) → Has (row_in self.old.heads.items self.old.older.items self.old.keys.items k) p → Has (row_in self.new.heads.items self.new.older.items self.new.keys.items k) p }
-        ensures err_len { OnErr result (length self.new.older.items ≡ length self.old.older.items) }
+        ensures left { OnOk result ((p : ℕ) → Has (row_in self.old.heads.items self.old.links.items key) p → Has (chain_from self.new.links.items (older_at self.new.links.items (length self.old.links.items))) p) }
+        ensures first { OnOk result (Has (row_in self.new.heads.items self.new.links.items key) (length self.old.links.items)) }
+        ensures len { OnOk result (length self.new.links.items ≡ length self.old.links.items + 1) }
+        ensures rows { (k : ℕ) (p : ℕ) → Has (row_in self.old.heads.items self.old.links.items k) p → Has (row_in self.new.heads.items self.new.links.items k) p }
+        ensures err_len { OnErr result (length self.new.links.items ≡ length self.old.links.items) }
     {
+        if self.links.len() >= NONE as usize {
+            return Err(AllocError);
+        }
         self.make_room()?;
-        self.older.reserve(1)?;
-        self.keys.reserve(1)?;
+        self.links.reserve(1)?;
         self.push_within(key);
         Ok(())
     }
@@ -86,28 +94,29 @@ impl Chains {
     #[inline(always)]
     fn push_within(&mut self, key: u64)
         requires buckets { 0 < length self.old.heads.items }
-        requires older { vec_len self.old.older < vec_capacity self.old.older }
-        requires keys { vec_len self.old.keys < vec_capacity self.old.keys }
-        ensures keys { self.new.keys.items ≡ self.old.keys.items ++ key ∷ [] }
-        ensures linked { IsLinked self.old.heads.items (self.old.older.items ++ NONE ∷ []) self.new.heads.items self.new.older.items (bucket_of (length self.old.heads.items) key) (length self.old.older.items) }
+        requires room { vec_len self.old.links < vec_capacity self.old.links }
+        requires few { length self.old.links.items < NONE }
+        ensures linked { IsLinked self.old.heads.items self.old.links.items self.new.heads.items self.new.links.items (bucket_of (length self.old.heads.items) key) (length self.old.links.items) }
+        ensures keys { (p : ℕ) → p < length self.old.links.items → key_in self.new.links.items p ≡ key_in self.old.links.items p }
+        ensures key { key_in self.new.links.items (length self.old.links.items) ≡ Some key }
         ensures buckets { length self.new.heads.items ≡ length self.old.heads.items }
-        ensures len { length self.new.older.items ≡ length self.old.older.items + 1 }
+        ensures len { length self.new.links.items ≡ length self.old.links.items + 1 }
     {
-        let place = self.older.len();
-        // there is room, so that neither fails
-        let _ = self.older.push(NONE);
-        let _ = self.keys.push(key);
-        link(&mut self.heads, &mut self.older, place, key);
+        let place = self.links.len() as u32;
+        let bucket = bucket_of(self.heads.len(), key);
+        let older = self.heads[bucket];
+        // there is room, so that it does not fail
+        let _ = self.links.push(Link { key, older });
+        self.heads[bucket] = place;
     }
 
     // twice as many buckets where there are no more than places
     fn make_room(&mut self) -> Result<(), AllocError>
         ensures buckets { OnOk result (0 < length self.new.heads.items) }
-        ensures keys { self.new.keys.items ≡ self.old.keys.items }
-        ensures len { length self.new.older.items ≡ length self.old.older.items }
-        ensures rows { (k : ℕ) (p : ℕ) → Has (row_in self.old.heads.items self.old.older.items self.old.keys.items k) p → Has (row_in self.new.heads.items self.new.older.items self.new.keys.items k) p }
+        ensures len { length self.new.links.items ≡ length self.old.links.items }
+        ensures rows { (k : ℕ) (p : ℕ) → Has (row_in self.old.heads.items self.old.links.items k) p → Has (row_in self.new.heads.items self.new.links.items k) p }
     {
-        if self.older.len() < self.heads.len() {
+        if self.links.len() < self.heads.len() {
             return Ok(());
         }
         self.grow()
@@ -116,49 +125,65 @@ impl Chains {
     #[inline(never)]
     fn grow(&mut self) -> Result<(), AllocError>
         ensures buckets { OnOk result (0 < length self.new.heads.items) }
-        ensures keys { self.new.keys.items ≡ self.old.keys.items }
-        ensures len { length self.new.older.items ≡ length self.old.older.items }
-        ensures rows { (k : ℕ) (p : ℕ) → Has (row_in self.old.heads.items self.old.older.items self.old.keys.items k) p → Has (row_in self.new.heads.items self.new.older.items self.new.keys.items k) p }
+        ensures len { length self.new.links.items ≡ length self.old.links.items }
+        ensures rows { (k : ℕ) (p : ℕ) → Has (row_in self.old.heads.items self.old.links.items k) p → Has (row_in self.new.heads.items self.new.links.items k) p }
     {
         let count = self.heads.len().saturating_mul(2).max(FEW);
         let mut heads = Vec::new(*self.heads.allocator());
         heads.resize(count, NONE)?;
-        link_all(&mut heads, &mut self.older, &self.keys);
+        link_all(&mut heads, &mut self.links);
         self.heads = heads;
         Ok(())
     }
 
     /// Takes the next older place of a place out of their chain.
     pub(crate) fn drop_older(&mut self, place: usize, older: usize)
-        requires within { place < length self.old.older.items }
-        requires older { older_at self.old.older.items place ≡ Some older }
-        ensures rows { (key : ℕ) (p : ℕ) → Has (row_in self.old.heads.items self.old.older.items self.old.keys.items key) p → (p ≡ older → ⊥) → Has (row_in self.new.heads.items self.new.older.items self.new.keys.items key) p }
-        ensures next { older_at self.new.older.items place ≡ older_at self.old.older.items older }
-        ensures left { chain_from self.new.older.items (older_at self.new.older.items place) ≡ chain_from self.old.older.items (older_at self.old.older.items older) }
-        ensures len { length self.new.older.items ≡ length self.old.older.items }
+        requires within { place < length self.old.links.items }
+        requires older { older_at self.old.links.items place ≡ Some older }
+        ensures rows { (key : ℕ) (p : ℕ) → Has (row_in self.old.heads.items self.old.links.items key) p → (p ≡ older → ⊥) → Has (row_in self.new.heads.items self.new.links.items key) p }
+        ensures next { older_at self.new.links.items place ≡ older_at self.old.links.items older }
+        ensures left { chain_from self.new.links.items (older_at self.new.links.items place) ≡ chain_from self.old.links.items (older_at self.old.links.items older) }
+        ensures len { length self.new.links.items ≡ length self.old.links.items }
     {
         let next = self.older(older);
-        self.older[place] = next.unwrap_or(place);
+        set_older(&mut self.links, place, next.unwrap_or(place));
     }
 
     /// Takes all places out. The memory stays for others.
     pub(crate) fn clear(&mut self)
-        ensures rows { (key : ℕ) → row_in self.new.heads.items self.new.older.items self.new.keys.items key ≡ [] }
-        ensures len { length self.new.older.items ≡ 0 }
+        ensures rows { (key : ℕ) → row_in self.new.heads.items self.new.links.items key ≡ [] }
+        ensures len { length self.new.links.items ≡ 0 }
     {
         self.heads.fill(NONE);
-        self.older.clear();
-        self.keys.clear();
+        self.links.clear();
     }
 }
 
-// the number that stands at a place of a list, where it is below the end
-fn below(places: &[usize], at: usize, end: usize) -> Option<usize>
-    ensures { result ≡ below end (slice_get places.now at) }
+// a place, where it is below the end
+fn below(place: u32, end: usize) -> Option<usize>
+    ensures { result ≡ below end (Some place) }
 {
-    match places.get(at) {
-        Some(place) if *place < end => Some(*place),
-        _ => None,
+    let place = place as usize;
+    if place < end { Some(place) } else { None }
+}
+
+// the newest place of a bucket, of so many places
+fn head_in(heads: &[u32], bucket: usize, count: usize) -> Option<usize>
+    ensures { result ≡ head_in count heads.now bucket }
+{
+    match heads.get(bucket) {
+        Some(place) => below(*place, count),
+        None => None,
+    }
+}
+
+// the next older place of the same bucket
+fn older_at(links: &[Link], place: usize) -> Option<usize>
+    ensures { result ≡ older_at links.now place }
+{
+    match links.get(place) {
+        Some(link) => below(link.older, place),
+        None => None,
     }
 }
 
@@ -169,28 +194,44 @@ fn bucket_of(count: usize, key: u64) -> usize
     key as usize & count.saturating_sub(1)
 }
 
+// a link names another place
+fn set_older(links: &mut Vec<Link>, place: usize, older: usize)
+    requires within { place < length links.old.items }
+    requires older { older < 2 ^ 32 }
+    ensures named { named_by links.new.items place ≡ Some older }
+    ensures others { (p : ℕ) → (p ≡ place → ⊥) → named_by links.new.items p ≡ named_by links.old.items p }
+    ensures keys { (p : ℕ) → key_in links.new.items p ≡ key_in links.old.items p }
+    ensures len { length links.new.items ≡ length links.old.items }
+{
+    links[place].older = older as u32;
+}
+
 // a place is the newest of the bucket of its key
-fn link(heads: &mut Vec<usize>, older: &mut Vec<usize>, place: usize, key: u64)
+fn link_place(heads: &mut Vec<u32>, links: &mut Vec<Link>, place: usize, key: u64)
     requires buckets { 0 < length heads.old.items }
-    requires within { place < length older.old.items }
-    ensures linked { IsLinked heads.old.items older.old.items heads.new.items older.new.items (bucket_of (length heads.old.items) key) place }
+    requires within { place < length links.old.items }
+    requires few { place < 2 ^ 32 }
+    ensures linked { IsLinked heads.old.items links.old.items heads.new.items links.new.items (bucket_of (length heads.old.items) key) place }
+    ensures keys { (p : ℕ) → key_in links.new.items p ≡ key_in links.old.items p }
     ensures buckets { length heads.new.items ≡ length heads.old.items }
-    ensures len { length older.new.items ≡ length older.old.items }
+    ensures len { length links.new.items ≡ length links.old.items }
 {
     let bucket = bucket_of(heads.len(), key);
-    older[place] = heads[bucket];
-    heads[bucket] = place;
+    set_older(links, place, heads[bucket] as usize);
+    heads[bucket] = place as u32;
 }
 
 // all places are linked one after another, whatever they named before
-fn link_all(heads: &mut Vec<usize>, older: &mut Vec<usize>, keys: &[u64])
+fn link_all(heads: &mut Vec<u32>, links: &mut Vec<Link>)
     requires buckets { 0 < length heads.old.items }
-    requires level { length keys.now ≡ length older.old.items }
-    ensures all { (k : ℕ) (p : ℕ) → slice_get keys.now p ≡ Some k → Has (chain_from older.new.items (head_in (length older.new.items) heads.new.items (bucket_of (length heads.new.items) k))) p }
+    requires few { length links.old.items < 2 ^ 32 }
+    ensures all { (k : ℕ) (p : ℕ) → key_in links.new.items p ≡ Some k → Has (chain_from links.new.items (head_in (length links.new.items) heads.new.items (bucket_of (length heads.new.items) k))) p }
+    ensures keys { (p : ℕ) → key_in links.new.items p ≡ key_in links.old.items p }
     ensures buckets { length heads.new.items ≡ length heads.old.items }
-    ensures len { length older.new.items ≡ length older.old.items }
+    ensures len { length links.new.items ≡ length links.old.items }
 {
-    for place in 0..older.len() {
-        link(heads, older, place, keys[place]);
+    for place in 0..links.len() {
+        let key = links[place].key;
+        link_place(heads, links, place, key);
     }
 }

@@ -1,6 +1,6 @@
 //! A node is added to the places of a store.
 
-ghost use Rattle.std.specs.Prelude.{◌≡◌, ℕ, ◌<◌, ◌+◌, ◌++◌, ◌∷◌, [], true, false, length, vec_len, vec_capacity, if◌then◌else◌, Some, None, IfNone, IfSome, IfOk, OnOk, IfErr, OnErr};
+ghost use Rattle.std.specs.Prelude.{◌≡◌, ℕ, ◌<◌, ◌+◌, ◌⊎◌, ◌++◌, ◌∷◌, [], true, false, length, vec_len, vec_capacity, if◌then◌else◌, Some, None, IfNone, IfSome, IfOk, OnOk, IfErr, OnErr};
 ghost use Rattle.dp_claims.specs.Enough.{Has};
 ghost use Rattle.state_layout.specs.Conditions.{IsNodeFor};
 ghost use Rattle.state_layout.specs.declared.node.Node.{Node};
@@ -9,6 +9,7 @@ ghost use Rattle.dom_store.specs.Covering.{covers, key_of};
 ghost use Rattle.dom_store.specs.Glances.{IsGlanceOf};
 ghost use Rattle.dom_store.specs.Contents.{is_covered, with_node};
 ghost use Rattle.dom_store.specs.Places.{nodes_of, StandsAt, AreFiled, AreGlanced, IsKept};
+ghost use Rattle.dom_store.specs.Staircases.{AreStaircases};
 ghost use Rattle.dom_store.specs.Stairs.{AreSteps, NoneCovers};
 
 use crate::chains::Chains;
@@ -17,6 +18,7 @@ use crate::glance::Glance;
 use crate::places::{covers_at, covers_in_chain, put_node};
 use crate::rising::raise_long;
 use crate::spares::keep_box;
+use crate::staircases::Staircases;
 use crate::stairs::Stairs;
 use state_layout::{Layout, Node, NodeBox};
 use std::alloc::AllocError;
@@ -34,24 +36,79 @@ pub(crate) fn add_node<K: Covers>(
     layout: &Layout,
     one_resource: bool,
     chains: &mut Chains,
-    stairs: &mut Stairs,
-    places: &mut Vec<Option<NodeBox>>,
+    staircases: &mut Staircases,
+    places: &mut Vec<Option<Node>>,
     spare: &mut Vec<NodeBox>,
     glances: &mut Vec<Glance>,
     count: &mut usize,
     node: NodeBox,
 ) -> Result<Added, NodeBox>
-    requires kept { IsKept K.prune K.minimize K.operator layout.now (row_in chains.old.heads.items chains.old.older.items chains.old.keys.items) (length chains.old.older.items) places.old.items glances.old.items count.old }
+    requires kept { IsKept K.prune K.minimize K.operator layout.now (row_in chains.old.heads.items chains.old.links.items) (length chains.old.links.items) places.old.items glances.old.items count.old }
+    requires steps { AreStaircases K.prune K.minimize K.operator layout.now (row_in staircases.old.chains.heads.items staircases.old.chains.links.items) (length staircases.old.chains.links.items) staircases.old.stairs.items places.old.items }
+    requires node { IsNodeFor layout.now node }
+    ensures kept { IsKept K.prune K.minimize K.operator layout.now (row_in chains.new.heads.items chains.new.links.items) (length chains.new.links.items) places.new.items glances.new.items count.new }
+    ensures steps { AreStaircases K.prune K.minimize K.operator layout.now (row_in staircases.new.chains.heads.items staircases.new.chains.links.items) (length staircases.new.chains.links.items) staircases.new.stairs.items places.new.items }
+    ensures answer { IfOk result (λ added. added ≡ (if is_covered (covers K.prune K.minimize K.operator layout.now) (nodes_of places.old.items) node then Added.Covered else Added.Kept)) }
+    ensures nodes { OnOk result (nodes_of places.new.items ≡ (if is_covered (covers K.prune K.minimize K.operator layout.now) (nodes_of places.old.items) node then nodes_of places.old.items else with_node (covers K.prune K.minimize K.operator layout.now) (nodes_of places.old.items) node)) }
+    ensures err { IfErr result (λ back. (back ≡ node) × (nodes_of places.new.items ≡ nodes_of places.old.items)) }
+{
+    let key = K::key(layout, node.get());
+    let at = staircases.find(key);
+    let added = match add_by_steps::<K>(
+        layout,
+        chains,
+        &mut staircases.stairs[at],
+        places,
+        spare,
+        glances,
+        count,
+        node,
+        key,
+    ) {
+        Ok(added) => added,
+        Err(node) => return Err(node),
+    };
+    if let Added::Covered = added {
+        return Ok(added);
+    }
+    raise_long::<K>(
+        layout,
+        one_resource,
+        chains,
+        staircases,
+        places,
+        glances,
+        key,
+    );
+    Ok(added)
+}
+
+// adds the node with this key, by these steps where the row of the key has them
+#[inline(always)]
+fn add_by_steps<K: Covers>(
+    layout: &Layout,
+    chains: &mut Chains,
+    stairs: &mut Stairs,
+    places: &mut Vec<Option<Node>>,
+    spare: &mut Vec<NodeBox>,
+    glances: &mut Vec<Glance>,
+    count: &mut usize,
+    node: NodeBox,
+    key: u64,
+) -> Result<Added, NodeBox>
+    requires kept { IsKept K.prune K.minimize K.operator layout.now (row_in chains.old.heads.items chains.old.links.items) (length chains.old.links.items) places.old.items glances.old.items count.old }
     requires steps { AreSteps K.prune K.minimize K.operator layout.now stairs.old.row stairs.old.steps places.old.items }
     requires node { IsNodeFor layout.now node }
-    ensures kept { IsKept K.prune K.minimize K.operator layout.now (row_in chains.new.heads.items chains.new.older.items chains.new.keys.items) (length chains.new.older.items) places.new.items glances.new.items count.new }
+    requires key { key ≡ key_of K.prune layout.now node }
+    ensures kept { IsKept K.prune K.minimize K.operator layout.now (row_in chains.new.heads.items chains.new.links.items) (length chains.new.links.items) places.new.items glances.new.items count.new }
     ensures steps { AreSteps K.prune K.minimize K.operator layout.now stairs.new.row stairs.new.steps places.new.items }
+    ensures row { (k : ℕ) → stairs.new.row ≡ Some k → stairs.old.row ≡ Some k }
+    ensures stood { (p : ℕ) (n : Node) → StandsAt places.new.items p n → StandsAt places.old.items p n ⊎ (node ≡ n) }
     ensures answer { IfOk result (λ added. added ≡ (if is_covered (covers K.prune K.minimize K.operator layout.now) (nodes_of places.old.items) node then Added.Covered else Added.Kept)) }
     ensures nodes { OnOk result (nodes_of places.new.items ≡ (if is_covered (covers K.prune K.minimize K.operator layout.now) (nodes_of places.old.items) node then nodes_of places.old.items else with_node (covers K.prune K.minimize K.operator layout.now) (nodes_of places.old.items) node)) }
     ensures err { IfErr result (λ back. (back ≡ node) × (nodes_of places.new.items ≡ nodes_of places.old.items)) }
 {
     let seen = node.get();
-    let key = K::key(layout, seen);
     let glance = K::glance(layout, seen);
     let Some(covering) = covers_by_steps::<K>(
         layout, chains, stairs, places, glances, seen, key, glance,
@@ -59,11 +116,19 @@ pub(crate) fn add_node<K: Covers>(
         keep_box(spare, node);
         return Ok(Added::Covered);
     };
-    let gone = keep_node::<K>(
-        layout, chains, stairs, places, spare, glances, covering, node, key, glance,
-    )?;
+    let mut node = node;
+    let held = node.take(*places.allocator());
+    let gone = match keep_node::<K>(
+        layout, chains, stairs, places, glances, covering, held, key, glance,
+    ) {
+        Ok(gone) => gone,
+        Err(held) => {
+            node.put(held);
+            return Err(node);
+        }
+    };
+    keep_box(spare, node);
     *count = *count + 1 - gone;
-    raise_long::<K>(layout, one_resource, chains, stairs, places, glances, key);
     Ok(Added::Kept)
 }
 
@@ -71,14 +136,14 @@ pub(crate) fn add_node<K: Covers>(
 fn covers_held<K: Covers>(
     layout: &Layout,
     chains: &Chains,
-    places: &[Option<NodeBox>],
+    places: &[Option<Node>],
     glances: &[Glance],
     node: &Node,
     key: u64,
     glance: Glance,
 ) -> Option<bool>
     requires node { IsNodeFor layout.now node.now }
-    requires filed { AreFiled (key_of K.prune layout.now) layout.now (row_in chains.now.heads.items chains.now.older.items chains.now.keys.items) places.now }
+    requires filed { AreFiled (key_of K.prune layout.now) layout.now (row_in chains.now.heads.items chains.now.links.items) places.now }
     requires glanced { AreGlanced K.minimize K.operator layout.now places.now glances.now }
     requires key { key ≡ key_of K.prune layout.now node.now }
     requires glance { IsGlanceOf K.minimize K.operator layout.now node.now glance }
@@ -91,19 +156,19 @@ fn covers_held<K: Covers>(
 }
 
 // the same, by the steps of the row of the key where it has them; where a step shows that it may cover the node and its node does not,
-// no row has steps any more
+// the row has none any more
 fn covers_by_steps<K: Covers>(
     layout: &Layout,
     chains: &Chains,
     stairs: &mut Stairs,
-    places: &[Option<NodeBox>],
+    places: &[Option<Node>],
     glances: &[Glance],
     node: &Node,
     key: u64,
     glance: Glance,
 ) -> Option<bool>
     requires node { IsNodeFor layout.now node.now }
-    requires filed { AreFiled (key_of K.prune layout.now) layout.now (row_in chains.now.heads.items chains.now.older.items chains.now.keys.items) places.now }
+    requires filed { AreFiled (key_of K.prune layout.now) layout.now (row_in chains.now.heads.items chains.now.links.items) places.now }
     requires glanced { AreGlanced K.minimize K.operator layout.now places.now glances.now }
     requires steps { AreSteps K.prune K.minimize K.operator layout.now stairs.old.row stairs.old.steps places.now }
     requires key { key ≡ key_of K.prune layout.now node.now }
@@ -112,6 +177,7 @@ fn covers_by_steps<K: Covers>(
     ensures free { IfSome result (λ covering. is_covered (covers K.prune K.minimize K.operator layout.now) (nodes_of places.now) node.now ≡ false) }
     ensures covering { IfSome result (λ covering. covering ≡ false → (p : ℕ) (n : Node) → StandsAt places.now p n → covers K.prune K.minimize K.operator layout.now node.now n ≡ false) }
     ensures steps { AreSteps K.prune K.minimize K.operator layout.now stairs.new.row stairs.new.steps places.now }
+    ensures row { (k : ℕ) → stairs.new.row ≡ Some k → stairs.old.row ≡ Some k }
     ensures none_covers { IfSome result (λ covering. stairs.new.row ≡ Some key → NoneCovers stairs.new.steps glance) }
     ensures sought { IfSome result (λ covering. stairs.new.row ≡ Some key → covering ≡ true) }
 {
@@ -133,21 +199,20 @@ fn keep_node<K: Covers>(
     layout: &Layout,
     chains: &mut Chains,
     stairs: &mut Stairs,
-    places: &mut Vec<Option<NodeBox>>,
-    spare: &mut Vec<NodeBox>,
+    places: &mut Vec<Option<Node>>,
     glances: &mut Vec<Glance>,
     covering: bool,
-    node: NodeBox,
+    node: Node,
     key: u64,
     glance: Glance,
-) -> Result<usize, NodeBox>
+) -> Result<usize, Node>
     requires node { IsNodeFor layout.now node }
     requires key { key ≡ key_of K.prune layout.now node }
     requires glance { IsGlanceOf K.minimize K.operator layout.now node glance }
-    requires filed { AreFiled (key_of K.prune layout.now) layout.now (row_in chains.old.heads.items chains.old.older.items chains.old.keys.items) places.old.items }
+    requires filed { AreFiled (key_of K.prune layout.now) layout.now (row_in chains.old.heads.items chains.old.links.items) places.old.items }
     requires glanced { AreGlanced K.minimize K.operator layout.now places.old.items glances.old.items }
     requires level { length glances.old.items ≡ length places.old.items }
-    requires linked { length chains.old.older.items ≡ length places.old.items }
+    requires linked { length chains.old.links.items ≡ length places.old.items }
     requires steps { AreSteps K.prune K.minimize K.operator layout.now stairs.old.row stairs.old.steps places.old.items }
     requires covering { covering ≡ false → (p : ℕ) (n : Node) → StandsAt places.old.items p n → covers K.prune K.minimize K.operator layout.now node n ≡ false }
     requires none_covers { stairs.old.row ≡ Some key → NoneCovers stairs.old.steps glance }
@@ -155,18 +220,20 @@ fn keep_node<K: Covers>(
     ensures nodes { OnOk result (nodes_of places.new.items ≡ with_node (covers K.prune K.minimize K.operator layout.now) (nodes_of places.old.items) node) }
     ensures counted { IfOk result (λ gone. length (nodes_of places.new.items) + gone ≡ length (nodes_of places.old.items) + 1) }
     ensures err { IfErr result (λ back. (back ≡ node) × (places.new.items ≡ places.old.items)) }
-    ensures filed { AreFiled (key_of K.prune layout.now) layout.now (row_in chains.new.heads.items chains.new.older.items chains.new.keys.items) places.new.items }
+    ensures filed { AreFiled (key_of K.prune layout.now) layout.now (row_in chains.new.heads.items chains.new.links.items) places.new.items }
     ensures glanced { AreGlanced K.minimize K.operator layout.now places.new.items glances.new.items }
     ensures steps { AreSteps K.prune K.minimize K.operator layout.now stairs.new.row stairs.new.steps places.new.items }
+    ensures row { (k : ℕ) → stairs.new.row ≡ Some k → stairs.old.row ≡ Some k }
+    ensures stood { (p : ℕ) (n : Node) → StandsAt places.new.items p n → StandsAt places.old.items p n ⊎ (node ≡ n) }
     ensures level { length glances.new.items ≡ length places.new.items }
-    ensures linked { length chains.new.older.items ≡ length places.new.items }
+    ensures linked { length chains.new.links.items ≡ length places.new.items }
 {
     let place = places.len();
     let Ok(()) = open_place(chains, places, glances, key, glance) else {
         return Err(node);
     };
     Ok(put_node::<K>(
-        layout, chains, stairs, places, spare, glances, covering, place, node, key, glance,
+        layout, chains, stairs, places, glances, covering, place, node, key, glance,
     ))
 }
 
@@ -174,19 +241,19 @@ fn keep_node<K: Covers>(
 #[inline(always)]
 fn open_place(
     chains: &mut Chains,
-    places: &mut Vec<Option<NodeBox>>,
+    places: &mut Vec<Option<Node>>,
     glances: &mut Vec<Glance>,
     key: u64,
     glance: Glance,
 ) -> Result<(), AllocError>
-    ensures left { OnOk result ((p : ℕ) → Has (row_in chains.old.heads.items chains.old.older.items chains.old.keys.items key) p → Has (chain_from chains.new.older.items (older_at chains.new.older.items (length chains.old.older.items))) p) }
-    ensures first { OnOk result (Has (row_in chains.new.heads.items chains.new.older.items chains.new.keys.items key) (length chains.old.older.items)) }
-    ensures rows { (k : ℕ) (p : ℕ) → Has (row_in chains.old.heads.items chains.old.older.items chains.old.keys.items k) p → Has (row_in chains.new.heads.items chains.new.older.items chains.new.keys.items k) p }
-    ensures linked { OnOk result (length chains.new.older.items ≡ length chains.old.older.items + 1) }
+    ensures left { OnOk result ((p : ℕ) → Has (row_in chains.old.heads.items chains.old.links.items key) p → Has (chain_from chains.new.links.items (older_at chains.new.links.items (length chains.old.links.items))) p) }
+    ensures first { OnOk result (Has (row_in chains.new.heads.items chains.new.links.items key) (length chains.old.links.items)) }
+    ensures rows { (k : ℕ) (p : ℕ) → Has (row_in chains.old.heads.items chains.old.links.items k) p → Has (row_in chains.new.heads.items chains.new.links.items k) p }
+    ensures linked { OnOk result (length chains.new.links.items ≡ length chains.old.links.items + 1) }
     ensures places { OnOk result (places.new.items ≡ places.old.items ++ None ∷ []) }
     ensures glances { OnOk result (glances.new.items ≡ glances.old.items ++ glance ∷ []) }
     ensures err { OnErr result ((places.new.items ≡ places.old.items) × (glances.new.items ≡ glances.old.items)) }
-    ensures err_linked { OnErr result (length chains.new.older.items ≡ length chains.old.older.items) }
+    ensures err_linked { OnErr result (length chains.new.links.items ≡ length chains.old.links.items) }
 {
     places.reserve(1)?;
     glances.reserve(1)?;
@@ -197,7 +264,7 @@ fn open_place(
 
 // appends a place without a node and its glance, where there is room for them, so that neither fails
 #[inline(always)]
-fn push_within(places: &mut Vec<Option<NodeBox>>, glances: &mut Vec<Glance>, glance: Glance)
+fn push_within(places: &mut Vec<Option<Node>>, glances: &mut Vec<Glance>, glance: Glance)
     requires places { vec_len places.old < vec_capacity places.old }
     requires glances { vec_len glances.old < vec_capacity glances.old }
     ensures places { places.new.items ≡ places.old.items ++ None ∷ [] }

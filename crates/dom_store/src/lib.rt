@@ -11,6 +11,7 @@ mod past_node;
 mod places;
 mod rising;
 mod spares;
+mod staircases;
 mod stairs;
 mod store;
 mod sweep;

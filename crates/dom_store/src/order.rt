@@ -13,7 +13,7 @@ ghost use Rattle.dom_store.specs.Ranking.{is_there, ranked_at, ranks_of};
 use crate::covers::Covers;
 use crate::glance::Glance;
 use cost_laws::CostLaw;
-use state_layout::{Node, NodeBox};
+use state_layout::Node;
 use std::alloc::{AllocError, Global};
 
 // the greatest number that has an order word under each law; its negative is the least
@@ -30,7 +30,7 @@ pub(crate) struct Ranked {
 /// are read from the glances, which stand side by side, where the law that `K` covers by gives the same ones.
 pub(crate) fn sorted_places<L: CostLaw, K: Covers>(
     alloc: Global,
-    places: &[Option<NodeBox>],
+    places: &[Option<Node>],
     glances: &[Glance],
 ) -> Result<Vec<Ranked>, AllocError>
     requires words { (n : Node) → Has (nodes_of places.now) n → HasWords n }
@@ -47,7 +47,7 @@ pub(crate) fn sorted_places<L: CostLaw, K: Covers>(
 // the places of nodes in their order
 fn ranks<L: CostLaw, K: Covers>(
     alloc: Global,
-    places: &[Option<NodeBox>],
+    places: &[Option<Node>],
     glances: &[Glance],
 ) -> Result<Vec<Ranked>, AllocError>
     requires words { (n : Node) → Has (nodes_of places.now) n → HasWords n }
@@ -63,7 +63,7 @@ fn ranks<L: CostLaw, K: Covers>(
     Ok(ranked)
 }
 
-fn is_there(place: &Option<NodeBox>) -> bool
+fn is_there(place: &Option<Node>) -> bool
     ensures { result ≡ is_there place.now }
 {
     match place {
@@ -73,7 +73,7 @@ fn is_there(place: &Option<NodeBox>) -> bool
 }
 
 fn ranked_at<L: CostLaw, K: Covers>(
-    places: &[Option<NodeBox>],
+    places: &[Option<Node>],
     glances: &[Glance],
     place: usize,
 ) -> Ranked
@@ -92,7 +92,7 @@ fn ranked_at<L: CostLaw, K: Covers>(
 // the words of the node that stands at a place
 #[inline]
 fn words_at<L: CostLaw, K: Covers>(
-    places: &[Option<NodeBox>],
+    places: &[Option<Node>],
     glances: &[Glance],
     place: usize,
 ) -> (u64, u64)
@@ -116,11 +116,11 @@ fn has_same_words<L: CostLaw, K: Covers>() -> bool
     L::word(None) == K::word(None) && L::word(Some(1)) == K::word(Some(1))
 }
 
-fn rank<L: CostLaw>(place: &Option<NodeBox>) -> (u64, u64)
+fn rank<L: CostLaw>(place: &Option<Node>) -> (u64, u64)
     ensures { result ≡ rank_of L.minimize L.operator place.now }
 {
     match place {
-        Some(node) => rank_of_node::<L>(node.get()),
+        Some(node) => rank_of_node::<L>(node),
         None => (u64::MAX, u64::MAX),
     }
 }

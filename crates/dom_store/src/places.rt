@@ -14,16 +14,15 @@ ghost use Rattle.dom_store.specs.Stairs.{AreSteps, NoneCovers, NoneCovered};
 use crate::chains::Chains;
 use crate::covers::Covers;
 use crate::glance::{Glance, is_apart_at, may_be_covered_at, may_cover_at};
-use crate::spares::clear_place;
 use crate::stairs::Stairs;
-use state_layout::{Layout, Node, NodeBox};
+use state_layout::{Layout, Node};
 
 /// Whether the node with this glance covers one at the places of a chain, from this one on; `None` where one of these covers it.
 /// It goes along the chain once.
 pub(crate) fn covers_in_chain<K: Covers>(
     layout: &Layout,
     chains: &Chains,
-    places: &[Option<NodeBox>],
+    places: &[Option<Node>],
     glances: &[Glance],
     newest: Option<usize>,
     node: &Node,
@@ -31,13 +30,13 @@ pub(crate) fn covers_in_chain<K: Covers>(
     glance: Glance,
 ) -> Option<bool>
     requires node { IsNodeFor layout.now node.now }
-    requires filed { AreFiled (key_of K.prune layout.now) layout.now (row_in chains.now.heads.items chains.now.older.items chains.now.keys.items) places.now }
+    requires filed { AreFiled (key_of K.prune layout.now) layout.now (row_in chains.now.heads.items chains.now.links.items) places.now }
     requires key { key ≡ key_of K.prune layout.now node.now }
     requires glanced { AreGlanced K.minimize K.operator layout.now places.now glances.now }
     requires glance { IsGlanceOf K.minimize K.operator layout.now node.now glance }
-    ensures none { IfNone result (list_any (λ p. passes (λ (held : Node). covers K.prune K.minimize K.operator layout.now held node.now) (node_at places.now p)) (chain_from chains.now.older.items newest) ≡ true) }
-    ensures free { IfSome result (λ found. list_any (λ p. passes (λ (held : Node). covers K.prune K.minimize K.operator layout.now held node.now) (node_at places.now p)) (chain_from chains.now.older.items newest) ≡ false) }
-    ensures covers { IfSome result (λ found. found ≡ list_any (λ p. passes (λ (held : Node). covers K.prune K.minimize K.operator layout.now node.now held) (node_at places.now p)) (chain_from chains.now.older.items newest)) }
+    ensures none { IfNone result (list_any (λ p. passes (λ (held : Node). covers K.prune K.minimize K.operator layout.now held node.now) (node_at places.now p)) (chain_from chains.now.links.items newest) ≡ true) }
+    ensures free { IfSome result (λ found. list_any (λ p. passes (λ (held : Node). covers K.prune K.minimize K.operator layout.now held node.now) (node_at places.now p)) (chain_from chains.now.links.items newest) ≡ false) }
+    ensures covers { IfSome result (λ found. found ≡ list_any (λ p. passes (λ (held : Node). covers K.prune K.minimize K.operator layout.now node.now held) (node_at places.now p)) (chain_from chains.now.links.items newest)) }
 {
     let mut found = false;
     let mut next = newest;
@@ -65,7 +64,7 @@ fn either(a: bool, b: bool) -> bool
 fn covers_there<K: Covers>(
     layout: &Layout,
     chains: &Chains,
-    places: &[Option<NodeBox>],
+    places: &[Option<Node>],
     glances: &[Glance],
     place: usize,
     node: &Node,
@@ -73,7 +72,7 @@ fn covers_there<K: Covers>(
     glance: Glance,
 ) -> Option<bool>
     requires node { IsNodeFor layout.now node.now }
-    requires filed { AreFiled (key_of K.prune layout.now) layout.now (row_in chains.now.heads.items chains.now.older.items chains.now.keys.items) places.now }
+    requires filed { AreFiled (key_of K.prune layout.now) layout.now (row_in chains.now.heads.items chains.now.links.items) places.now }
     requires key { key ≡ key_of K.prune layout.now node.now }
     requires glanced { AreGlanced K.minimize K.operator layout.now places.now glances.now }
     requires glance { IsGlanceOf K.minimize K.operator layout.now node.now glance }
@@ -96,7 +95,7 @@ fn covers_there<K: Covers>(
 /// Whether the node at a place covers the node with this glance.
 pub(crate) fn covers_at<K: Covers>(
     layout: &Layout,
-    places: &[Option<NodeBox>],
+    places: &[Option<Node>],
     glances: &[Glance],
     place: usize,
     node: &Node,
@@ -115,7 +114,7 @@ pub(crate) fn covers_at<K: Covers>(
         return false;
     }
     match &places[place] {
-        Some(held) => K::covers(layout, held.get(), node),
+        Some(held) => K::replaces(layout, &held.state, &node.state),
         None => false,
     }
 }
@@ -125,27 +124,26 @@ pub(crate) fn covers_at<K: Covers>(
 fn clear_covered<K: Covers>(
     layout: &Layout,
     chains: &mut Chains,
-    places: &mut Vec<Option<NodeBox>>,
-    spare: &mut Vec<NodeBox>,
+    places: &mut Vec<Option<Node>>,
     glances: &[Glance],
     place: usize,
     node: &Node,
     glance: Glance,
 ) -> usize
-    requires within { place < length chains.old.older.items }
+    requires within { place < length chains.old.links.items }
     requires node { IsNodeFor layout.now node.now }
     requires nodes { (p : ℕ) (n : Node) → StandsAt places.old.items p n → IsNodeFor layout.now n }
     requires glanced { AreGlanced K.minimize K.operator layout.now places.old.items glances.now }
     requires glance { IsGlanceOf K.minimize K.operator layout.now node.now glance }
-    ensures places { places.new.items ≡ fold (cleared (λ (held : Node). covers K.prune K.minimize K.operator layout.now node.now held)) places.old.items (chain_from chains.old.older.items (older_at chains.old.older.items place)) }
+    ensures places { places.new.items ≡ fold (cleared (λ (held : Node). covers K.prune K.minimize K.operator layout.now node.now held)) places.old.items (chain_from chains.old.links.items (older_at chains.old.links.items place)) }
     ensures counted { length (nodes_of places.new.items) + result ≡ length (nodes_of places.old.items) }
-    ensures rows { KeepsRows (row_in chains.old.heads.items chains.old.older.items chains.old.keys.items) (row_in chains.new.heads.items chains.new.older.items chains.new.keys.items) place places.new.items }
-    ensures links { length chains.new.older.items ≡ length chains.old.older.items }
+    ensures rows { KeepsRows (row_in chains.old.heads.items chains.old.links.items) (row_in chains.new.heads.items chains.new.links.items) place places.new.items }
+    ensures links { length chains.new.links.items ≡ length chains.old.links.items }
 {
     let mut gone = 0;
     let mut last = place;
     while let Some(next) = chains.older(last) {
-        if clear_at::<K>(layout, places, spare, glances, next, node, glance) {
+        if clear_at::<K>(layout, places, glances, next, node, glance) {
             chains.drop_older(last, next);
             gone += 1;
         } else {
@@ -160,8 +158,7 @@ fn clear_if<K: Covers>(
     layout: &Layout,
     chains: &mut Chains,
     stairs: &mut Stairs,
-    places: &mut Vec<Option<NodeBox>>,
-    spare: &mut Vec<NodeBox>,
+    places: &mut Vec<Option<Node>>,
     glances: &[Glance],
     covering: bool,
     place: usize,
@@ -169,7 +166,7 @@ fn clear_if<K: Covers>(
     key: u64,
     glance: Glance,
 ) -> usize
-    requires within { place < length chains.old.older.items }
+    requires within { place < length chains.old.links.items }
     requires node { IsNodeFor layout.now node.now }
     requires nodes { (p : ℕ) (n : Node) → StandsAt places.old.items p n → IsNodeFor layout.now n }
     requires glanced { AreGlanced K.minimize K.operator layout.now places.old.items glances.now }
@@ -179,20 +176,21 @@ fn clear_if<K: Covers>(
     requires steps { AreSteps K.prune K.minimize K.operator layout.now stairs.old.row stairs.old.steps places.old.items }
     requires none_covers { stairs.old.row ≡ Some key → NoneCovers stairs.old.steps glance }
     requires sought { stairs.old.row ≡ Some key → covering ≡ true }
-    requires complete { (p : ℕ) (n : Node) → StandsAt places.old.items p n → covers K.prune K.minimize K.operator layout.now node.now n ≡ true → Has (chain_from chains.old.older.items (older_at chains.old.older.items place)) p }
-    ensures places { places.new.items ≡ fold (cleared (λ (held : Node). covers K.prune K.minimize K.operator layout.now node.now held)) places.old.items (chain_from chains.old.older.items (older_at chains.old.older.items place)) }
+    requires complete { (p : ℕ) (n : Node) → StandsAt places.old.items p n → covers K.prune K.minimize K.operator layout.now node.now n ≡ true → Has (chain_from chains.old.links.items (older_at chains.old.links.items place)) p }
+    ensures places { places.new.items ≡ fold (cleared (λ (held : Node). covers K.prune K.minimize K.operator layout.now node.now held)) places.old.items (chain_from chains.old.links.items (older_at chains.old.links.items place)) }
     ensures counted { length (nodes_of places.new.items) + result ≡ length (nodes_of places.old.items) }
-    ensures rows { KeepsRows (row_in chains.old.heads.items chains.old.older.items chains.old.keys.items) (row_in chains.new.heads.items chains.new.older.items chains.new.keys.items) place places.new.items }
+    ensures rows { KeepsRows (row_in chains.old.heads.items chains.old.links.items) (row_in chains.new.heads.items chains.new.links.items) place places.new.items }
     ensures steps { AreSteps K.prune K.minimize K.operator layout.now stairs.new.row stairs.new.steps places.new.items }
+    ensures row { (k : ℕ) → stairs.new.row ≡ Some k → stairs.old.row ≡ Some k }
     ensures none_covers { stairs.new.row ≡ Some key → NoneCovers stairs.new.steps glance }
     ensures none_covered { stairs.new.row ≡ Some key → NoneCovered stairs.new.steps glance }
-    ensures links { length chains.new.older.items ≡ length chains.old.older.items }
+    ensures links { length chains.new.links.items ≡ length chains.old.links.items }
 {
     if !covering {
         return 0;
     }
     clear_row::<K>(
-        layout, chains, stairs, places, spare, glances, place, node, key, glance,
+        layout, chains, stairs, places, glances, place, node, key, glance,
     )
 }
 
@@ -201,15 +199,14 @@ fn clear_row<K: Covers>(
     layout: &Layout,
     chains: &mut Chains,
     stairs: &mut Stairs,
-    places: &mut Vec<Option<NodeBox>>,
-    spare: &mut Vec<NodeBox>,
+    places: &mut Vec<Option<Node>>,
     glances: &[Glance],
     place: usize,
     node: &Node,
     key: u64,
     glance: Glance,
 ) -> usize
-    requires within { place < length chains.old.older.items }
+    requires within { place < length chains.old.links.items }
     requires node { IsNodeFor layout.now node.now }
     requires nodes { (p : ℕ) (n : Node) → StandsAt places.old.items p n → IsNodeFor layout.now n }
     requires glanced { AreGlanced K.minimize K.operator layout.now places.old.items glances.now }
@@ -217,29 +214,29 @@ fn clear_row<K: Covers>(
     requires key { key ≡ key_of K.prune layout.now node.now }
     requires steps { AreSteps K.prune K.minimize K.operator layout.now stairs.old.row stairs.old.steps places.old.items }
     requires none_covers { stairs.old.row ≡ Some key → NoneCovers stairs.old.steps glance }
-    requires complete { (p : ℕ) (n : Node) → StandsAt places.old.items p n → covers K.prune K.minimize K.operator layout.now node.now n ≡ true → Has (chain_from chains.old.older.items (older_at chains.old.older.items place)) p }
-    ensures places { places.new.items ≡ fold (cleared (λ (held : Node). covers K.prune K.minimize K.operator layout.now node.now held)) places.old.items (chain_from chains.old.older.items (older_at chains.old.older.items place)) }
+    requires complete { (p : ℕ) (n : Node) → StandsAt places.old.items p n → covers K.prune K.minimize K.operator layout.now node.now n ≡ true → Has (chain_from chains.old.links.items (older_at chains.old.links.items place)) p }
+    ensures places { places.new.items ≡ fold (cleared (λ (held : Node). covers K.prune K.minimize K.operator layout.now node.now held)) places.old.items (chain_from chains.old.links.items (older_at chains.old.links.items place)) }
     ensures counted { length (nodes_of places.new.items) + result ≡ length (nodes_of places.old.items) }
-    ensures rows { KeepsRows (row_in chains.old.heads.items chains.old.older.items chains.old.keys.items) (row_in chains.new.heads.items chains.new.older.items chains.new.keys.items) place places.new.items }
+    ensures rows { KeepsRows (row_in chains.old.heads.items chains.old.links.items) (row_in chains.new.heads.items chains.new.links.items) place places.new.items }
     ensures steps { AreSteps K.prune K.minimize K.operator layout.now stairs.new.row stairs.new.steps places.new.items }
+    ensures row { (k : ℕ) → stairs.new.row ≡ Some k → stairs.old.row ≡ Some k }
     ensures none_covers { stairs.new.row ≡ Some key → NoneCovers stairs.new.steps glance }
     ensures none_covered { stairs.new.row ≡ Some key → NoneCovered stairs.new.steps glance }
-    ensures links { length chains.new.older.items ≡ length chains.old.older.items }
+    ensures links { length chains.new.links.items ≡ length chains.old.links.items }
 {
-    let gone = clear_steps::<K>(layout, stairs, places, spare, glances, node, key, glance);
+    let gone = clear_steps::<K>(layout, stairs, places, glances, node, key, glance);
     if stairs.is_of(key) {
         return gone;
     }
-    gone + clear_covered::<K>(layout, chains, places, spare, glances, place, node, glance)
+    gone + clear_covered::<K>(layout, chains, places, glances, place, node, glance)
 }
 
 // takes out the nodes that the node with this glance covers, and their steps, where the row of the key has steps; where a step shows
-// that it may cover a node and it does not, no row has steps any more
+// that it may cover a node and it does not, the row has none any more
 fn clear_steps<K: Covers>(
     layout: &Layout,
     stairs: &mut Stairs,
-    places: &mut Vec<Option<NodeBox>>,
-    spare: &mut Vec<NodeBox>,
+    places: &mut Vec<Option<Node>>,
     glances: &[Glance],
     node: &Node,
     key: u64,
@@ -256,13 +253,14 @@ fn clear_steps<K: Covers>(
     ensures none { stairs.new.row ≡ Some key → (p : ℕ) (n : Node) → StandsAt places.new.items p n → covers K.prune K.minimize K.operator layout.now node.now n ≡ false }
     ensures nodes { (p : ℕ) (n : Node) → StandsAt places.new.items p n → StandsAt places.old.items p n }
     ensures steps { AreSteps K.prune K.minimize K.operator layout.now stairs.new.row stairs.new.steps places.new.items }
+    ensures row { (k : ℕ) → stairs.new.row ≡ Some k → stairs.old.row ≡ Some k }
     ensures none_covers { stairs.new.row ≡ Some key → NoneCovers stairs.new.steps glance }
     ensures none_covered { stairs.new.row ≡ Some key → NoneCovered stairs.new.steps glance }
     ensures counted { length (nodes_of places.new.items) + result ≡ length (nodes_of places.old.items) }
 {
     let mut gone = 0;
     while let Some((word, step)) = stairs.first_covered_in(key, glance) {
-        if !clear_at::<K>(layout, places, spare, glances, step.place, node, glance) {
+        if !clear_at::<K>(layout, places, glances, step.place, node, glance) {
             stairs.end();
             return gone;
         }
@@ -276,8 +274,7 @@ fn clear_steps<K: Covers>(
 #[inline(always)]
 fn clear_at<K: Covers>(
     layout: &Layout,
-    places: &mut Vec<Option<NodeBox>>,
-    spare: &mut Vec<NodeBox>,
+    places: &mut Vec<Option<Node>>,
     glances: &[Glance],
     place: usize,
     node: &Node,
@@ -295,14 +292,14 @@ fn clear_at<K: Covers>(
     if !is_covered_at::<K>(layout, places, glances, place, node, glance) {
         return false;
     }
-    clear_place(places, spare, place);
+    places[place] = None;
     true
 }
 
 // whether the node with this glance covers the one at a place
 fn is_covered_at<K: Covers>(
     layout: &Layout,
-    places: &[Option<NodeBox>],
+    places: &[Option<Node>],
     glances: &[Glance],
     place: usize,
     node: &Node,
@@ -322,7 +319,7 @@ fn is_covered_at<K: Covers>(
         return false;
     }
     match &places[place] {
-        Some(held) => K::covers(layout, node, held.get()),
+        Some(held) => K::replaces(layout, &node.state, &held.state),
         None => false,
     }
 }
@@ -333,17 +330,16 @@ pub(crate) fn put_node<K: Covers>(
     layout: &Layout,
     chains: &mut Chains,
     stairs: &mut Stairs,
-    places: &mut Vec<Option<NodeBox>>,
-    spare: &mut Vec<NodeBox>,
+    places: &mut Vec<Option<Node>>,
     glances: &[Glance],
     covering: bool,
     place: usize,
-    node: NodeBox,
+    node: Node,
     key: u64,
     glance: Glance,
 ) -> usize
     requires place { slice_get places.old.items place ≡ Some None }
-    requires within { place < length chains.old.older.items }
+    requires within { place < length chains.old.links.items }
     requires node { IsNodeFor layout.now node }
     requires nodes { (p : ℕ) (n : Node) → StandsAt places.old.items p n → IsNodeFor layout.now n }
     requires glanced { AreGlanced K.minimize K.operator layout.now places.old.items glances.now }
@@ -353,25 +349,16 @@ pub(crate) fn put_node<K: Covers>(
     requires steps { AreSteps K.prune K.minimize K.operator layout.now stairs.old.row stairs.old.steps places.old.items }
     requires none_covers { stairs.old.row ≡ Some key → NoneCovers stairs.old.steps glance }
     requires sought { stairs.old.row ≡ Some key → covering ≡ true }
-    requires complete { (p : ℕ) (n : Node) → StandsAt places.old.items p n → covers K.prune K.minimize K.operator layout.now node n ≡ true → Has (chain_from chains.old.older.items (older_at chains.old.older.items place)) p }
-    ensures places { places.new.items ≡ slice_set (fold (cleared (λ (held : Node). covers K.prune K.minimize K.operator layout.now node held)) places.old.items (chain_from chains.old.older.items (older_at chains.old.older.items place))) place (Some node) }
+    requires complete { (p : ℕ) (n : Node) → StandsAt places.old.items p n → covers K.prune K.minimize K.operator layout.now node n ≡ true → Has (chain_from chains.old.links.items (older_at chains.old.links.items place)) p }
+    ensures places { places.new.items ≡ slice_set (fold (cleared (λ (held : Node). covers K.prune K.minimize K.operator layout.now node held)) places.old.items (chain_from chains.old.links.items (older_at chains.old.links.items place))) place (Some node) }
     ensures counted { length (nodes_of places.new.items) + result ≡ length (nodes_of places.old.items) + 1 }
-    ensures rows { KeepsRows (row_in chains.old.heads.items chains.old.older.items chains.old.keys.items) (row_in chains.new.heads.items chains.new.older.items chains.new.keys.items) place places.new.items }
+    ensures rows { KeepsRows (row_in chains.old.heads.items chains.old.links.items) (row_in chains.new.heads.items chains.new.links.items) place places.new.items }
     ensures steps { AreSteps K.prune K.minimize K.operator layout.now stairs.new.row stairs.new.steps places.new.items }
-    ensures links { length chains.new.older.items ≡ length chains.old.older.items }
+    ensures row { (k : ℕ) → stairs.new.row ≡ Some k → stairs.old.row ≡ Some k }
+    ensures links { length chains.new.links.items ≡ length chains.old.links.items }
 {
     let gone = clear_if::<K>(
-        layout,
-        chains,
-        stairs,
-        places,
-        spare,
-        glances,
-        covering,
-        place,
-        node.get(),
-        key,
-        glance,
+        layout, chains, stairs, places, glances, covering, place, &node, key, glance,
     );
     stairs.add(key, glance, place);
     places[place] = Some(node);

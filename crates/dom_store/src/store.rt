@@ -17,11 +17,11 @@ use crate::glance::Glance;
 use crate::keeping::{Added, add_node};
 use crate::past::PastStore;
 use crate::rising::has_one_resource;
-use crate::stairs::Stairs;
+use crate::staircases::Staircases;
 use crate::sweep::clear_past;
 use crate::taking::{Taken, take_nodes};
 use cost_laws::CostLaw;
-use state_layout::{Layout, NodeBox};
+use state_layout::{Layout, Node, NodeBox};
 use std::alloc::{AllocError, Global};
 use std::marker::{Model, PhantomData};
 
@@ -31,8 +31,8 @@ pub struct DomStore<K: Covers> {
     layout: Layout,
     one_resource: bool,
     chains: Chains,
-    stairs: Stairs,
-    places: Vec<Option<NodeBox>>,
+    staircases: Staircases,
+    places: Vec<Option<Node>>,
     glances: Vec<Glance>,
     count: usize,
     spare: Vec<NodeBox>,
@@ -44,13 +44,13 @@ impl<K: Covers> Model for DomStore<K> {
     ghost use Rattle.dom_store.specs.Chains.{row_in};
     ghost use Rattle.dom_store.specs.Contents.{Contents};
     ghost use Rattle.dom_store.specs.Places.{nodes_of, IsKept};
-    ghost use Rattle.dom_store.specs.Stairs.{AreSteps};
+    ghost use Rattle.dom_store.specs.Staircases.{AreStaircases};
 
     ghost Value = { Contents };
 
     ghost view = { λ s. record { layout = s.layout; nodes = nodes_of s.places.items } };
 
-    ghost invariant = { λ s. IsKept K.prune K.minimize K.operator s.layout (row_in s.chains.heads.items s.chains.older.items s.chains.keys.items) (length s.chains.older.items) s.places.items s.glances.items s.count × AreSteps K.prune K.minimize K.operator s.layout s.stairs.row s.stairs.steps s.places.items };
+    ghost invariant = { λ s. IsKept K.prune K.minimize K.operator s.layout (row_in s.chains.heads.items s.chains.links.items) (length s.chains.links.items) s.places.items s.glances.items s.count × AreStaircases K.prune K.minimize K.operator s.layout (row_in s.staircases.chains.heads.items s.staircases.chains.links.items) (length s.staircases.chains.links.items) s.staircases.stairs.items s.places.items };
 }
 
 impl<K: Covers> DomStore<K> {
@@ -63,7 +63,7 @@ impl<K: Covers> DomStore<K> {
             layout: layout.copy(alloc)?,
             one_resource: has_one_resource(layout),
             chains: Chains::new(alloc),
-            stairs: Stairs::new(alloc),
+            staircases: Staircases::new(alloc)?,
             places: Vec::new(alloc),
             glances: Vec::new(alloc),
             count: 0,
@@ -89,7 +89,7 @@ impl<K: Covers> DomStore<K> {
             layout,
             self.one_resource,
             &mut self.chains,
-            &mut self.stairs,
+            &mut self.staircases,
             &mut self.places,
             &mut self.spare,
             &mut self.glances,
@@ -107,7 +107,7 @@ impl<K: Covers> DomStore<K> {
         ensures left { (m : DpModel) → IsLayoutOf m layout.now → IsLawOf m K.minimize K.operator → (n : Node) → Has self.old.nodes n → Has self.new.nodes n ⊎ IsPast m K.prune past.now.nodes n }
         ensures news { (m : DpModel) → IsLayoutOf m layout.now → IsLawOf m K.minimize K.operator → (n : Node) → Has self.new.nodes n → IsPast m K.prune past.now.nodes n → ⊥ }
     {
-        let gone = clear_past::<K>(layout, &mut self.places, &mut self.spare, past);
+        let gone = clear_past::<K>(layout, &mut self.places, past);
         self.count -= gone;
     }
 
@@ -128,14 +128,14 @@ impl<K: Covers> DomStore<K> {
     {
         let taken = take_nodes::<L, K>(alloc, &mut self.places, &self.glances, self.count, share)?;
         self.chains.clear();
-        self.stairs.end();
+        self.staircases.clear();
         self.glances.clear();
         self.count = 0;
         Ok(taken)
     }
 
     /// A box whose node is no longer needed, to put another node into it, where there is one: such are the boxes of the nodes that
-    /// were covered when they came, that a later node covered, or that a past covered. Its node says nothing. It takes no memory.
+    /// were covered when they came, or that were taken out of them to stand in the store. Its node says nothing. It takes no memory.
     pub fn take_spare(&mut self) -> Option<NodeBox>
         ensures { self.new ≡ self.old }
     {

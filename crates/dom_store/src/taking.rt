@@ -16,22 +16,22 @@ use crate::glance::Glance;
 use crate::order::{Ranked, sorted_places};
 use cost_laws::CostLaw;
 use dp_base::Seq;
-use state_layout::NodeBox;
+use state_layout::Node;
 use std::alloc::{AllocError, Global};
 
 /// What a store gave up: the nodes that are kept, and those that are dropped, both in order, and the best floor of the dropped
 /// ones. There is none where none is dropped, or where one of them has no floor.
 #[derive(Debug, Drop)]
 pub struct Taken {
-    pub kept: Seq<NodeBox>,
-    pub dropped: Seq<NodeBox>,
+    pub kept: Seq<Node>,
+    pub dropped: Seq<Node>,
     pub least_floor: Option<i64>,
 }
 
 /// Takes the nodes out of their places, in order. On an error the places are as they were.
 pub(crate) fn take_nodes<L: CostLaw, K: Covers>(
     alloc: Global,
-    places: &mut Vec<Option<NodeBox>>,
+    places: &mut Vec<Option<Node>>,
     glances: &[Glance],
     count: usize,
     share: u64,
@@ -64,11 +64,11 @@ pub(crate) fn take_nodes<L: CostLaw, K: Covers>(
 // moves the nodes out of their places, in the order given, each place once: the first ones, up to the share, and the others;
 // there is room for them
 fn share_out(
-    places: &mut Vec<Option<NodeBox>>,
+    places: &mut Vec<Option<Node>>,
     order: &[Ranked],
     share: u64,
-    kept: &mut Vec<NodeBox>,
-    dropped: &mut Vec<NodeBox>,
+    kept: &mut Vec<Node>,
+    dropped: &mut Vec<Node>,
 )
     requires kept { kept.old.items ≡ [] }
     requires dropped { dropped.old.items ≡ [] }
@@ -87,7 +87,7 @@ fn share_out(
 }
 
 // puts a node among the kept ones while these are fewer than the share, and else among the dropped ones
-fn put_out(node: NodeBox, share: u64, kept: &mut Vec<NodeBox>, dropped: &mut Vec<NodeBox>)
+fn put_out(node: Node, share: u64, kept: &mut Vec<Node>, dropped: &mut Vec<Node>)
     requires kept_room { vec_len kept.old < share → vec_len kept.old < vec_capacity kept.old }
     requires dropped_room { share ≤ vec_len kept.old → vec_len dropped.old < vec_capacity dropped.old }
     ensures kept { length kept.old.items < share → (kept.new.items ≡ kept.old.items ++ node ∷ []) × (dropped.new.items ≡ dropped.old.items) }
@@ -105,7 +105,7 @@ fn put_out(node: NodeBox, share: u64, kept: &mut Vec<NodeBox>, dropped: &mut Vec
 
 // the best floor of nodes in the order of their words: the first one's, and none where there are no nodes, or where one has no
 // floor; `order` has their words from `start` on
-fn least_floor<L: CostLaw>(order: &[Ranked], start: usize, nodes: &[NodeBox]) -> Option<i64>
+fn least_floor<L: CostLaw>(order: &[Ranked], start: usize, nodes: &[Node]) -> Option<i64>
     requires words { (i : ℕ) (n : Node) → slice_get nodes.now i ≡ Some n → HasRank L.minimize L.operator order.now (start + i) n }
     requires sorted { AreInOrder L.minimize L.operator nodes.now }
     ensures { IsLeastFloor L.minimize L.operator nodes.now result }
@@ -117,7 +117,7 @@ fn least_floor<L: CostLaw>(order: &[Ranked], start: usize, nodes: &[NodeBox]) ->
 }
 
 // whether one of the nodes has no floor
-fn lacks_floor<L: CostLaw>(order: &[Ranked], start: usize, nodes: &[NodeBox]) -> bool
+fn lacks_floor<L: CostLaw>(order: &[Ranked], start: usize, nodes: &[Node]) -> bool
     requires { (i : ℕ) (n : Node) → slice_get nodes.now i ≡ Some n → HasRank L.minimize L.operator order.now (start + i) n }
     ensures lacks { result ≡ true → (n : Node) × Has nodes.now n × (n.floor ≡ None) }
     ensures has { result ≡ false → (n : Node) → Has nodes.now n → is_some n.floor ≡ true }
@@ -131,7 +131,7 @@ fn lacks_floor<L: CostLaw>(order: &[Ranked], start: usize, nodes: &[NodeBox]) ->
 }
 
 // whether the node with these words has no floor: one with two words has a floor, so that few nodes are looked at
-fn is_without_floor<L: CostLaw>(words: (u64, u64), node: &NodeBox) -> bool
+fn is_without_floor<L: CostLaw>(words: (u64, u64), node: &Node) -> bool
     requires { words ≡ rank_of L.minimize L.operator (Some node.now) }
     ensures lacks { result ≡ true → node.now.floor ≡ None }
     ensures has { result ≡ false → is_some node.now.floor ≡ true }
@@ -139,8 +139,8 @@ fn is_without_floor<L: CostLaw>(words: (u64, u64), node: &NodeBox) -> bool
     words.0 == words.1 && floor_of(node).is_none()
 }
 
-fn floor_of(node: &NodeBox) -> Option<i64>
+fn floor_of(node: &Node) -> Option<i64>
     ensures { result ≡ node.now.floor }
 {
-    node.get().floor
+    node.floor
 }

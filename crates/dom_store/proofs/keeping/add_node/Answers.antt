@@ -1,60 +1,29 @@
-use Rattle.std.proofs.Common.{◌≡◌, ◌<◌, List, false, length, Option, arith, sym, ◌∙◌, ap, subst}
-use Rattle.state_layout.specs.declared.node.Node.{Node}
+use Rattle.std.proofs.Common.{length}
 use Rattle.dom_store.specs.Chains.{row_in}
-use Rattle.dom_store.specs.Covering.{covers}
-use Rattle.dom_store.specs.Contents.{is_covered}
-use Rattle.dom_store.specs.Places.{nodes_of, StandsAt}
-use Rattle.dom_store.proofs.Adding.{kept_same, kept_with, nodes_few}
+use Rattle.dom_store.proofs.Indexing.{read_at, stairs_set}
 use Rattle.dom_store.proofs.keeping.add_node.Goals as goal
 
 pub key-key-requires : goal.key-key-requires
-key-key-requires g c = rw c.get-seen.ensures c.requires.node
+key-key-requires g c = rw c.get.ensures c.requires.node
 
-pub glance-glance-requires : goal.glance-glance-requires
-glance-glance-requires g c = rw c.get-seen.ensures c.requires.node
+pub add_by_steps-requires-clause-steps : goal.add_by_steps-requires-clause-steps
+add_by_steps-requires-clause-steps g c =
+    c.requires.steps.steps c.find-at.result c.index_mut.result.now (read_at c.args.staircases.now.stairs.items c.find-at.result c.index_mut.result.now c.find-at.ensures.within c.index_mut.ensures.value)
 
-pub covers_by_steps-requires-clause-node : goal.covers_by_steps-requires-clause-node
-covers_by_steps-requires-clause-node g c = rw c.get-seen.ensures c.requires.node
+pub returns-in-Err-clause-steps : goal.returns-in-Err-clause-steps
+returns-in-Err-clause-steps g c =
+    stairs_set g.K.Covers.prune g.K.Covers.minimize g.K.Covers.operator c.args.layout.now (row_in c.args.staircases.now.chains.heads.items c.args.staircases.now.chains.links.items) (length c.args.staircases.now.chains.links.items) c.args.staircases.now.stairs.items c.args.places.now.items c.requires.steps c.find-at.result c.index_mut.result.now c.add_by_steps.new.stairs c.add_by_steps.new.places.items c.key-key.result c.args.node
+    (read_at c.args.staircases.now.stairs.items c.find-at.result c.index_mut.result.now c.find-at.ensures.within c.index_mut.ensures.value) c.find-at.ensures.others c.add_by_steps.ensures.row c.add_by_steps.ensures.steps (rw c.get.ensures at c.key-key.ensures) c.add_by_steps.ensures.stood
 
-pub covers_by_steps-requires-clause-filed : goal.covers_by_steps-requires-clause-filed
-covers_by_steps-requires-clause-filed g c = rw c.deref.ensures.value c.requires.kept.filed
-
-pub covers_by_steps-requires-clause-steps : goal.covers_by_steps-requires-clause-steps
-covers_by_steps-requires-clause-steps g c = rw c.deref.ensures.value c.requires.steps
-
-pub covers_by_steps-requires-clause-glanced : goal.covers_by_steps-requires-clause-glanced
-covers_by_steps-requires-clause-glanced g c = rw (c.deref.ensures.value, c.deref-2.ensures.value) c.requires.kept.glanced
-
-pub keep_node-requires-clause-steps : goal.keep_node-requires-clause-steps
-keep_node-requires-clause-steps g c = rw c.deref.ensures.value at c.covers_by_steps.ensures.steps
-
-pub keep_node-requires-clause-covering : goal.keep_node-requires-clause-covering
-keep_node-requires-clause-covering g c = λ none p n stands. rw c.get-seen.ensures at c.in-Some.ensures.covering none p n (subst (λ (ps : List (Option Node)). StandsAt ps p n) (sym c.deref.ensures.value) stands)
-
-pub returns-in_err-gone-clause-kept : goal.returns-in_err-gone-clause-kept
-returns-in_err-gone-clause-kept g c =
-    kept_same g.K.Covers.prune g.K.Covers.minimize g.K.Covers.operator c.args.layout.now (row_in c.args.chains.now.heads.items c.args.chains.now.older.items c.args.chains.now.keys.items) (row_in c.keep_node.new.chains.heads.items c.keep_node.new.chains.older.items c.keep_node.new.chains.keys.items) (length c.args.chains.now.older.items) (length c.keep_node.new.chains.older.items) c.args.places.now.items c.keep_node.new.places.items c.args.glances.now.items c.keep_node.new.glances.items c.args.count.now c.requires.kept
-    c.in_err-gone.ensures.err.1 c.keep_node.ensures.filed c.keep_node.ensures.glanced c.keep_node.ensures.level c.keep_node.ensures.linked
-
-pub overflow_add-count : goal.overflow_add-count
-overflow_add-count g c =
-    let few : length c.args.places.now.items < 18446744073709551615 = omega (arith, c.deref.type_inv.1, ap length c.deref.ensures.value) in
-    omega (arith, c.requires.kept.counted, nodes_few c.args.places.now.items, few)
-
-pub returns-clause-kept : goal.returns-clause-kept
-returns-clause-kept g c =
-    let free : is_covered (covers g.K.Covers.prune g.K.Covers.minimize g.K.Covers.operator c.args.layout.now) (nodes_of c.args.places.now.items) c.args.node ≡ false = ap (λ (ps : List (Option Node)). is_covered (covers g.K.Covers.prune g.K.Covers.minimize g.K.Covers.operator c.args.layout.now) (nodes_of ps) c.args.node) (sym c.deref.ensures.value) ∙ (rw c.get-seen.ensures at c.in-Some.ensures.free) in
-    kept_with g.K.Covers.prune g.K.Covers.minimize g.K.Covers.operator c.args.layout.now (row_in c.args.chains.now.heads.items c.args.chains.now.older.items c.args.chains.now.keys.items) (row_in c.keep_node.new.chains.heads.items c.keep_node.new.chains.older.items c.keep_node.new.chains.keys.items) (length c.args.chains.now.older.items) (length c.keep_node.new.chains.older.items) c.args.places.now.items c.keep_node.new.places.items c.args.glances.now.items c.keep_node.new.glances.items c.args.count.now c.in_ok-gone.gone c.args.node c.requires.kept
-    free c.in_ok-gone.ensures.nodes c.in_ok-gone.ensures.counted c.keep_node.ensures.filed c.keep_node.ensures.glanced c.keep_node.ensures.level c.keep_node.ensures.linked
-
-pub raise_long-requires-clause-filed : goal.raise_long-requires-clause-filed
-raise_long-requires-clause-filed g c = rw c.deref-3.ensures.value c.keep_node.ensures.filed
+pub returns-in-Covered-clause-steps : goal.returns-in-Covered-clause-steps
+returns-in-Covered-clause-steps g c =
+    stairs_set g.K.Covers.prune g.K.Covers.minimize g.K.Covers.operator c.args.layout.now (row_in c.args.staircases.now.chains.heads.items c.args.staircases.now.chains.links.items) (length c.args.staircases.now.chains.links.items) c.args.staircases.now.stairs.items c.args.places.now.items c.requires.steps c.find-at.result c.index_mut.result.now c.add_by_steps.new.stairs c.add_by_steps.new.places.items c.key-key.result c.args.node
+    (read_at c.args.staircases.now.stairs.items c.find-at.result c.index_mut.result.now c.find-at.ensures.within c.index_mut.ensures.value) c.find-at.ensures.others c.add_by_steps.ensures.row c.add_by_steps.ensures.steps (rw c.get.ensures at c.key-key.ensures) c.add_by_steps.ensures.stood
 
 pub raise_long-requires-clause-glanced : goal.raise_long-requires-clause-glanced
-raise_long-requires-clause-glanced g c = rw (c.deref-3.ensures.value, c.deref-4.ensures.value) c.keep_node.ensures.glanced
+raise_long-requires-clause-glanced g c = rw (c.deref.ensures.value, c.deref-2.ensures.value) c.add_by_steps.ensures.kept.glanced
 
 pub raise_long-requires-clause-steps : goal.raise_long-requires-clause-steps
-raise_long-requires-clause-steps g c = rw c.deref-3.ensures.value c.keep_node.ensures.steps
-
-pub returns-clause-steps : goal.returns-clause-steps
-returns-clause-steps g c = rw c.deref-3.ensures.value at c.raise_long.ensures
+raise_long-requires-clause-steps g c =
+    rw c.deref.ensures.value (stairs_set g.K.Covers.prune g.K.Covers.minimize g.K.Covers.operator c.args.layout.now (row_in c.args.staircases.now.chains.heads.items c.args.staircases.now.chains.links.items) (length c.args.staircases.now.chains.links.items) c.args.staircases.now.stairs.items c.args.places.now.items c.requires.steps c.find-at.result c.index_mut.result.now c.add_by_steps.new.stairs c.add_by_steps.new.places.items c.key-key.result c.args.node
+    (read_at c.args.staircases.now.stairs.items c.find-at.result c.index_mut.result.now c.find-at.ensures.within c.index_mut.ensures.value) c.find-at.ensures.others c.add_by_steps.ensures.row c.add_by_steps.ensures.steps (rw c.get.ensures at c.key-key.ensures) c.add_by_steps.ensures.stood)

@@ -11,10 +11,10 @@ use Rattle.dom_store.proofs.places.clear_covered.Given as goal
 abbrev pub invariant-loop-next : goal.invariant-loop-next
 invariant-loop-next g l = record {
   cleared :
-      fold (cleared (λ (held : Node). covers g.K.Covers.prune g.K.Covers.minimize g.K.Covers.operator l.layout l.node held)) l.initial.places.items (chain_from l.initial.chains.older.items (older_at l.initial.chains.older.items l.place))
-      ≡ fold (cleared (λ (held : Node). covers g.K.Covers.prune g.K.Covers.minimize g.K.Covers.operator l.layout l.node held)) l.places.items (chain_from l.chains.older.items (older_at l.chains.older.items l.last));
-  rows : KeepsRows (row_in l.initial.chains.heads.items l.initial.chains.older.items l.initial.chains.keys.items) (row_in l.chains.heads.items l.chains.older.items l.chains.keys.items) l.place l.places.items;
-  links : length l.chains.older.items ≡ length l.initial.chains.older.items;
+      fold (cleared (λ (held : Node). covers g.K.Covers.prune g.K.Covers.minimize g.K.Covers.operator l.layout l.node held)) l.initial.places.items (chain_from l.initial.chains.links.items (older_at l.initial.chains.links.items l.place))
+      ≡ fold (cleared (λ (held : Node). covers g.K.Covers.prune g.K.Covers.minimize g.K.Covers.operator l.layout l.node held)) l.places.items (chain_from l.chains.links.items (older_at l.chains.links.items l.last));
+  rows : KeepsRows (row_in l.initial.chains.heads.items l.initial.chains.links.items) (row_in l.chains.heads.items l.chains.links.items) l.place l.places.items;
+  links : length l.chains.links.items ≡ length l.initial.chains.links.items;
   low : l.last ≤ l.place;
   nodes : (p : ℕ) (n : Node) → StandsAt l.places.items p n → IsNodeFor l.layout n;
   glanced : AreGlanced g.K.Covers.minimize g.K.Covers.operator l.layout l.places.items l.glances;
@@ -22,4 +22,4 @@ invariant-loop-next g l = record {
 }
 
 abbrev pub decreases-loop-next : goal.decreases-loop-next
-decreases-loop-next g l = places_left (older_at l.chains.older.items l.last)
+decreases-loop-next g l = places_left (older_at l.chains.links.items l.last)

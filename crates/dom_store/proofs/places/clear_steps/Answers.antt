@@ -21,6 +21,7 @@ loop-word-preserved g c = record {
   steps =
       step_gone g.K.Covers.prune g.K.Covers.minimize g.K.Covers.operator c.args.layout.now c.loop-word.stairs.row c.remove.new.self.row c.loop-word.stairs.steps c.remove.new.self.steps c.loop-word.places.items c.clear_at.new.places.items c.in-Some.word c.in-Some.step c.loop-word.invariant.steps
       c.remove.ensures.row c.in-Some.ensures.some c.remove.ensures.others c.clear_at.ensures.nodes (c.clear_at.ensures.gone c.if-not-clear_at.false);
+  row = λ k on. c.loop-word.invariant.row k (sym c.remove.ensures.row ∙ on);
   none_covers = λ on w s at low. c.loop-word.invariant.none_covers (sym c.remove.ensures.row ∙ on) w s (c.remove.ensures.none w s at) low;
   counted = grind arith;
 }
@@ -65,3 +66,9 @@ returns-clause-none_covers g c = c.loop-word.invariant.none_covers
 
 pub returns-clause-none_covered : goal.returns-clause-none_covered
 returns-clause-none_covered g c = c.in_default.ensures.none
+
+pub returns-then-not-clear_at-clause-row : goal.returns-then-not-clear_at-clause-row
+returns-then-not-clear_at-clause-row g c = λ k on. (let clash : None ≡ Some k = sym c.end.ensures ∙ on in absurd (cc))
+
+pub returns-clause-row : goal.returns-clause-row
+returns-clause-row g c = c.loop-word.invariant.row

@@ -4,20 +4,20 @@ use Rattle.state_layout.specs.declared.node.Node.{Node}
 use Rattle.dom_store.specs.Chains.{row_in}
 use Rattle.dom_store.specs.Contents.{Contents, IsCovered}
 use Rattle.dom_store.specs.Places.{nodes_of, IsKept}
-use Rattle.dom_store.specs.Stairs.{AreSteps}
+use Rattle.dom_store.specs.Staircases.{AreStaircases}
 use Rattle.dom_store.proofs.Promises.{apart_in, stays_covered, added_covered}
 use Rattle.dom_store.proofs.store.DomStore.add.Goals as goal
 
 pub add_node-requires-clause-kept : goal.add_node-requires-clause-kept
-add_node-requires-clause-kept g c = subst (λ (l : Layout). IsKept g.K.Covers.prune g.K.Covers.minimize g.K.Covers.operator l (row_in c.self.inside.chains.heads.items c.self.inside.chains.older.items c.self.inside.chains.keys.items) (length c.self.inside.chains.older.items) c.self.inside.places.items c.self.inside.glances.items c.self.inside.count) (ap (λ (v : Contents). v.layout) c.self.view_is ∙ sym c.requires.layout) c.self.invariant.0
+add_node-requires-clause-kept g c = subst (λ (l : Layout). IsKept g.K.Covers.prune g.K.Covers.minimize g.K.Covers.operator l (row_in c.self.inside.chains.heads.items c.self.inside.chains.links.items) (length c.self.inside.chains.links.items) c.self.inside.places.items c.self.inside.glances.items c.self.inside.count) (ap (λ (v : Contents). v.layout) c.self.view_is ∙ sym c.requires.layout) c.self.invariant.0
 
 pub add_node-requires-clause-steps : goal.add_node-requires-clause-steps
-add_node-requires-clause-steps g c = subst (λ (l : Layout). AreSteps g.K.Covers.prune g.K.Covers.minimize g.K.Covers.operator l c.self.inside.stairs.row c.self.inside.stairs.steps c.self.inside.places.items) (ap (λ (v : Contents). v.layout) c.self.view_is ∙ sym c.requires.layout) c.self.invariant.1
+add_node-requires-clause-steps g c = subst (λ (l : Layout). AreStaircases g.K.Covers.prune g.K.Covers.minimize g.K.Covers.operator l (row_in c.self.inside.staircases.chains.heads.items c.self.inside.staircases.chains.links.items) (length c.self.inside.staircases.chains.links.items) c.self.inside.staircases.stairs.items c.self.inside.places.items) (ap (λ (v : Contents). v.layout) c.self.view_is ∙ sym c.requires.layout) c.self.invariant.1
 
 pub invariant_of-self : goal.invariant_of-self
 invariant_of-self g c = (
-  subst (λ (l : Layout). IsKept g.K.Covers.prune g.K.Covers.minimize g.K.Covers.operator l (row_in c.add_node.new.chains.heads.items c.add_node.new.chains.older.items c.add_node.new.chains.keys.items) (length c.add_node.new.chains.older.items) c.add_node.new.places.items c.add_node.new.glances.items c.add_node.new.count) (c.requires.layout ∙ sym (ap (λ (v : Contents). v.layout) c.self.view_is)) c.add_node.ensures.kept,
-  subst (λ (l : Layout). AreSteps g.K.Covers.prune g.K.Covers.minimize g.K.Covers.operator l c.add_node.new.stairs.row c.add_node.new.stairs.steps c.add_node.new.places.items) (c.requires.layout ∙ sym (ap (λ (v : Contents). v.layout) c.self.view_is)) c.add_node.ensures.steps,
+  subst (λ (l : Layout). IsKept g.K.Covers.prune g.K.Covers.minimize g.K.Covers.operator l (row_in c.add_node.new.chains.heads.items c.add_node.new.chains.links.items) (length c.add_node.new.chains.links.items) c.add_node.new.places.items c.add_node.new.glances.items c.add_node.new.count) (c.requires.layout ∙ sym (ap (λ (v : Contents). v.layout) c.self.view_is)) c.add_node.ensures.kept,
+  subst (λ (l : Layout). AreStaircases g.K.Covers.prune g.K.Covers.minimize g.K.Covers.operator l (row_in c.add_node.new.staircases.chains.heads.items c.add_node.new.staircases.chains.links.items) (length c.add_node.new.staircases.chains.links.items) c.add_node.new.staircases.stairs.items c.add_node.new.places.items) (c.requires.layout ∙ sym (ap (λ (v : Contents). v.layout) c.self.view_is)) c.add_node.ensures.steps,
 )
 
 pub returns-clause-covered : goal.returns-clause-covered

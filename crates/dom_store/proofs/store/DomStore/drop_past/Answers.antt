@@ -7,7 +7,7 @@ use Rattle.dom_store.specs.Chains.{row_in}
 use Rattle.dom_store.specs.Contents.{Contents}
 use Rattle.dom_store.specs.Past.{covers_past, is_past}
 use Rattle.dom_store.specs.Places.{nodes_of, StandsAt}
-use Rattle.dom_store.proofs.Climbing.{fewer_steps}
+use Rattle.dom_store.proofs.Indexing.{stairs_fewer}
 use Rattle.dom_store.proofs.Rows.{nodes_without}
 use Rattle.dom_store.proofs.Sweeping.{kept_without, stands_without, left_or_past, left_is_new}
 use Rattle.dom_store.proofs.store.DomStore.drop_past.Goals as goal
@@ -19,8 +19,8 @@ clear_past-gone-requires-clause-nodes g c = λ p n there.
 pub invariant_of-self : goal.invariant_of-self
 invariant_of-self g c =
     let test : Node → Bool = is_past (covers_past g.K.Covers.prune g.K.Covers.minimize g.K.Covers.operator c.args.layout.now) c.args.past.now.nodes in (
-      kept_without g.K.Covers.prune g.K.Covers.minimize g.K.Covers.operator c.self.inside.layout test (row_in c.self.inside.chains.heads.items c.self.inside.chains.older.items c.self.inside.chains.keys.items) (length c.self.inside.chains.older.items) c.self.inside.places.items c.clear_past-gone.new.places.items c.self.inside.glances.items c.self.inside.count c.clear_past-gone.result c.self.invariant.0 c.clear_past-gone.ensures.places c.clear_past-gone.ensures.counted,
-      fewer_steps g.K.Covers.prune g.K.Covers.minimize g.K.Covers.operator c.self.inside.layout c.self.inside.stairs.row c.self.inside.stairs.steps c.self.inside.places.items c.clear_past-gone.new.places.items c.self.invariant.1
+      kept_without g.K.Covers.prune g.K.Covers.minimize g.K.Covers.operator c.self.inside.layout test (row_in c.self.inside.chains.heads.items c.self.inside.chains.links.items) (length c.self.inside.chains.links.items) c.self.inside.places.items c.clear_past-gone.new.places.items c.self.inside.glances.items c.self.inside.count c.clear_past-gone.result c.self.invariant.0 c.clear_past-gone.ensures.places c.clear_past-gone.ensures.counted,
+      stairs_fewer g.K.Covers.prune g.K.Covers.minimize g.K.Covers.operator c.self.inside.layout (row_in c.self.inside.staircases.chains.heads.items c.self.inside.staircases.chains.links.items) (length c.self.inside.staircases.chains.links.items) c.self.inside.staircases.stairs.items c.self.inside.places.items c.self.invariant.1 c.clear_past-gone.new.places.items
           (λ p n there. stands_without test c.self.inside.places.items p n (subst (λ (ps : List (Option Node)). StandsAt ps p n) c.clear_past-gone.ensures.places there)),
     )
 
