@@ -31,7 +31,6 @@ use Rattle.pass_ledger.specs.declared.mail.Letter.{Letter}
 use Rattle.pass_ledger.specs.declared.mail.Letter.TheVariants.{State, Mark}
 use Rattle.pass_ledger.specs.declared.records.LedgerRow.{LedgerRow}
 use Rattle.pass_ledger.specs.declared.records.ShardRecord.{ShardRecord}
-use Rattle.pass_ledger.specs.declared.records.Unsent.{Unsent}
 use Rattle.pass_ledger.proofs.Lists.{has_none, has_head, has_cases, has_left, has_right, has_map}
 use Rattle.pass_ledger.proofs.Groups.{marks, states}
 use Rattle.pass_ledger.proofs.Past.{past, new_row, row_covers}
@@ -40,12 +39,12 @@ use Rattle.successors.specs.Searches.{Search}
 use Rattle.shard_core.specs.Calls.{IsReady, IsClosed}
 use Rattle.shard_core.specs.Floors.{floor_of}
 use Rattle.shard_core.specs.Layers.{nodes_at, busy_at, AreOf, Splits}
-use Rattle.shard_core.specs.Outgoing.{count_to}
 use Rattle.shard_core.specs.Stands.{Stands, Remembers, all_dropped}
 use Rattle.shard_core.specs.declared.layers.Layer.{Layer}
 use Rattle.shard_core.specs.declared.shard.Closed.{Closed}
 use Rattle.shard_core.specs.declared.shard.Shard.{Shard}
 use Rattle.shard_core.proofs.Rows.{by_law}
+use Rattle.shard_core.proofs.Sends.{no_letters}
 
 -- ---- rows
 
@@ -213,8 +212,9 @@ module _ {A B : Type 0} where
         long = same ∙ st.outbox.long;
         told_are = λ j lt. absurd (omega (arith, lt));
         open_are = λ j _ lt. ap (λ (q : ℕ × ℕ). q.0) (told_to p s r st ready j lt);
-        sent_are = λ j lt. zeros j ∙ sym (ap (λ (us : List Unsent). states_at (s.layer + 1) (of r.posted j) + count_to j us) empty ∙ none_of j);
+        sent_are = λ j lt. zeros j ∙ sym (none j);
         total_is = (let a = none_in (s.layer + 1) r.posted none in let b = ap length empty in omega (arith, a, b));
+        total_fits = omega arith;
         held_back = λ lt. absurd (omega (arith, lt));
       };
     },
@@ -224,16 +224,13 @@ module _ {A B : Type 0} where
       up d = omega arith
 
       empty : s.letters.items ≡ []
-      empty = st.letters ∙ ready.sent
+      empty = no_letters s.layout s.shards s.letters.items (st.letters ∙ ready.sent)
 
       none : (j : ℕ) → states_at (s.layer + 1) (of r.posted j) ≡ 0
       none j = elim (cases_lt j p.shards) [
         | inl lt ↦ states_are (of r.posted j) (s.layer + 1) 0 (st.ends.1.own.sends.lawful j).groups (told_to p s r st ready j lt)
         | inr ge ↦ ap (states_at (s.layer + 1)) (get_or_past r.posted j [] (subst (λ (k : ℕ). k ≤ j) (sym st.ends.1.own.sizes.1) ge))
       ]
-
-      none_of : (j : ℕ) → states_at (s.layer + 1) (of r.posted j) + count_to j [] ≡ 0
-      none_of j = let a = none j in omega (arith, a)
 
       at_layer : s.layer + 0 ≡ length r.rows
       at_layer = let z = st.layer in omega (arith, z)

@@ -1,13 +1,21 @@
--- States that go to the letters, one after the other.
-use Rattle.std.proofs.Common.{◌≡◌, ℕ, ◌+◌, List, [], ◌∷◌, ◌++◌, map, sym, ◌∙◌, ap, append_assoc}
-use Rattle.std.proofs.lemmas.List.Sums.{sum_by-cons}
+-- Nodes that go to the letters.
+use Rattle.std.proofs.Common.{◌≡◌, ℕ, List, [], ◌∷◌, ◌++◌, refl, sym, ◌∙◌, ap, append_assoc}
+use Rattle.std.proofs.lemmas.List.{map-append}
+use Rattle.state_layout.specs.declared.layout.Layout.{Layout}
 use Rattle.state_layout.specs.declared.node.Node.{Node}
 use Rattle.pass_ledger.specs.declared.records.Unsent.{Unsent}
-use Rattle.shard_core.specs.Outgoing.{is_to, count_to}
+use Rattle.shard_core.specs.Outgoing.{letter_of, letters_of}
 
--- what is left decides
-pub letters_next : (f : Node → Unsent) (letters new : List Unsent) (n : Node) (rest left : List Node) → left ≡ n ∷ rest → new ≡ letters ++ f n ∷ [] → new ++ map f rest ≡ letters ++ map f left
-letters_next f letters new n rest left e is = ap (λ (us : List Unsent). us ++ map f rest) is ∙ (append_assoc letters (f n ∷ []) (map f rest) ∙ ap (λ (ns : List Node). letters ++ map f ns) (sym e))
+-- the first of those that are left goes behind the letters
+pub letters_next : (letters new : List Node) (n : Node) (rest left : List Node) → left ≡ n ∷ rest → new ≡ letters ++ n ∷ [] → new ++ rest ≡ letters ++ left
+letters_next letters new n rest left e is = ap (λ (ns : List Node). ns ++ rest) is ∙ (append_assoc letters (n ∷ []) rest ∙ ap (λ (ns : List Node). letters ++ ns) (sym e))
 
-pub count_next : (f : Node → Unsent) (j : ℕ) (n : Node) (rest left : List Node) → left ≡ n ∷ rest → count_to j (map f left) ≡ is_to j (f n) + count_to j (map f rest)
-count_next f j n rest left e = ap (λ (ns : List Node). count_to j (map f ns)) e ∙ sum_by-cons (is_to j) (f n) (map f rest)
+-- where no letter is to be posted no node is left
+pub no_letters : (layout : Layout) (shards : ℕ) (nodes : List Node) → letters_of layout shards nodes ≡ [] → nodes ≡ []
+no_letters layout shards [] e = refl
+no_letters layout shards (n ∷ nodes) e = absurd (cc)
+
+-- more nodes give more letters
+pub letters_more : (layout : Layout) (shards : ℕ) (letters more new : List Node) (us : List Unsent) → new ≡ letters ++ more → letters_of layout shards letters ≡ us → letters_of layout shards new ≡ us ++ letters_of layout shards more
+letters_more layout shards letters more new us is e =
+    ap (letters_of layout shards) is ∙ (map-append (letter_of layout shards) letters more ∙ ap (λ (vs : List Unsent). vs ++ letters_of layout shards more) e)

@@ -24,7 +24,7 @@ use Rattle.pass_ledger.specs.declared.mail.Letter.{Letter}
 use Rattle.pass_ledger.specs.declared.mail.Letter.TheVariants.{State, Mark}
 use Rattle.pass_ledger.proofs.Lists.{has_none}
 use Rattle.shard_core.specs.Layers.{nodes_at, busy_at, AreOf, Merges}
-use Rattle.shard_core.specs.Outgoing.{count_to}
+use Rattle.shard_core.specs.Outgoing.{letters_of}
 use Rattle.shard_core.specs.Stands.{Stands, Belongs}
 use Rattle.shard_core.specs.declared.shard.Shard.{Shard}
 
@@ -77,7 +77,7 @@ module _ {A B : Type 0} where
         layer = layer;
         begun = λ _. refl;
         waiting = waiting;
-        letters = letters;
+        letters = ap (letters_of s.layout s.shards) letters;
         intake = record { long = open_long; open_are = λ j lt. open_is j lt ∙ sym (ap (λ (xs : List Letter). (unfinished (1, 0) xs).0) (none_of p.shards j)) };
         collects = record {
           layouts = are;
@@ -92,8 +92,9 @@ module _ {A B : Type 0} where
           long = sent_long;
           told_are = λ j _. ap (unfinished (1, 0)) (none_of p.shards j) ∙ ap (λ (l : ℕ). (l + 1, 0)) (sym layer);
           open_are = λ j ge lt. absurd (omega (arith, told, ge, lt));
-          sent_are = λ j lt. sent_is j lt ∙ sym (ap (λ (xs : List Letter). states_at s.layer xs + count_to j s.letters.items) (none_of p.shards j) ∙ ap (λ us. 0 + count_to j us) letters);
+          sent_are = λ j lt. sent_is j lt ∙ sym (ap (states_at s.layer) (none_of p.shards j));
           total_is = (let a = count_none s.layer p.shards in let b = ap length letters in omega (arith, a, b, total));
+          total_fits = omega (arith, total);
           held_back = λ _. (letters, waiting);
         };
       }

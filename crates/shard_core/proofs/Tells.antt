@@ -22,11 +22,13 @@ use Rattle.pass_ledger.proofs.Groups.{marks}
 use Rattle.pass_ledger.proofs.Steps.{own_prune}
 use Rattle.shard_core.specs.Calls.{IsReady, IsPruning}
 use Rattle.shard_core.specs.Layers.{busy_at}
+use Rattle.shard_core.specs.Outgoing.{letters_of}
 use Rattle.shard_core.specs.Stands.{Stands}
 use Rattle.shard_core.specs.declared.layers.Layer.{Layer}
 use Rattle.shard_core.specs.declared.shard.Shard.{Shard}
 use Rattle.shard_core.proofs.Closes.{unfinished_from, told_to}
 use Rattle.shard_core.proofs.Posts.{mark_posted}
+use Rattle.shard_core.proofs.Sends.{no_letters}
 
 -- ---- lists
 
@@ -95,7 +97,7 @@ module _ {A B : Type 0} where
   is_ready p s r st idle empty told past =
       record {
         idle = sym st.waiting ∙ idle;
-        sent = sym st.letters ∙ empty;
+        sent = sym st.letters ∙ ap (letters_of s.layout s.shards) empty;
         told = λ l j at lt. subst (λ (k : ℕ). (to_you : ℕ) × (total : ℕ) × Has (of r.posted j) (Mark s.me k to_you total)) (st.layer ∙ sym at) (mark_posted p s r st (let z = st.layer in omega (arith, z, at)) j (omega (arith, told, lt)));
         marked = λ l j at lt.
             let up : s.layer < (unfinished (1, 0) (of r.received j)).0 = subst (λ (k : ℕ). s.layer < k) (st.intake.open_are j lt) (past j (let z = st.intake.long in omega (arith, z, lt))) in
@@ -127,7 +129,7 @@ module _ {A B : Type 0} where
   -- so the shard is ready only where it finds itself so
   pub finds_ready : (p : Pass) (s : Shard A B) (r : ShardRecord) → Stands p s r → IsReady p s.me r
       → (s.waiting.items ≡ []) × (s.letters.items ≡ []) × (s.told ≡ p.shards) × ((j : ℕ) → j < length s.open_layers.items → s.layer < get_or s.open_layers.items j 1)
-  finds_ready p s r st ready = (st.waiting ∙ ready.idle, st.letters ∙ ready.sent, told_all p s r st ready, past_all p s r st ready)
+  finds_ready p s r st ready = (st.waiting ∙ ready.idle, no_letters s.layout s.shards s.letters.items (st.letters ∙ ready.sent), told_all p s r st ready, past_all p s r st ready)
 
   -- ---- done
 
@@ -254,6 +256,7 @@ module _ {A B : Type 0} where
             open_are = st.outbox.open_are;
             sent_are = st.outbox.sent_are;
             total_is = st.outbox.total_is;
+            total_fits = st.outbox.total_fits;
             held_back = λ pos. absurd (let e : n ∷ rest ≡ [] = sym head ∙ (st.outbox.held_back pos).1 in cc);
           };
         };

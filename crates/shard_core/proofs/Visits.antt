@@ -1,12 +1,10 @@
 -- A shard that visits a node stands for the record that visited it.
-use Rattle.std.proofs.Common.{◌≡◌, ℕ, ◌+◌, ◌-◌, ◌≤◌, inl, inr, zero, suc, Bool, List, [], ◌∷◌, ◌++◌, length, map, get_or, slice_get, Option, Some, None, Ok, Err, refl, sym, subst, ◌∙◌, ap, arith, length-append}
+use Rattle.std.proofs.Common.{◌≡◌, ℕ, ◌+◌, ◌-◌, ◌^◌, ◌≤◌, ◌<◌, inl, inr, zero, suc, Bool, List, [], ◌∷◌, ◌++◌, length, map, slice_get, Option, Some, None, Ok, Err, refl, sym, subst, ◌∙◌, ap, arith, length-append}
 use Rattle.std.specs.Prelude.{ℤ, pos, is_some, IfSome, Result}
 use Rattle.std.specs.List.{All}
-use Rattle.std.proofs.lemmas.List.{length_push, length-map}
-use Rattle.std.proofs.lemmas.List.Sums.{sum_by-cons}
+use Rattle.std.proofs.lemmas.List.{length_push}
 use Rattle.std.specs.declared.alloc.Global.{Global}
 use Rattle.std.specs.declared.collections.VecDeque.{VecDeque}
-use Rattle.std.specs.declared.vec.Vec.{Vec}
 use Rattle.dp_claims.specs.Enough.{Has, Different}
 use Rattle.cost_laws.specs.Orders.{IsLawOf}
 use Rattle.dp_model.specs.Costs.{join, order_word}
@@ -52,11 +50,12 @@ use Rattle.visit_laws.proofs.Rising.{Rises, rises}
 use Rattle.visit_laws.proofs.Visits.{visit_faults}
 use Rattle.shard_core.specs.Calls.{IsVisit, IsFaulted, IsOffer, visit_in}
 use Rattle.shard_core.specs.Offers.{best_held, is_news}
-use Rattle.shard_core.specs.Outgoing.{letter_of, letters_of, is_to, count_to}
+use Rattle.shard_core.specs.Outgoing.{letter_of, letters_of}
 use Rattle.shard_core.specs.Stands.{Stands, EndsAs}
 use Rattle.shard_core.specs.declared.shard.Shard.{Shard}
 use Rattle.shard_core.proofs.Best.{all_reaches, all_offers, all_from, no_news}
 use Rattle.shard_core.proofs.Rows.{by_law}
+use Rattle.shard_core.proofs.Sends.{letters_more}
 use Rattle.shard_core.proofs.Tells.{layer_above, head_good}
 use Rattle.spot_eval.specs.declared.ends.SpotFault.{SpotFault}
 
@@ -76,7 +75,7 @@ all_at P (y ∷ xs) all x (suc k) e = all_at P xs (λ k d lt. all (suc k) d (ome
 pub first_is : {A : Type 0} {xs : List A} {x y : A} (rest : List A) → xs ≡ y ∷ rest → x ≡ y → xs ≡ x ∷ rest
 first_is rest e same = e ∙ ap (λ (z : _). z ∷ rest) (sym same)
 
-pub all_has : {A : Type 0} (P : A → Type 0) (xs : List A) → All P xs → (x : A) → Has xs x → P x
+all_has : {A : Type 0} (P : A → Type 0) (xs : List A) → All P xs → (x : A) → Has xs x → P x
 all_has P xs all x h = all_at P xs all x h.0 h.1
 
 map_has : {A B : Type 0} (f : A → B) (xs : List A) (x : A) → Has xs x → Has (map f xs) (f x)
@@ -105,10 +104,6 @@ different_letters f node from (n ∷ ns) h = (
 map_push : (visits : List Visit) (v : Visit) → map entry_of (visits ++ v ∷ []) ≡ map entry_of visits ++ entry_of v ∷ []
 map_push [] v = refl
 map_push (w ∷ visits) v = ap (λ (es : List Entry). entry_of w ∷ es) (map_push visits v)
-
-count_append : (j : ℕ) (us more : List Unsent) → count_to j (us ++ more) ≡ count_to j us + count_to j more
-count_append j [] more = omega arith
-count_append j (u ∷ us) more = let a = count_append j us more in let b = sum_by-cons (is_to j) u (us ++ more) in let c = sum_by-cons (is_to j) u us in omega (arith, a, b, c)
 
 floor_bounded : (m : Model) (prune : Bool) (s : PlainState) (cost floor : Option ℤ) → IsFloor m prune s cost floor → IfSome floor (IsBounded m s cost)
 floor_bounded m prune s cost None h = tt
@@ -210,12 +205,11 @@ module _ {A B : Type 0} where
           )
 
   pub visits : (p : Pass) (s : Shard A B) (r : ShardRecord) → Stands p s r → (n : Node) (rest : List Node) → s.waiting.items ≡ n ∷ rest → (best : ℕ) (batch : Batch) → BatchFits p.model batch → expansion p.model (visit_in p s.me s.visited n best) ≡ Ok batch
-      → (waiting' : VecDeque Node Global) → waiting'.items ≡ rest → (letters' : VecDeque Unsent Global) → letters'.items ≡ s.letters.items ++ letters_of s.layout s.shards batch.letters
-      → (sent' : Vec ℕ Global) → length sent'.items ≡ s.shards → ((j : ℕ) → get_or sent'.items j 0 ≡ get_or s.sent.items j 0 + count_to j (letters_of s.layout s.shards batch.letters))
-      → (total' : ℕ) → total' ≡ s.total + length batch.letters → (log' : PathLog) → log'.shard ≡ s.log.shard → log'.entries ≡ s.log.entries ++ record { parent = n.parent; transition = n.transition } ∷ [] → (visited' : ℕ) → visited' ≡ s.visited + 1
+      → (waiting' : VecDeque Node Global) → waiting'.items ≡ rest → (letters' : VecDeque Node Global) → letters'.items ≡ s.letters.items ++ batch.letters
+      → (total' : ℕ) → total' ≡ s.total + length batch.letters → total' < 2 ^ 64 → (log' : PathLog) → log'.shard ≡ s.log.shard → log'.entries ≡ s.log.entries ++ record { parent = n.parent; transition = n.transition } ∷ [] → (visited' : ℕ) → visited' ≡ s.visited + 1
       → (held' : Option Held) → held' ≡ best_held p.model.minimize p.model.join (step_id s.me s.visited) s.held batch.offers → (offer : Option ℕ) → IsOffer p r.held held' offer
-      → (batch' : Batch) → IsVisit p s.me best r offer (record s { waiting = waiting'; batch = batch'; letters = letters'; sent = sent'; total = total'; log = log'; visited = visited'; held = held' })
-  visits p s r st n rest head best batch fits found waiting' wis letters' lis sent' long counts total' tis log' shard entries visited' vis held' his offer offered batch' =
+      → (batch' : Batch) → IsVisit p s.me best r offer (record s { waiting = waiting'; batch = batch'; letters = letters'; total = total'; log = log'; visited = visited'; held = held' })
+  visits p s r st n rest head best batch fits found waiting' wis letters' lis total' tis tfit log' shard entries visited' vis held' his offer offered batch' =
       record {
         layer = s.layer - 1;
         node = n;
@@ -244,17 +238,18 @@ module _ {A B : Type 0} where
           layer = st.layer;
           begun = λ e. absurd (let pos = layer_above p s r st n rest first in omega (arith, pos, e));
           waiting = wis;
-          letters = lis ∙ ap (λ (us : List Unsent). us ++ made) st.letters;
+          letters = letters_more s.layout s.shards s.letters.items batch.letters letters'.items r.unsent lis st.letters;
           intake = st.intake;
           collects = st.collects;
           past = st.past;
           outbox = record {
             few = st.outbox.few;
-            long = long ∙ st.belongs.shards_are;
+            long = st.outbox.long;
             told_are = st.outbox.told_are;
             open_are = st.outbox.open_are;
-            sent_are = λ j jt. (let a = counts j in let b = st.outbox.sent_are j jt in let c = count_append j s.letters.items made in let d = ap (count_to j) lis in omega (arith, a, b, c, d));
-            total_is = (let b = st.outbox.total_is in let c = length-append s.letters.items made in let d = ap length lis in let e = length-map batch.letters (letter_of s.layout s.shards) in omega (arith, tis, b, c, d, e));
+            sent_are = st.outbox.sent_are;
+            total_is = (let b = st.outbox.total_is in let c = length-append s.letters.items batch.letters in let d = ap length lis in omega (arith, tis, b, c, d));
+            total_fits = tfit;
             held_back = λ pos. absurd (let e : n ∷ rest ≡ [] = sym head ∙ (st.outbox.held_back pos).1 in cc);
           };
         };
@@ -344,16 +339,15 @@ module _ {A B : Type 0} where
   pub took : (p : Pass) (minimize : Bool) (operator : JoinOp) → IsLawOf p.model minimize operator → (s : Shard A B) (r : ShardRecord) → Stands p s r → (n : Node) (rest : List Node) → s.waiting.items ≡ n ∷ rest → (best : ℕ) (batch : Batch)
       → BatchFits s.expander.model batch → expansion s.expander.model (record { prune = s.expander.prune; state = n.state; cost = n.cost; id = step_id s.me s.visited; best = best }) ≡ Ok batch
       → (waiting' : VecDeque Node Global) → waiting'.items ≡ rest → (expander' : searches.Search) → expander' ≡ s.expander → (new : Shard A B)
-      → new ≡ record s { waiting = waiting'; expander = expander'; batch = new.batch; letters = new.letters; sent = new.sent; total = new.total; log = new.log; visited = new.visited; held = new.held }
-      → new.letters.items ≡ s.letters.items ++ letters_of s.layout s.shards batch.letters
-      → ((j : ℕ) → get_or new.sent.items j 0 ≡ get_or s.sent.items j 0 + count_to j (letters_of s.layout s.shards batch.letters)) → length new.sent.items ≡ s.shards
-      → new.total ≡ s.total + length batch.letters → new.log ≡ with_step s.log (entry n.parent n.transition) → new.visited ≡ s.visited + 1 → new.held ≡ best_held minimize operator (step_id s.me s.visited) s.held batch.offers
+      → new ≡ record s { waiting = waiting'; expander = expander'; batch = new.batch; letters = new.letters; total = new.total; log = new.log; visited = new.visited; held = new.held }
+      → new.letters.items ≡ s.letters.items ++ batch.letters
+      → new.total ≡ s.total + length batch.letters → new.total < 2 ^ 64 → new.log ≡ with_step s.log (entry n.parent n.transition) → new.visited ≡ s.visited + 1 → new.held ≡ best_held minimize operator (step_id s.me s.visited) s.held batch.offers
       → (offer : Option ℕ) → is_some offer ≡ is_news minimize operator s.held new.held → IfSome offer (IsWordOf minimize operator new.held) → IsVisit p s.me best r offer new
-  took p minimize operator law s r st n rest head best batch fits found waiting' wis expander' xis new frame letters sent long total log visited' held offer news word =
+  took p minimize operator law s r st n rest head best batch fits found waiting' wis expander' xis new frame letters total fit log visited' held offer news word =
       subst (λ (q : Shard A B). IsVisit p s.me best r offer q) (sym frame)
-      (subst (λ (x : searches.Search). IsVisit p s.me best r offer (record s { waiting = waiting'; expander = x; batch = new.batch; letters = new.letters; sent = new.sent; total = new.total; log = new.log; visited = new.visited; held = new.held })) (sym xis)
+      (subst (λ (x : searches.Search). IsVisit p s.me best r offer (record s { waiting = waiting'; expander = x; batch = new.batch; letters = new.letters; total = new.total; log = new.log; visited = new.visited; held = new.held })) (sym xis)
       (visits p s r st n rest head best batch (subst (λ (m : Model). BatchFits m batch) st.belongs.model fits) (expands_in p s.expander st.belongs.model st.belongs.prune s.me s.visited n best (Ok batch) found)
-      waiting' wis new.letters letters new.sent long sent new.total total new.log (ap (λ (l : PathLog). l.shard) log) (ap (λ (l : PathLog). l.entries) log) new.visited visited' new.held held_is offer offer_is new.batch))
+      waiting' wis new.letters letters new.total total fit new.log (ap (λ (l : PathLog). l.shard) log) (ap (λ (l : PathLog). l.entries) log) new.visited visited' new.held held_is offer offer_is new.batch))
     where
       held_is : new.held ≡ best_held p.model.minimize p.model.join (step_id s.me s.visited) s.held batch.offers
       held_is = by_law p.model minimize operator (λ b o. new.held ≡ best_held b o (step_id s.me s.visited) s.held batch.offers) law held
@@ -382,7 +376,7 @@ module _ {A B : Type 0} where
 
   -- where memory ran out, what is handed back at the end is as before
   pub ends_kept : (p : Pass) (s : Shard A B) (r : ShardRecord) → EndsAs p s r → (waiting' : VecDeque Node Global) (expander' : searches.Search) (new : Shard A B)
-      → new ≡ record s { waiting = waiting'; expander = expander'; batch = new.batch; letters = new.letters; sent = new.sent; total = new.total; log = new.log; visited = new.visited; held = new.held }
+      → new ≡ record s { waiting = waiting'; expander = expander'; batch = new.batch; letters = new.letters; total = new.total; log = new.log; visited = new.visited; held = new.held }
       → new.log ≡ s.log → new.visited ≡ s.visited → new.held ≡ s.held → EndsAs p new r
   ends_kept p s r e waiting' expander' new frame log vis held =
       subst (λ (q : Shard A B). EndsAs p q r) (sym frame) (

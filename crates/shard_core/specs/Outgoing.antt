@@ -1,5 +1,5 @@
--- The states that are to be handed out, and how many of them go to each shard.
-use Rattle.std.specs.Prelude.{ℕ, if◌then◌else◌, nat_eq, List, map, sum_by}
+-- The states that are to be handed out.
+use Rattle.std.specs.Prelude.{ℕ, List, map}
 use Rattle.state_layout.specs.Signatures.{owner_of}
 use Rattle.state_layout.specs.declared.layout.Layout.{Layout}
 use Rattle.state_layout.specs.declared.node.Node.{Node}
@@ -12,10 +12,3 @@ letter_of layout shards n = unsent (owner_of layout n.state shards) n
 
 abbrev pub letters_of : Layout → (shards : ℕ) → List Node → List Unsent
 letters_of layout shards nodes = map (letter_of layout shards) nodes
-
-abbrev pub is_to : ℕ → Unsent → ℕ
-is_to j u = if nat_eq u.to j then 1 else 0
-
--- how many go to a shard
-abbrev pub count_to : ℕ → List Unsent → ℕ
-count_to j letters = sum_by (is_to j) letters

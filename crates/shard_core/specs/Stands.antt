@@ -1,5 +1,5 @@
 -- When a running shard stands for a record of a pass.
-use Rattle.std.specs.Prelude.{◌≡◌, ℕ, ◌+◌, ◌≤◌, ◌<◌, Bool, true, List, [], ◌∷◌, ◌++◌, map, length, get_or, Option, Some, None, ℤ}
+use Rattle.std.specs.Prelude.{◌≡◌, ℕ, ◌+◌, ◌^◌, ◌≤◌, ◌<◌, Bool, true, List, [], ◌∷◌, ◌++◌, map, length, get_or, Option, Some, None, ℤ}
 use Rattle.dp_claims.specs.Enough.{Has}
 use Rattle.dp_model.specs.declared.answers.Keep.{Keep}
 use Rattle.dp_model.specs.declared.parts.JoinOp.{JoinOp}
@@ -26,9 +26,8 @@ use Rattle.pass_ledger.specs.declared.records.FaultHere.{FaultHere}
 use Rattle.pass_ledger.specs.declared.records.Held.{Held}
 use Rattle.pass_ledger.specs.declared.records.LedgerRow.{LedgerRow}
 use Rattle.pass_ledger.specs.declared.records.ShardRecord.{ShardRecord}
-use Rattle.pass_ledger.specs.declared.records.Unsent.{Unsent}
 use Rattle.successors.specs.Searches.{Search}
-use Rattle.shard_core.specs.Outgoing.{count_to}
+use Rattle.shard_core.specs.Outgoing.{letters_of}
 use Rattle.shard_core.specs.Layers.{nodes_at, busy_at, AreOf}
 use Rattle.shard_core.specs.declared.layers.Layer.{Layer}
 use Rattle.shard_core.specs.declared.shard.Shard.{Shard}
@@ -69,15 +68,17 @@ pub record Remembers (p : Pass) (keep : Keep) (layout : Layout) (past : Past) (r
 
 -- ---- letters that are handed out
 
--- The marks of the layer were handed out to the first shards, after all states of it; the counts are those of the states that
--- were made of it.
-pub record Outbox (p : Pass) (layer : ℕ) (waiting : List Node) (letters : List Unsent) (told : ℕ) (sent : List ℕ) (total : ℕ) (posted : List (List Letter)) : Type 0 where
+-- The marks of the layer were handed out to the first shards, after all states of it. The counts are those of its states that
+-- were handed out to each shard, and the total is that of all that were made, which fits its 64 bits: so each count does that
+-- may still grow.
+pub record Outbox (p : Pass) (layer : ℕ) (waiting letters : List Node) (told : ℕ) (sent : List ℕ) (total : ℕ) (posted : List (List Letter)) : Type 0 where
   pub few : told ≤ p.shards
   pub long : length sent ≡ p.shards
   pub told_are : (j : ℕ) → j < told → unfinished (1, 0) (of posted j) ≡ (layer + 1, 0)
   pub open_are : (j : ℕ) → told ≤ j → j < p.shards → (unfinished (1, 0) (of posted j)).0 ≡ layer
-  pub sent_are : (j : ℕ) → j < p.shards → get_or sent j 0 ≡ states_at layer (of posted j) + count_to j letters
+  pub sent_are : (j : ℕ) → j < p.shards → get_or sent j 0 ≡ states_at layer (of posted j)
   pub total_is : total ≡ all_states_at layer posted + length letters
+  pub total_fits : total < 2 ^ 64
   pub held_back : 0 < told → (letters ≡ []) × (waiting ≡ [])
 
 -- ---- what is handed back at the end
@@ -121,7 +122,7 @@ pub record Stands {A B : Type 0} (p : Pass) (s : Shard A B) (r : ShardRecord) : 
   pub layer : s.layer ≡ length r.rows
   pub begun : s.layer ≡ 0 → r.waiting ≡ []
   pub waiting : s.waiting.items ≡ r.waiting
-  pub letters : s.letters.items ≡ r.unsent
+  pub letters : letters_of s.layout s.shards s.letters.items ≡ r.unsent
   pub intake : Intake p.shards s.open_layers.items r.received
   pub collects : Collects p s.layer s.layout s.collected.items r.start r.received
   pub past : Remembers p s.keep s.layout s.past r.rows

@@ -1,6 +1,6 @@
 //! Counts by shard.
 
-ghost use Rattle.std.specs.Prelude.{◌≡◌, ℕ, ◌+◌, ◌<◌, length, get_or, replicate, slice_set, IfOk, OnOk};
+ghost use Rattle.std.specs.Prelude.{◌≡◌, ℕ, ◌+◌, ◌^◌, ◌<◌, length, get_or, replicate, slice_set, IfOk};
 
 use std::alloc::{AllocError, Global};
 
@@ -33,13 +33,12 @@ pub(crate) fn sum(a: u64, b: u64) -> Result<u64, AllocError>
 }
 
 /// One more for a shard.
-pub(crate) fn raise(counts: &mut Vec<u64>, shard: u32) -> Result<(), AllocError>
-    requires { shard < length counts.old.items }
-    ensures raised { OnOk result (counts.new.items ≡ slice_set counts.old.items shard (get_or counts.old.items shard 0 + 1)) }
+pub(crate) fn raise(counts: &mut Vec<u64>, shard: u32)
+    requires shard { shard < length counts.old.items }
+    requires few { get_or counts.old.items shard 0 + 1 < 2 ^ 64 }
+    ensures { counts.new.items ≡ slice_set counts.old.items shard (get_or counts.old.items shard 0 + 1) }
 {
-    let count = sum(count_of(counts, shard), 1)?;
-    counts[shard as usize] = count;
-    Ok(())
+    counts[shard as usize] += 1;
 }
 
 /// No count is above 0.

@@ -9,7 +9,7 @@ ghost use Rattle.pass_ledger.specs.Past.{past_with};
 
 use dom_store::{Covers, PastStore};
 use dp_model::Keep;
-use state_layout::{Layout, NodeBox};
+use state_layout::{Layout, Node};
 use std::alloc::AllocError;
 
 /// Adds the kept nodes of a layer to the past, where they cover those of later layers. On `Err` memory ran out.
@@ -17,7 +17,7 @@ pub(crate) fn remember<K: Covers>(
     keep: Keep,
     layout: &Layout,
     past: &mut PastStore<K>,
-    kept: &[NodeBox],
+    kept: &[Node],
 ) -> Result<(), AllocError>
     requires layout { past.old.layout ≡ layout.now }
     requires nodes { (n : Node) → Has kept.now n → IsNodeFor layout.now n }
@@ -34,7 +34,7 @@ pub(crate) fn remember<K: Covers>(
 fn add_all<K: Covers>(
     layout: &Layout,
     past: &mut PastStore<K>,
-    nodes: &[NodeBox],
+    nodes: &[Node],
 ) -> Result<(), AllocError>
     requires layout { past.old.layout ≡ layout.now }
     requires nodes { (n : Node) → Has nodes.now n → IsNodeFor layout.now n }
@@ -42,7 +42,7 @@ fn add_all<K: Covers>(
     ensures layout { past.new.layout ≡ past.old.layout }
 {
     for node in nodes {
-        past.add(layout, node.get())?;
+        past.add(layout, node)?;
     }
     Ok(())
 }

@@ -1,14 +1,13 @@
 //! A shard, and what it does in a pass.
 
-ghost use Rattle.std.specs.Prelude.{◌≡◌, ◌↔◌, ℕ, ◌+◌, ◌<◌, ◌≤◌, true, false, IsTrue, List, [], ◌∷◌, ◌++◌, length, get_or, Some, None, ℤ, pos, ◌≤ℤ◌, is_some, IfSome, IfNone, IfOk, IfErr, OnOk, OnErr};
+ghost use Rattle.std.specs.Prelude.{◌≡◌, ◌↔◌, ◌+◌, ◌^◌, ◌<◌, true, false, IsTrue, List, ◌∷◌, ◌++◌, length, Some, None, ℤ, pos, ◌≤ℤ◌, is_some, IfSome, IfNone, IfOk, IfErr, OnOk, OnErr};
 ghost use Rattle.std.specs.List.{All};
 ghost use Rattle.cost_laws.specs.Orders.{InWideRange, IsLawOf};
 ghost use Rattle.dp_model.specs.declared.parts.PlainState.{PlainState};
 ghost use Rattle.path_log.specs.Paths.{entry, with_step};
-ghost use Rattle.state_layout.specs.Conditions.{IsNodeFor, IsNodeOf};
+ghost use Rattle.state_layout.specs.Conditions.{IsNodeOf};
 ghost use Rattle.state_layout.specs.Signatures.{owner_of};
 ghost use Rattle.state_layout.specs.Slots.{slots_of};
-ghost use Rattle.dp_claims.specs.Enough.{Has};
 ghost use Rattle.dp_model.specs.Costs.{InRange, order_word};
 ghost use Rattle.successors.specs.declared.batch.Offer.{Offer};
 ghost use Rattle.state_layout.specs.declared.node.Node.{Node};
@@ -20,19 +19,18 @@ ghost use Rattle.pass_ledger.specs.declared.records.ShardRecord.{ShardRecord};
 ghost use Rattle.shard_core.specs.Calls.{IsReady, IsClosed, IsPruning, IsPosting, IsQuiet, IsVisited, IsEnd, Finds, visit_in};
 ghost use Rattle.shard_core.specs.Floors.{floor_of};
 ghost use Rattle.shard_core.specs.Offers.{best_held, is_news};
-ghost use Rattle.shard_core.specs.Outgoing.{count_to, letters_of};
 ghost use Rattle.shard_core.specs.Stands.{Stands, EndsAs, Suited};
 
 use crate::counts::{clear_counts, count_of, equal_counts, sum};
 use crate::intake::are_past;
 use crate::layers::{Layer, collect, first_layers, is_busy, note_total, take_layer, take_spare};
 use crate::offers::hold_best;
-use crate::outbox::send_all;
+use crate::outbox::{counted_receiver, send_all};
 use crate::past::remember;
 use cost_laws::CostLaw;
 use dom_store::{Covers, PastStore};
 use dp_model::{Keep, Model as DpModel, Options, Seq};
-use pass_ledger::{FaultHere, Held, Letter, Unsent};
+use pass_ledger::{FaultHere, Held, Letter};
 use path_log::{PathLog, StepId};
 use spot_eval::SpotFault;
 use state_layout::{Layout, Node, NodeBox};
@@ -65,14 +63,14 @@ pub struct Shard<'m, L: CostLaw, K: Covers> {
     /// The kept nodes of all closed layers, where they cover those of later layers; else none.
     pub past: PastStore<K>,
     /// The kept nodes of the last closed layer that were neither visited nor pruned.
-    pub waiting: VecDeque<NodeBox>,
+    pub waiting: VecDeque<Node>,
     /// The states that were made and not handed out.
-    pub letters: VecDeque<Unsent>,
+    pub letters: VecDeque<NodeBox>,
     /// Room for what a visit makes of a node. Between two visits it says nothing.
     pub batch: Batch,
     /// To how many shards the mark of this layer was handed out.
     pub told: u32,
-    /// How many states of this layer were made for each shard.
+    /// How many states of this layer were handed out to each shard.
     pub sent: Vec<u64>,
     /// How many were made for all of them.
     pub total: u64,
@@ -276,7 +274,6 @@ impl<'m, L: CostLaw, K: Covers> Shard<'m, L, K> {
         );
         self.dropped = dropped;
         self.waiting = VecDeque::from_vec(taken.kept.into_list());
-        give_back_all(&mut self.expander, taken.dropped.into_list());
         self.layer = layer;
         self.told = 0;
         self.total = 0;
@@ -302,12 +299,10 @@ impl<'m, L: CostLaw, K: Covers> Shard<'m, L, K> {
         let Some(node) = self.waiting.front() else {
             return false;
         };
-        if !is_pruned::<L>(node.get(), best) {
+        if !is_pruned::<L>(node, best) {
             return false;
         }
-        if let Some(node) = self.waiting.pop_front() {
-            self.expander.give_back(node);
-        }
+        self.waiting.pop_front();
         true
     }
 
@@ -319,19 +314,18 @@ impl<'m, L: CostLaw, K: Covers> Shard<'m, L, K> {
         ensures found { (p : Pass) (r : ShardRecord) → Stands p self.old r → (n : Node) (rest : List Node) → r.waiting ≡ n ∷ rest → Finds p.model (visit_in p self.old.me (length r.visits) n best) result }
         ensures me { self.new.me ≡ self.old.me }
     {
-        let Some(first) = self.waiting.pop_front() else {
+        let Some(node) = self.waiting.pop_front() else {
             unreachable!()
         };
-        let node = first.get();
         let id = StepId {
             shard: self.me,
             place: self.visited,
         };
         match self
             .expander
-            .expand(self.alloc, node, id, best, &mut self.batch)
+            .expand(self.alloc, &node, id, best, &mut self.batch)
         {
-            Ok(()) => match self.take_batch(first, id) {
+            Ok(()) => match self.take_batch(&node, id) {
                 Ok(offer) => Visited::Done { offer },
                 Err(_) => Visited::Memory,
             },
@@ -342,7 +336,7 @@ impl<'m, L: CostLaw, K: Covers> Shard<'m, L, K> {
                     spot,
                     kind,
                 };
-                match self.keep_fault(node, fault) {
+                match self.keep_fault(&node, fault) {
                     Ok(()) => Visited::Fault(SpotFault { spot, kind }),
                     Err(_) => Visited::Memory,
                 }
@@ -351,21 +345,17 @@ impl<'m, L: CostLaw, K: Covers> Shard<'m, L, K> {
         }
     }
 
-    // What a visit made goes to the letters, the visit is logged, the best of its solutions is held, and the box of the visited node
-    // is used again. The answer is the word of that solution, where it is better than what was held. On `Err` memory ran out, and the log, the count of visits and what is
+    // What a visit made goes to the letters, the visit is logged, and the best of its solutions is held. The answer is the word of
+    // that solution, where it is better than what was held. On `Err` memory ran out, and the log, the count of visits and what is
     // held are as before.
-    fn take_batch(&mut self, node: NodeBox, id: StepId) -> Result<Option<u64>, AllocError>
-        requires letters { (n : Node) → Has self.old.batch.letters n → IsNodeFor self.old.layout n }
+    fn take_batch(&mut self, node: &Node, id: StepId) -> Result<Option<u64>, AllocError>
         requires offers { All (λ (offer : Offer). InRange offer.cost) self.old.batch.offers }
         requires held { IfSome self.old.held (λ h. InRange h.cost) }
-        requires some { 1 ≤ self.old.shards }
-        requires long { length self.old.sent.items ≡ self.old.shards }
-        ensures frame { self.new ≡ record self.old { batch = self.new.batch; letters = self.new.letters; sent = self.new.sent; total = self.new.total; log = self.new.log; visited = self.new.visited; held = self.new.held } }
-        ensures letters { OnOk result (self.new.letters.items ≡ self.old.letters.items ++ letters_of self.old.layout self.old.shards self.old.batch.letters) }
-        ensures sent { OnOk result ((j : ℕ) → get_or self.new.sent.items j 0 ≡ get_or self.old.sent.items j 0 + count_to j (letters_of self.old.layout self.old.shards self.old.batch.letters)) }
-        ensures long { OnOk result (length self.new.sent.items ≡ self.old.shards) }
+        ensures frame { self.new ≡ record self.old { batch = self.new.batch; letters = self.new.letters; total = self.new.total; log = self.new.log; visited = self.new.visited; held = self.new.held } }
+        ensures letters { OnOk result (self.new.letters.items ≡ self.old.letters.items ++ self.old.batch.letters) }
         ensures total { OnOk result (self.new.total ≡ self.old.total + length self.old.batch.letters) }
-        ensures log { OnOk result (self.new.log ≡ with_step self.old.log (entry node.parent node.transition)) }
+        ensures fits { OnOk result (self.new.total < 2 ^ 64) }
+        ensures log { OnOk result (self.new.log ≡ with_step self.old.log (entry node.now.parent node.now.transition)) }
         ensures visited { OnOk result (self.new.visited ≡ self.old.visited + 1) }
         ensures held { OnOk result (self.new.held ≡ best_held L.minimize L.operator id self.old.held self.old.batch.offers) }
         ensures news { IfOk result (λ offer. is_some offer ≡ is_news L.minimize L.operator self.old.held self.new.held) }
@@ -374,15 +364,8 @@ impl<'m, L: CostLaw, K: Covers> Shard<'m, L, K> {
     {
         let total = sum(self.total, self.batch.letters.list().len() as u64)?;
         let nodes = mem::replace(&mut self.batch.letters, Seq::of(Vec::new(self.alloc)));
-        self.batch.letters = send_all(
-            &self.layout,
-            self.shards,
-            &mut self.letters,
-            &mut self.sent,
-            nodes,
-        )?;
-        log_visit(&mut self.log, &mut self.visited, node.get())?;
-        self.expander.give_back(node);
+        self.batch.letters = send_all(&mut self.letters, nodes)?;
+        log_visit(&mut self.log, &mut self.visited, node)?;
         self.total = total;
         Ok(hold_best::<L>(&mut self.held, id, self.batch.offers.list()))
     }
@@ -419,8 +402,16 @@ impl<'m, L: CostLaw, K: Covers> Shard<'m, L, K> {
         ensures loud { (p : Pass) (r : ShardRecord) → Stands p self.old r → IsQuiet p self.old.me r → result ≡ None }
         ensures me { self.new.me ≡ self.old.me }
     {
-        if let Some(unsent) = self.letters.pop_front() {
-            return Some(state_letter(self.me, self.layer, unsent));
+        if let Some(node) = self.letters.pop_front() {
+            let to = counted_receiver(&self.layout, self.shards, &mut self.sent, node.get());
+            return Some((
+                to,
+                Letter::State {
+                    from: self.me,
+                    layer: self.layer,
+                    node,
+                },
+            ));
         }
         if !self.waiting.is_empty() {
             return None;
@@ -473,9 +464,9 @@ impl<'m, L: CostLaw, K: Covers> Shard<'m, L, K> {
     }
 }
 
-/// One box that the store of a layer no longer needs, where it has one, goes to the visits to come. A letter brings a box, and most of
-/// those that come are soon not needed, since their nodes are covered: so the next visit fills the box while it is in the processor's
-/// cache, and asks for no memory.
+/// One box that the store of a layer no longer needs, where it has one, goes to the visits to come. A letter brings a box, and the store is
+/// done with it at once, whether it keeps the node or not: so the next visit fills it while it is in the processor's cache, and asks for
+/// no memory.
 fn give_spare<'m, L: CostLaw, K: Covers>(
     expander: &mut Expander<'m, L>,
     layers: &mut Vec<Layer<K>>,
@@ -489,15 +480,6 @@ fn give_spare<'m, L: CostLaw, K: Covers>(
     }
 }
 
-/// The boxes of the nodes are used again.
-fn give_back_all<'m, L: CostLaw>(expander: &mut Expander<'m, L>, nodes: Vec<NodeBox>)
-    ensures { expander.new ≡ expander.old }
-{
-    for node in nodes {
-        expander.give_back(node);
-    }
-}
-
 /// Adds a visited node to a log, and counts it. On `Err` memory ran out, and nothing changes.
 fn log_visit(log: &mut PathLog, visited: &mut u64, node: &Node) -> Result<(), AllocError>
     ensures log { OnOk result (log.new ≡ with_step log.old (entry node.now.parent node.now.transition)) }
@@ -508,14 +490,6 @@ fn log_visit(log: &mut PathLog, visited: &mut u64, node: &Node) -> Result<(), Al
     log.push(node.parent, node.transition)?;
     *visited = next;
     Ok(())
-}
-
-/// A state as a letter of a layer, and its receiver.
-fn state_letter(from: u32, layer: u64, unsent: Unsent) -> (u32, Letter)
-    ensures { result ≡ (unsent.to, Letter.State from layer unsent.node) }
-{
-    let Unsent { to, node } = unsent;
-    (to, Letter::State { from, layer, node })
 }
 
 /// Whether the best word prunes a node.
