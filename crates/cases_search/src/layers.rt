@@ -7,7 +7,7 @@ use crate::numbers::{cost_of, floor_of, two_words};
 use crate::shown::cost_shown;
 use cost_laws::CostLaw;
 use dom_store::{Added, Covers};
-use state_layout::NodeBox;
+use state_layout::Node;
 use std::alloc::Global;
 use std::io;
 
@@ -69,14 +69,14 @@ fn print_taken<R: Print + Alloc<A = Global>, L: CostLaw, K: Covers>(
     rt: &R,
     bench: &Bench<'_, L, K>,
     word: &str,
-    nodes: &[NodeBox],
+    nodes: &[Node],
 ) -> io::Result<()>
     requires { AllFit bench.now nodes.now }
 {
     let alloc = rt.alloc();
     for node in nodes {
-        let text = bench.node_shown(alloc, node.get())?;
-        let copy = if bench.is_copied(alloc, node.get())? {
+        let text = bench.node_shown(alloc, node)?;
+        let copy = if bench.is_copied(alloc, node)? {
             "equal"
         } else {
             "other"
