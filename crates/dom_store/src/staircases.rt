@@ -42,17 +42,27 @@ impl Staircases {
         ensures within { result < length self.now.stairs.items }
         ensures others { (i : ℕ) (s : TheStairs) → slice_get self.now.stairs.items i ≡ Some s → s.row ≡ Some key → i ≡ result }
     {
-        let last = self.stairs.len() - 1;
-        if last == 0 {
+        if self.stairs.len() <= 1 {
             return 0;
         }
+        self.find_row(key)
+    }
+
+    // the same where some row has steps
+    #[inline(never)]
+    fn find_row(&self, key: u64) -> usize
+        requires { AreIndexed (row_in self.now.chains.heads.items self.now.chains.links.items) (length self.now.chains.links.items) self.now.stairs.items }
+        ensures within { result < length self.now.stairs.items }
+        ensures others { (i : ℕ) (s : TheStairs) → slice_get self.now.stairs.items i ≡ Some s → s.row ≡ Some key → i ≡ result }
+    {
+        let last = self.stairs.len() - 1;
         if self.stairs[last].is_of(key) {
             return last;
         }
         self.find_in_chain(key)
     }
 
-    // the same where the last one is not that of the row
+    // the same where the last staircase is not that of the row, by the numbers of the key
     #[inline]
     fn find_in_chain(&self, key: u64) -> usize
         requires { AreIndexed (row_in self.now.chains.heads.items self.now.chains.links.items) (length self.now.chains.links.items) self.now.stairs.items }
@@ -107,7 +117,7 @@ impl Staircases {
         push_within(&mut self.stairs, stairs);
     }
 
-    /// No row has steps any more. Those that had some are let go, and the memory of the table stays for others.
+    /// No row has steps any more: all but the first are let go. The memory of the table stays for others.
     pub(crate) fn clear(&mut self)
         requires { AreIndexed (row_in self.old.chains.heads.items self.old.chains.links.items) (length self.old.chains.links.items) self.old.stairs.items }
         ensures { AreIndexed (row_in self.new.chains.heads.items self.new.chains.links.items) (length self.new.chains.links.items) self.new.stairs.items }
