@@ -1,6 +1,6 @@
 //! A state that is being made.
 
-ghost use Rattle.std.specs.Prelude.{◌≡◌, ℕ, ◌<◌, ◌≤◌, [], ◌∷◌, true, false, IfOk, OnOk, length, slice_index, slice_index_or};
+ghost use Rattle.std.specs.Prelude.{◌≡◌, ℕ, ◌<◌, ◌≤◌, [], ◌∷◌, true, false, IfOk, OnOk, OnErr, length, slice_index, slice_index_or};
 ghost use Rattle.bit_sets.specs.Sets.{has_bit, members_of};
 ghost use Rattle.dp_model.specs.declared.parts.PlainValue.TheVariants.{Number, Members};
 ghost use Rattle.state_layout.specs.Signatures.{word_count};
@@ -67,7 +67,7 @@ impl<'l> Draft<'l> {
     }
 
     /// Becomes a copy of the state of the words, of the layout with these slots. Five words, as nearly every state has, are
-    /// copied where they go.
+    /// copied where they go. On `Err` memory ran out, and the draft is what it was.
     #[inline(always)]
     #[tactic(auto, using(crate::proofs::Carrying::whole_room, crate::proofs::Carrying::five))]
     pub(crate) fn start(
@@ -79,7 +79,8 @@ impl<'l> Draft<'l> {
     ) -> Result<(), AllocError>
         requires blank { HasRoom slots.now blank.now }
         requires fits { Fits slots.now words.now }
-        ensures { OnOk result (self.new ≡ record { slots = slots.now; state = state_in words.now }) }
+        ensures started { OnOk result (self.new ≡ record { slots = slots.now; state = state_in words.now }) }
+        ensures same { OnErr result (self.new ≡ self.old) }
     {
         if words.len() == 5 && blank.len() == 5 {
             let five = [words[0], words[1], words[2], words[3], words[4]];

@@ -1,6 +1,6 @@
 //! The layout of a model's states, and the calls that need it.
 
-ghost use Rattle.std.specs.Prelude.{◌≡◌, ◌↔◌, ◌+◌, ◌<◌, ◌≤◌, [], IsTrue, IfOk, OnOk, length};
+ghost use Rattle.std.specs.Prelude.{◌≡◌, ◌↔◌, ◌+◌, ◌<◌, ◌≤◌, [], IsTrue, IfOk, OnOk, OnErr, length};
 ghost use Rattle.dp_model.specs.declared.whole.Model.{Model as DpModel};
 ghost use Rattle.dp_model.specs.Typing.{type_count};
 ghost use Rattle.dp_claims.specs.Dominance.{Dominates};
@@ -45,7 +45,8 @@ pub struct Slot {
 }
 
 /// How the states of a model are packed: a slot for each variable, in order. It knows whether each set has one word, and
-/// whether the model has a resource, since the calls that a search makes of each state are quicker without.
+/// whether the model has a resource: the calls that a search makes of each state are quicker where sets have one word each, and
+/// where there is no resource.
 #[derive(Debug, Drop)]
 pub struct Layout {
     slots: Vec<Slot>,
@@ -115,8 +116,8 @@ impl Layout {
         Draft::nothing(alloc)
     }
 
-    /// Makes a draft, whatever it was, a copy of a packed state, in which variables may be set. A caller that makes one state after
-    /// another so has none of them moved.
+    /// Makes a draft, whatever it was, a copy of a packed state, in which variables may be set: the state is made where it stands, and
+    /// is not handed back by value. On `Err` memory ran out, and the draft is what it was.
     #[inline(always)]
     pub fn start_draft<'l>(
         &'l self,
@@ -125,7 +126,8 @@ impl Layout {
         p: &Packed,
     ) -> Result<(), AllocError>
         requires { IsPackedFor self.now p.now }
-        ensures { OnOk result (draft.new ≡ record { slots = self.now; state = p.now }) }
+        ensures started { OnOk result (draft.new ≡ record { slots = self.now; state = p.now }) }
+        ensures same { OnErr result (draft.new ≡ draft.old) }
     {
         draft.start(alloc, &self.slots, &self.blank, self.words(p))
     }
