@@ -241,6 +241,13 @@ impl<'m, L: CostLaw> Expander<'m, L> {
         self.spares.give_back(held);
     }
 
+    /// Lets the boxes go that were given back and not filled again. It takes no memory.
+    pub fn drop_spares(&mut self)
+        ensures { self.new ≡ self.old }
+    {
+        self.spares.let_go();
+    }
+
     /// The successors of an inner node, which is visited under this step. The batch is emptied first, and filled in order
     /// of definition; after an error it is empty. `best` is the order word that prunes successors.
     pub fn expand(

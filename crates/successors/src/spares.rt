@@ -5,8 +5,8 @@ ghost use Rattle.std.specs.Prelude.{◌≡◌, IfOk};
 use state_layout::{Node, NodeBox};
 use std::alloc::{AllocError, Global};
 
-/// Boxes that are filled again. `asked` is how many boxes were asked for anew: no more are kept than these, so that the boxes that come
-/// with letters of other threads do not gather where few letters are made.
+/// Boxes that are filled again. `asked` is how many boxes were asked for anew: no more are kept than these, so that boxes that come
+/// from elsewhere do not gather where few are needed.
 #[derive(Drop)]
 pub(crate) struct Spares {
     boxes: Vec<NodeBox>,
@@ -45,5 +45,11 @@ impl Spares {
         if (self.boxes.len() as u64) < self.asked {
             let _kept = self.boxes.push(held);
         }
+    }
+
+    /// Lets the kept boxes go, and the room for them. It takes no memory.
+    pub(crate) fn let_go(&mut self) {
+        let alloc = *self.boxes.allocator();
+        self.boxes = Vec::new(alloc);
     }
 }
