@@ -15,8 +15,8 @@ use Rattle.dp_model.specs.declared.whole.Model.{Model}
 use Rattle.bit_sets.specs.Sets.{members_of}
 use Rattle.state_layout.specs.Signatures.{word_count}
 use Rattle.eval_room.specs.Fits.{RoomTest, SetRoom, ArgRoom, arg_room, cond_room, num_room, set_room, num_fits, set_fits, arg_fits, terms_fit, term_room}
-use Rattle.packed_words.specs.Totals.{arg_value}
-use Rattle.packed_eval.specs.Sums.{words_of, sets_in, waits_on, Chooses, sum_after, Termed}
+use Rattle.packed_words.specs.Totals.{arg_value, sum_value}
+use Rattle.packed_eval.specs.Sums.{words_of, sets_in, waits_on, Chooses, sum_after, Termed, sum_chosen}
 use Rattle.packed_eval.proofs.Ways.{sum_step, sets_more, take_more, words_more}
 
 -- the values of some arguments
@@ -154,3 +154,23 @@ module _ (m : Model) (s : PlainState) (given : List ℕ) where
       let none : arg_values m s (drop i terms) given ≡ Ok [] = rw (drop_all i terms h) refl in
       let here : sum_after m t chosen (Some kind) left (Ok []) ≡ all = rw none at before in
       here
+
+-- ---- two arguments
+
+-- as many terms as a table has counts
+pub two_terms : (m : Model) (given room count last : ℕ) (terms : List args.Arg) (d o e f : args.Arg) → length terms ≡ 2 → e ≡ get_or terms 0 d → f ≡ get_or terms 1 o → terms_fit m (count ∷ last ∷ []) terms given room ≡ true
+    → (terms ≡ e ∷ f ∷ []) × (word_count count ≤ room) × (term_room m (arg_fits m e) count given (room - word_count count) ≡ true) × (word_count last ≤ room - word_count count) × (term_room m (arg_fits m f) last given (room - word_count count - word_count last) ≡ true)
+two_terms m given room count last [] d o e f n p q h = absurd (omega (arith, n))
+two_terms m given room count last (x ∷ []) d o e f n p q h = absurd (omega (arith, n))
+two_terms m given room count last (x ∷ y ∷ z ∷ zs) d o e f n p q h = absurd (omega (arith, n))
+two_terms m given room count last (x ∷ y ∷ []) d o e f n p q h =
+    let a = first_fits m given room (count ∷ last ∷ []) x (y ∷ []) h in
+    let b = first_fits m given (room - word_count count) (last ∷ []) y [] a.3 in
+    rw (p, q) (refl, a.1, a.2, b.1, b.2)
+
+module _ (m : Model) (s : PlainState) (given : List ℕ) (t : ℕ) (terms : List args.Arg) (e f : args.Arg) (p : terms ≡ e ∷ f ∷ []) where
+  pub both_values : (x y : ℤ ⊎ List ℕ) (r : Result ℤ FaultKind) → arg_value m s e given ≡ Ok x → arg_value m s f given ≡ Ok y → r ≡ sum_chosen m t (x ∷ y ∷ []) → r ≡ sum_value m s t terms given
+  both_values x y r u v h = rw (p, u, v) h
+
+  pub last_fault : (x : ℤ ⊎ List ℕ) (kind : FaultKind) → arg_value m s e given ≡ Ok x → arg_value m s f given ≡ Err kind → sum_value m s t terms given ≡ Err kind
+  last_fault x kind u v = rw (p, u, v) refl

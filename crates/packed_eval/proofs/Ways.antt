@@ -25,7 +25,7 @@ use Rattle.bit_sets.specs.Sets.{members_of, has_bit, bound_of}
 use Rattle.state_layout.specs.Signatures.{word_count}
 use Rattle.packed_words.specs.Sets.{one_word}
 use Rattle.packed_words.specs.Totals.{total_by}
-use Rattle.packed_eval.specs.Sums.{sum_of_one, words_of, sets_in, place_after, total_over, cell_at, AreFew, bound_for, IsWithin, fault_in, waits_on, Chooses, unless, sum_after}
+use Rattle.packed_eval.specs.Sums.{sum_of_one, words_of, sets_in, place_after, total_over, cell_at, AreFew, bound_for, IsWithin, fault_in, waits_on, Chooses, unless, sum_after, chosen_in, sum_chosen}
 
 -- ---- one argument more
 
@@ -310,3 +310,54 @@ all_words (w ∷ v ∷ ws) h l = absurd (omega (arith, l))
 
 pub one_of : (set : List ℕ) → 1 ≤ length set → length set < 2 → members_of (one_word (get_or set 0 0)) ≡ members_of set
 one_of set h l = ap (λ (ws : List ℕ). members_of ws) (all_words set h l)
+
+-- ---- two arguments, of object types with at most 64 members
+
+pub one_chosen : (count : ℕ) (z : ℤ) (k : ℕ) (set : List ℕ) → member_of count z ≡ Ok k → set ≡ k ∷ [] → chosen_in count (inl z) ≡ Ok set
+one_chosen count z k set p e = rw (p, e) refl
+
+module _ (count last : ℕ) where
+  chosen_last : (a : List ℕ) (y : ℤ ⊎ List ℕ) → (choices_of (last ∷ []) (y ∷ []) >>= λ more. Ok (a ∷ more)) ≡ (chosen_in last y >>= λ b. Ok (a ∷ b ∷ []))
+  chosen_last a (inl z) = by (member_of last z)
+    where
+      by : (r : Result ℕ FaultKind) → ((r >>= λ k. choices_of [] [] >>= λ choices. Ok ((k ∷ []) ∷ choices)) >>= λ more. Ok (a ∷ more)) ≡ ((r >>= λ k. Ok (k ∷ [])) >>= λ b. Ok (a ∷ b ∷ []))
+      by (Ok k) = refl
+      by (Err kind) = refl
+  chosen_last a (inr set) = refl
+
+  two_choices : (x y : ℤ ⊎ List ℕ) → choices_of (count ∷ last ∷ []) (x ∷ y ∷ []) ≡ (chosen_in count x >>= λ a. chosen_in last y >>= λ b. Ok (a ∷ b ∷ []))
+  two_choices (inl z) y = by (member_of count z)
+    where
+      by : (r : Result ℕ FaultKind) → (r >>= λ k. choices_of (last ∷ []) (y ∷ []) >>= λ choices. Ok ((k ∷ []) ∷ choices)) ≡ ((r >>= λ k. Ok (k ∷ [])) >>= λ a. chosen_in last y >>= λ b. Ok (a ∷ b ∷ []))
+      by (Ok k) = chosen_last (k ∷ []) y
+      by (Err kind) = refl
+  two_choices (inr set) y = chosen_last set y
+
+  module _ (m : Model) (t : ℕ) (x y : ℤ ⊎ List ℕ) (c : table_counts m t ≡ count ∷ last ∷ []) where
+    of_choices : sum_chosen m t (x ∷ y ∷ []) ≡ (chosen_in count x >>= λ a. chosen_in last y >>= λ b. ranged (total_of m t (ways (a ∷ b ∷ []))))
+    of_choices = whole (table_counts m t) c
+      where
+        inside : (r s : Result (List ℕ) FaultKind) → ((r >>= λ a. s >>= λ b. Ok (a ∷ b ∷ [])) >>= λ choices. ranged (total_of m t (ways choices))) ≡ (r >>= λ a. s >>= λ b. ranged (total_of m t (ways (a ∷ b ∷ []))))
+        inside (Ok a) (Ok b) = refl
+        inside (Ok a) (Err kind) = refl
+        inside (Err kind) s = refl
+
+        whole : (counts : List ℕ) → counts ≡ count ∷ last ∷ [] → (choices_of counts (x ∷ y ∷ []) >>= λ choices. ranged (total_of m t (ways choices))) ≡ (chosen_in count x >>= λ a. chosen_in last y >>= λ b. ranged (total_of m t (ways (a ∷ b ∷ []))))
+        whole counts p = rw (p, two_choices x y) (inside (chosen_in count x) (chosen_in last y))
+
+pub both_chosen : (m : Model) (t count last : ℕ) (x y : ℤ ⊎ List ℕ) (set behind : List ℕ) (r : Result ℤ FaultKind) → table_counts m t ≡ count ∷ last ∷ [] → chosen_in count x ≡ Ok set → chosen_in last y ≡ Ok behind → r ≡ ranged (total_of m t (ways (set ∷ behind ∷ []))) → r ≡ sum_chosen m t (x ∷ y ∷ [])
+both_chosen m t count last x y set behind r c p q e = e ∙ sym (of_choices count last m t x y c ∙ rw (p, q) refl)
+
+-- the total, where the row of each member of the first set is found once
+pub rows_told : (m : Model) (t : ℕ) (cells : List ℤ) (count last : ℕ) (set behind : List ℕ) (total : ℤ) → table_counts m t ≡ count ∷ last ∷ [] → ((p : ℕ) → number_cell (cells_of m t) p ≡ cell_at cells p) → total ≡ total_by (λ k. total_by (λ j. cell_at cells (k * last + j)) behind) set → total ≡ total_of m t (ways (set ∷ behind ∷ []))
+rows_told m t cells count last set behind total c h e =
+    e
+    ∙ total_same (λ k. total_by (λ j. cell_at cells (k * last + j)) behind) (λ k. total_by (λ j. number_cell (cells_of m t) ((0 * count + k) * last + j)) behind) row set
+    ∙ whole (table_counts m t) c
+    ∙ sym (total_is m t (set ∷ behind ∷ []))
+  where
+    row : (k : ℕ) → total_by (λ j. cell_at cells (k * last + j)) behind ≡ total_by (λ j. number_cell (cells_of m t) ((0 * count + k) * last + j)) behind
+    row k = let none : 0 * count + k ≡ k = omega arith in rw none (total_same (λ j. cell_at cells (k * last + j)) (λ j. number_cell (cells_of m t) (k * last + j)) (λ j. sym (h (k * last + j))) behind)
+
+    whole : (counts : List ℕ) → counts ≡ count ∷ last ∷ [] → total_by (λ k. total_by (λ j. number_cell (cells_of m t) ((0 * count + k) * last + j)) behind) set ≡ total_over (number_cell (cells_of m t)) 0 counts (set ∷ behind ∷ [])
+    whole counts p = rw p refl

@@ -4,11 +4,14 @@ use Rattle.std.proofs.Common.{inl, inr}
 use Rattle.dp_base.specs.Results.{◌>>=◌}
 use Rattle.bit_sets.specs.Sets.{members_of}
 use Rattle.dp_model.specs.Costs.{ranged}
-use Rattle.dp_model.specs.Evaluation.{member_of, choices_of, ways, total_of}
+use Rattle.dp_model.specs.Evaluation.{member_of, table_counts, choices_of, ways, total_of}
 use Rattle.dp_model.specs.declared.answers.FaultKind.{FaultKind}
 use Rattle.dp_model.specs.declared.whole.Model.{Model}
 use Rattle.state_layout.specs.Signatures.{word_count}
+use Rattle.packed_words.specs.Sets.{one_word}
 use Rattle.packed_words.specs.Totals.{total_by}
+use Rattle.packed_eval.specs.declared.sums.Term.{Term}
+use Rattle.packed_eval.specs.declared.sums.Term.TheVariants.{One, Many}
 
 -- how many words sets of object types with these counts have
 abbrev pub words_of : List ℕ → ℕ
@@ -79,3 +82,17 @@ Termed count waits choice (Ok now) value = (x : ℤ ⊎ List ℕ) × (value ≡ 
 -- the sum of a table of one argument over the one member that a number is
 abbrev pub sum_of_one : Model → ℕ → (count : ℕ) → ℤ → Result ℤ FaultKind
 sum_of_one m t count z = member_of count z >>= λ k. ranged (total_of m t (ways ((k ∷ []) ∷ [])))
+
+-- what an argument that was evaluated is
+abbrev pub term_value : Term → ℤ ⊎ List ℕ
+term_value (One z) = inl z
+term_value (Many word) = inr (members_of (one_word word))
+
+-- the members that it chooses, of an object type with so many
+abbrev pub chosen_in : ℕ → ℤ ⊎ List ℕ → Result (List ℕ) FaultKind
+chosen_in count (inl z) = member_of count z >>= λ k. Ok (k ∷ [])
+chosen_in count (inr set) = Ok set
+
+-- the sum over arguments that were evaluated
+abbrev pub sum_chosen : Model → ℕ → List (ℤ ⊎ List ℕ) → Result ℤ FaultKind
+sum_chosen m t xs = choices_of (table_counts m t) xs >>= λ choices. ranged (total_of m t (ways choices))

@@ -14,7 +14,7 @@ ghost use Rattle.packed_words.specs.Places.{placed_at};
 ghost use Rattle.packed_words.specs.Totals.{arg_value, sum_value};
 ghost use Rattle.packed_eval.specs.Held.{held_in};
 ghost use Rattle.packed_eval.specs.Plain.{denied};
-ghost use Rattle.packed_eval.specs.Sums.{Termed};
+ghost use Rattle.packed_eval.specs.Sums.{Termed, term_value};
 ghost use Rattle.packed_words.specs.Ranges.{range_members, IsRange};
 
 use crate::cells::{
@@ -24,7 +24,7 @@ use crate::cells::{
 use crate::places::{place_of_one, place_of_two};
 use crate::quick::{plain, plain_compared, plain_number, plain_word, quick_empty, quick_within};
 use crate::rows::held_along;
-use crate::sums::{first_of, one_member, sum_at, sum_held, sum_word};
+use crate::sums::{Term, first_of, one_member, sum_at, sum_held, sum_of_two, sum_word};
 use dp_base::Seq;
 use dp_model::{Arg, Cond, FaultKind, Num, SetEx, SetOp};
 use packed_words::{
@@ -252,7 +252,7 @@ fn composed_word(at: &Scene<'_>, e: &SetEx, count: u32, stack: &mut [u64]) -> Re
 /// The members of a set, in one word, behind the words that it would be written to.
 #[cycle(eval)]
 #[inline(always)]
-pub fn operand_word(
+pub(crate) fn operand_word(
     at: &Scene<'_>,
     e: &SetEx,
     count: u32,
@@ -923,7 +923,58 @@ fn sum(at: &Scene<'_>, t: u32, terms: &Seq<Arg>, stack: &mut [u64]) -> Result<i6
             return sum_one(at, t, count, e, stack);
         }
     }
+    match counts(at, t) {
+        [count, last] => sum_two(at, t, *count, *last, terms, stack),
+        _ => sum_all(at, t, terms, stack),
+    }
+}
+
+/// The sum of a table's cells over its two arguments, whose object types have so many members. If they are at most 64,
+/// both arguments are held in one word each.
+#[cycle(eval)]
+#[inline(always)]
+fn sum_two(
+    at: &Scene<'_>,
+    t: u32,
+    count: u32,
+    last: u32,
+    terms: &Seq<Arg>,
+    stack: &mut [u64],
+) -> Result<i64, FaultKind>
+    requires counts { table_counts at.now.model.now t ≡ count ∷ last ∷ [] }
+    requires fits { IsTrue (terms_fit at.now.model.now (table_counts at.now.model.now t) terms.now (length at.now.args.now) (length stack.old)) }
+    ensures { result ≡ sum_value at.now.model.now (state_in at.now.words.now) t terms.now at.now.args.now }
+{
+    if count <= 64 && last <= 64 {
+        if let [e, more] = terms.list().as_slice() {
+            let (_, rest) = stack.split_at_mut(words_for(count));
+            let first = term_of(at, e, count, rest)?;
+            let (_, behind) = rest.split_at_mut(words_for(last));
+            let second = term_of(at, more, last, behind)?;
+            return sum_of_two(at.model, t, count, last, first, second);
+        }
+    }
     sum_all(at, t, terms, stack)
+}
+
+/// The value of an argument of a sum, whose object type has so many members and at most 64.
+#[cycle(eval)]
+#[inline(always)]
+fn term_of(at: &Scene<'_>, e: &Arg, count: u32, stack: &mut [u64]) -> Result<Term, FaultKind>
+    requires few { count ≤ 64 }
+    requires fits { IsTrue (term_room at.now.model.now (arg_fits at.now.model.now e.now) count (length at.now.args.now) (length stack.old)) }
+    ensures { Tells (λ term. term_value term) result (arg_value at.now.model.now (state_in at.now.words.now) e.now at.now.args.now) }
+{
+    match e {
+        Arg::One(n) => {
+            let z = number(at, n, stack)?;
+            Ok(Term::One(z))
+        }
+        Arg::Many(set) => {
+            let word = set_word(at, set, count, stack)?;
+            Ok(Term::Many(word))
+        }
+    }
 }
 
 /// The sum of a table's cells over its one argument, whose object type has so many members and at most 64.

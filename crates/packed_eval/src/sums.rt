@@ -7,9 +7,10 @@ ghost use Rattle.dp_model.specs.Costs.{ranged};
 ghost use Rattle.dp_model.specs.Evaluation.{member_of, table_counts, ways, total_of};
 ghost use Rattle.state_layout.specs.Signatures.{word_count};
 ghost use Rattle.packed_words.specs.Places.{most, advanced};
+ghost use Rattle.packed_words.specs.Operands.{Tells};
 ghost use Rattle.packed_words.specs.Sets.{IsClean, IsNext, one_word};
 ghost use Rattle.packed_words.specs.Totals.{total_by};
-ghost use Rattle.packed_eval.specs.Sums.{sum_of_one, words_of, sets_in, total_over, cell_at, fault_in, waits_on, Chooses, AreFew, bound_for, IsWithin};
+ghost use Rattle.packed_eval.specs.Sums.{sum_of_one, words_of, sets_in, total_over, cell_at, fault_in, waits_on, Chooses, AreFew, bound_for, IsWithin, term_value, chosen_in, sum_chosen};
 
 use bit_sets::next_member;
 use dp_model::{FaultKind, Model};
@@ -17,6 +18,15 @@ use packed_words::{
     after_first, lowest, member_of, number_at, numbers_in, ranged, with, without_lowest, word_with,
     words_for,
 };
+
+/// An argument of a sum that was evaluated, of an object type with at most 64 members.
+#[derive(Clone, Copy)]
+pub enum Term {
+    /// The one member that a number is, if it is one.
+    One(i64),
+    /// The members of a set, in one word.
+    Many(u64),
+}
 
 /// The first of some counts, or 0 where there is none.
 pub fn first_of(counts: &[u32]) -> u32
@@ -237,4 +247,54 @@ pub fn sum_at(model: &Model, t: u32, count: u32, z: i64) -> Result<i64, FaultKin
 {
     let member = member_of(count, z)?;
     sum_word(model, t, word_with(count, 0, member))
+}
+
+/// The members that an argument chooses, in one word.
+#[inline(always)]
+fn chosen_word(count: u32, term: Term) -> Result<u64, FaultKind>
+    requires { count ≤ 64 }
+    ensures { Tells (λ w. members_of (one_word w)) result (chosen_in count (term_value term)) }
+{
+    match term {
+        Term::One(z) => {
+            let member = member_of(count, z)?;
+            Ok(word_with(count, 0, member))
+        }
+        Term::Many(word) => Ok(word),
+    }
+}
+
+/// The total of a table's cells over two sets that lie in one word each: for each member of the first, its row is found
+/// once.
+fn total_in_rows(cells: &[i64], last: u32, set: u64, behind: u64) -> i128
+    ensures { result ≡ total_by (λ k. total_by (λ j. cell_at cells.now (k * last + j)) (members_of (one_word behind))) (members_of (one_word set)) }
+{
+    let mut total = 0;
+    let mut left = set;
+    while let Some(member) = lowest(left) {
+        total += total_in(row_of(cells, member as usize, last), behind);
+        left = without_lowest(left, member);
+    }
+    total
+}
+
+/// The sum of a table of two arguments that were evaluated, of object types with at most 64 members. A fault of the first
+/// comes before one of the second.
+#[inline(always)]
+pub fn sum_of_two(
+    model: &Model,
+    t: u32,
+    count: u32,
+    last: u32,
+    first: Term,
+    second: Term,
+) -> Result<i64, FaultKind>
+    requires counts { table_counts model.now t ≡ count ∷ last ∷ [] }
+    requires few { count ≤ 64 }
+    requires few_last { last ≤ 64 }
+    ensures { result ≡ sum_chosen model.now t (term_value first ∷ term_value second ∷ []) }
+{
+    let set = chosen_word(count, first)?;
+    let behind = chosen_word(last, second)?;
+    ranged(total_in_rows(numbers_in(model, t), last, set, behind))
 }

@@ -18,9 +18,10 @@ use Rattle.packed_eval.proofs.Arguments.{fit_at, place_fault, place_step, set_ce
 use Rattle.packed_words.specs.Totals.{arg_value, sum_value}
 use Rattle.packed_words.specs.Operands.{num_values}
 use Rattle.bit_sets.specs.Sets.{members_of}
-use Rattle.packed_eval.specs.Sums.{sets_in, Termed}
+use Rattle.packed_eval.specs.Sums.{sets_in, Termed, term_value}
 use Rattle.packed_eval.proofs.Ways.{between}
-use Rattle.packed_eval.proofs.Terms.{only_term, term_at, term_fault, sum_next, sum_told, fault_told, none_left, drop_next, used_next, fits_next, held_long, number_term, set_term, number_termed, set_termed}
+use Rattle.packed_eval.proofs.Firsts.{two_counts}
+use Rattle.packed_eval.proofs.Terms.{only_term, term_at, term_fault, sum_next, sum_told, fault_told, none_left, drop_next, used_next, fits_next, held_long, number_term, set_term, number_termed, set_termed, two_terms, both_values, last_fault}
 use Rattle.packed_eval.proofs.evaluate.+eval.Goals as goal
 
 pub composed_cond-number-requires-in-Numbers : goal.composed_cond-number-requires-in-Numbers
@@ -489,6 +490,52 @@ sum-returns-in-len1 t c =
     let counts = table_counts c.args.at.now.model.now c.args.t in
     let f = only_term c.args.at.now.model.now (length c.args.at.now.args.now) (length c.args.stack.now) counts c.as_slice.result.now _ c.e-item.result (omega (arith, c.in-len1.len_at_least, c.in-len1.len_below)) c.e-item.is (rw items c.requires) in
     rw (← items, f.0) c.sum_one.ensures
+
+-- sums of two arguments
+
+pub sum-sum_two-requires : goal.sum-sum_two-requires
+sum-sum_two-requires t c =
+    let counts = table_counts c.args.at.now.model.now c.args.t in
+    let shape : c.counts-2.result.now ≡ counts = c.counts-2.ensures in
+    let both : c.counts-2.result.now ≡ slice_index c.counts-2.result.now 0 ∷ slice_index c.counts-2.result.now 1 ∷ [] = two_counts c.counts-2.result.now 0 0 (slice_index c.counts-2.result.now 0) (slice_index c.counts-2.result.now 1) (omega (arith, c.in-len2.len_at_least, c.in-len2.len_below)) refl refl in
+    let all : counts ≡ slice_index c.counts-2.result.now 0 ∷ slice_index c.counts-2.result.now 1 ∷ [] = sym shape ∙ both in
+    (search (rules, args.the_lemmas, conds.the_lemmas, nums.the_lemmas, sets.the_lemmas), search (rules, all))
+
+pub sum_two-term_of-requires : goal.sum_two-term_of-requires
+sum_two-term_of-requires t c =
+    let items : c.as_slice.result.now ≡ c.args.terms.now = search rules in
+    let f = two_terms c.args.at.now.model.now (length c.args.at.now.args.now) (length c.args.stack.now) c.args.count c.args.last c.as_slice.result.now _ _ c.e-item.result c.more-item.result (omega (arith, c.in-len2.len_at_least, c.in-len2.len_below)) c.e-item.is c.more-item.is (rw (items, ← c.requires.counts) c.requires.fits) in
+    (search (rules, args.the_lemmas, conds.the_lemmas, nums.the_lemmas, sets.the_lemmas), search (rules, f.1, f.2))
+
+pub sum_two-returns-in_err-second : goal.sum_two-returns-in_err-second
+sum_two-returns-in_err-second t c =
+    let items : c.as_slice.result.now ≡ c.args.terms.now = search rules in
+    let f = two_terms c.args.at.now.model.now (length c.args.at.now.args.now) (length c.args.stack.now) c.args.count c.args.last c.as_slice.result.now _ _ c.e-item.result c.more-item.result (omega (arith, c.in-len2.len_at_least, c.in-len2.len_below)) c.e-item.is c.more-item.is (rw (items, ← c.requires.counts) c.requires.fits) in
+    let r : c.from_residual-in_err-second.result ≡ Err c.in_err-second.field-0.0 = search rules in
+    let first : arg_value c.args.at.now.model.now (state_in c.args.at.now.words.now) c.e-item.result c.args.at.now.args.now ≡ Ok (term_value c.in_ok-first.first) = search rules in
+    let fault : arg_value c.args.at.now.model.now (state_in c.args.at.now.words.now) c.more-item.result c.args.at.now.args.now ≡ Err c.in_err-second.field-0.0 = search rules in
+    let whole : sum_value c.args.at.now.model.now (state_in c.args.at.now.words.now) c.args.t c.as_slice.result.now c.args.at.now.args.now ≡ Err c.in_err-second.field-0.0 = last_fault c.args.at.now.model.now (state_in c.args.at.now.words.now) c.args.at.now.args.now c.args.t c.as_slice.result.now c.e-item.result c.more-item.result f.0 (term_value c.in_ok-first.first) c.in_err-second.field-0.0 first fault in
+    rw (← items) (r ∙ sym whole)
+
+pub sum_two-returns-in-len2 : goal.sum_two-returns-in-len2
+sum_two-returns-in-len2 t c =
+    let items : c.as_slice.result.now ≡ c.args.terms.now = search rules in
+    let f = two_terms c.args.at.now.model.now (length c.args.at.now.args.now) (length c.args.stack.now) c.args.count c.args.last c.as_slice.result.now _ _ c.e-item.result c.more-item.result (omega (arith, c.in-len2.len_at_least, c.in-len2.len_below)) c.e-item.is c.more-item.is (rw (items, ← c.requires.counts) c.requires.fits) in
+    let first : arg_value c.args.at.now.model.now (state_in c.args.at.now.words.now) c.e-item.result c.args.at.now.args.now ≡ Ok (term_value c.in_ok-first.first) = search rules in
+    let second : arg_value c.args.at.now.model.now (state_in c.args.at.now.words.now) c.more-item.result c.args.at.now.args.now ≡ Ok (term_value c.in_ok-second.second) = search rules in
+    rw (← items) (both_values c.args.at.now.model.now (state_in c.args.at.now.words.now) c.args.at.now.args.now c.args.t c.as_slice.result.now c.e-item.result c.more-item.result f.0 (term_value c.in_ok-first.first) (term_value c.in_ok-second.second) c.sum_of_two.result first second c.sum_of_two.ensures)
+
+pub term_of-number-requires : goal.term_of-number-requires
+term_of-number-requires t c =
+    let p : args.out-Arg c.args.e.now ≡ args.Arg-F.One c.in-One.n = search (rules, args.the_lemmas) in
+    let f = number_term c.args.at.now.model.now (length c.args.at.now.args.now) (length c.args.stack.now) c.args.e.now c.in-One.n c.args.count p c.requires.fits in
+    (search (rules, args.the_lemmas, conds.the_lemmas, nums.the_lemmas, sets.the_lemmas), search (rules, f))
+
+pub term_of-set_word-requires : goal.term_of-set_word-requires
+term_of-set_word-requires t c =
+    let p : args.out-Arg c.args.e.now ≡ args.Arg-F.Many c.in-Many.set = search (rules, args.the_lemmas) in
+    let f = set_term c.args.at.now.model.now (length c.args.at.now.args.now) (length c.args.stack.now) c.args.e.now c.in-Many.set c.args.count p c.requires.fits in
+    (search (rules, args.the_lemmas, conds.the_lemmas, nums.the_lemmas, sets.the_lemmas), search (rules, f.0, f.1))
 
 pub set_word-cell_in_word-requires : goal.set_word-cell_in_word-requires
 set_word-cell_in_word-requires t c =
