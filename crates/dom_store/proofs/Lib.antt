@@ -15,3 +15,4 @@ pub mod Reading
 pub mod Remembering
 pub mod Climbing
 pub mod Indexing
+pub mod Together

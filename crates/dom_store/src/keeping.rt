@@ -1,6 +1,6 @@
 //! A node is added to the places of a store.
 
-ghost use Rattle.std.specs.Prelude.{◌≡◌, ℕ, ◌<◌, ◌+◌, ◌⊎◌, ◌++◌, ◌∷◌, [], true, false, length, vec_len, vec_capacity, if◌then◌else◌, Some, None, IfNone, IfSome, IfOk, OnOk, IfErr, OnErr};
+ghost use Rattle.std.specs.Prelude.{◌≡◌, ℕ, ◌<◌, ◌+◌, ◌⊎◌, ◌++◌, ◌∷◌, [], true, false, length, vec_len, vec_capacity, if◌then◌else◌, Some, IfNone, IfSome, IfOk, OnOk, IfErr, OnErr};
 ghost use Rattle.dp_claims.specs.Enough.{Has};
 ghost use Rattle.state_layout.specs.Conditions.{IsNodeFor};
 ghost use Rattle.state_layout.specs.declared.node.Node.{Node};
@@ -31,7 +31,7 @@ pub enum Added {
     Kept,
 }
 
-/// Adds a node to the places of a store.
+/// Adds the node with this key to the places of a store.
 pub(crate) fn add_node<K: Covers>(
     layout: &Layout,
     one_resource: bool,
@@ -42,17 +42,18 @@ pub(crate) fn add_node<K: Covers>(
     glances: &mut Vec<Glance>,
     count: &mut usize,
     node: NodeBox,
+    key: u64,
 ) -> Result<Added, NodeBox>
     requires kept { IsKept K.prune K.minimize K.operator layout.now (row_in chains.old.heads.items chains.old.links.items) (length chains.old.links.items) places.old.items glances.old.items count.old }
     requires steps { AreStaircases K.prune K.minimize K.operator layout.now (row_in staircases.old.chains.heads.items staircases.old.chains.links.items) (length staircases.old.chains.links.items) staircases.old.stairs.items places.old.items }
     requires node { IsNodeFor layout.now node }
+    requires key { key ≡ key_of K.prune layout.now node }
     ensures kept { IsKept K.prune K.minimize K.operator layout.now (row_in chains.new.heads.items chains.new.links.items) (length chains.new.links.items) places.new.items glances.new.items count.new }
     ensures steps { AreStaircases K.prune K.minimize K.operator layout.now (row_in staircases.new.chains.heads.items staircases.new.chains.links.items) (length staircases.new.chains.links.items) staircases.new.stairs.items places.new.items }
     ensures answer { IfOk result (λ added. added ≡ (if is_covered (covers K.prune K.minimize K.operator layout.now) (nodes_of places.old.items) node then Added.Covered else Added.Kept)) }
     ensures nodes { OnOk result (nodes_of places.new.items ≡ (if is_covered (covers K.prune K.minimize K.operator layout.now) (nodes_of places.old.items) node then nodes_of places.old.items else with_node (covers K.prune K.minimize K.operator layout.now) (nodes_of places.old.items) node)) }
     ensures err { IfErr result (λ back. (back ≡ node) × (nodes_of places.new.items ≡ nodes_of places.old.items)) }
 {
-    let key = K::key(layout, node.get());
     let at = staircases.find(key);
     let added = match add_by_steps::<K>(
         layout,
@@ -237,7 +238,7 @@ fn keep_node<K: Covers>(
     ))
 }
 
-// a new place without a node, with this glance, which stands in the row of the key, before its others
+// room for a place more, and what it has but its node: this glance, and its place in the row of the key, before the others of the row
 #[inline(always)]
 fn open_place(
     chains: &mut Chains,
@@ -250,26 +251,15 @@ fn open_place(
     ensures first { OnOk result (Has (row_in chains.new.heads.items chains.new.links.items key) (length chains.old.links.items)) }
     ensures rows { (k : ℕ) (p : ℕ) → Has (row_in chains.old.heads.items chains.old.links.items k) p → Has (row_in chains.new.heads.items chains.new.links.items k) p }
     ensures linked { OnOk result (length chains.new.links.items ≡ length chains.old.links.items + 1) }
-    ensures places { OnOk result (places.new.items ≡ places.old.items ++ None ∷ []) }
+    ensures places { places.new.items ≡ places.old.items }
+    ensures room { OnOk result (vec_len places.new < vec_capacity places.new) }
     ensures glances { OnOk result (glances.new.items ≡ glances.old.items ++ glance ∷ []) }
-    ensures err { OnErr result ((places.new.items ≡ places.old.items) × (glances.new.items ≡ glances.old.items)) }
+    ensures err { OnErr result (glances.new.items ≡ glances.old.items) }
     ensures err_linked { OnErr result (length chains.new.links.items ≡ length chains.old.links.items) }
 {
     places.reserve(1)?;
     glances.reserve(1)?;
     chains.push(key)?;
-    push_within(places, glances, glance);
+    glances.push_reserved(glance);
     Ok(())
-}
-
-// appends a place without a node and its glance, where there is room for them, so that neither fails
-#[inline(always)]
-fn push_within(places: &mut Vec<Option<Node>>, glances: &mut Vec<Glance>, glance: Glance)
-    requires places { vec_len places.old < vec_capacity places.old }
-    requires glances { vec_len glances.old < vec_capacity glances.old }
-    ensures places { places.new.items ≡ places.old.items ++ None ∷ [] }
-    ensures glances { glances.new.items ≡ glances.old.items ++ glance ∷ [] }
-{
-    let _ = places.push(None);
-    let _ = glances.push(glance);
 }

@@ -1,6 +1,7 @@
 //! The store of a layer's nodes: which nodes cover others, and the nodes so far of which none covers another.
 #![tactic(auto)]
 
+mod ahead;
 mod chains;
 mod covers;
 mod glance;

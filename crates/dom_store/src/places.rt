@@ -1,6 +1,6 @@
 //! The places of a store's nodes, in order of adding. No call takes memory.
 
-ghost use Rattle.std.specs.Prelude.{◌≡◌, ℕ, ◌<◌, ◌+◌, ◌||◌, true, false, length, IfNone, IfSome, slice_get, slice_set, if◌then◌else◌, Option, Some, None, fold, map};
+ghost use Rattle.std.specs.Prelude.{◌≡◌, ℕ, ◌<◌, ◌+◌, ◌||◌, ◌++◌, ◌∷◌, [], true, false, length, vec_len, vec_capacity, IfNone, IfSome, if◌then◌else◌, Option, Some, None, fold, map};
 ghost use Rattle.std.specs.List.{list_any};
 ghost use Rattle.state_layout.specs.Conditions.{IsNodeFor};
 ghost use Rattle.state_layout.specs.declared.node.Node.{Node};
@@ -139,6 +139,8 @@ fn clear_covered<K: Covers>(
     ensures counted { length (nodes_of places.new.items) + result ≡ length (nodes_of places.old.items) }
     ensures rows { KeepsRows (row_in chains.old.heads.items chains.old.links.items) (row_in chains.new.heads.items chains.new.links.items) place places.new.items }
     ensures links { length chains.new.links.items ≡ length chains.old.links.items }
+    ensures len { vec_len places.new ≡ vec_len places.old }
+    ensures room { vec_capacity places.new ≡ vec_capacity places.old }
 {
     let mut gone = 0;
     let mut last = place;
@@ -185,6 +187,8 @@ fn clear_if<K: Covers>(
     ensures none_covers { stairs.new.row ≡ Some key → NoneCovers stairs.new.steps glance }
     ensures none_covered { stairs.new.row ≡ Some key → NoneCovered stairs.new.steps glance }
     ensures links { length chains.new.links.items ≡ length chains.old.links.items }
+    ensures len { vec_len places.new ≡ vec_len places.old }
+    ensures room { vec_capacity places.new ≡ vec_capacity places.old }
 {
     if !covering {
         return 0;
@@ -223,6 +227,8 @@ fn clear_row<K: Covers>(
     ensures none_covers { stairs.new.row ≡ Some key → NoneCovers stairs.new.steps glance }
     ensures none_covered { stairs.new.row ≡ Some key → NoneCovered stairs.new.steps glance }
     ensures links { length chains.new.links.items ≡ length chains.old.links.items }
+    ensures len { vec_len places.new ≡ vec_len places.old }
+    ensures room { vec_capacity places.new ≡ vec_capacity places.old }
 {
     let gone = clear_steps::<K>(layout, stairs, places, glances, node, key, glance);
     if stairs.is_of(key) {
@@ -257,6 +263,8 @@ fn clear_steps<K: Covers>(
     ensures none_covers { stairs.new.row ≡ Some key → NoneCovers stairs.new.steps glance }
     ensures none_covered { stairs.new.row ≡ Some key → NoneCovered stairs.new.steps glance }
     ensures counted { length (nodes_of places.new.items) + result ≡ length (nodes_of places.old.items) }
+    ensures len { vec_len places.new ≡ vec_len places.old }
+    ensures room { vec_capacity places.new ≡ vec_capacity places.old }
 {
     let mut gone = 0;
     while let Some((word, step)) = stairs.first_covered_in(key, glance) {
@@ -288,6 +296,8 @@ fn clear_at<K: Covers>(
     ensures nodes { (p : ℕ) (n : Node) → StandsAt places.new.items p n → StandsAt places.old.items p n }
     ensures gone { result ≡ true → (n : Node) → StandsAt places.new.items place n → ⊥ }
     ensures counted { length (nodes_of places.new.items) + (if result then 1 else 0) ≡ length (nodes_of places.old.items) }
+    ensures len { vec_len places.new ≡ vec_len places.old }
+    ensures room { vec_capacity places.new ≡ vec_capacity places.old }
 {
     if !is_covered_at::<K>(layout, places, glances, place, node, glance) {
         return false;
@@ -324,8 +334,8 @@ fn is_covered_at<K: Covers>(
     }
 }
 
-/// Puts the node at a place that has none, where those that it covers at the places behind this one are gone, with their
-/// places. It tells how many were gone. Where `covering` is false it covers none.
+/// Puts the node at a new place, the last one, for which there is room, where those that it covers at the places behind this one
+/// are gone, with their places. It tells how many were gone. Where `covering` is false it covers none.
 pub(crate) fn put_node<K: Covers>(
     layout: &Layout,
     chains: &mut Chains,
@@ -338,7 +348,8 @@ pub(crate) fn put_node<K: Covers>(
     key: u64,
     glance: Glance,
 ) -> usize
-    requires place { slice_get places.old.items place ≡ Some None }
+    requires place { place ≡ length places.old.items }
+    requires room { vec_len places.old < vec_capacity places.old }
     requires within { place < length chains.old.links.items }
     requires node { IsNodeFor layout.now node }
     requires nodes { (p : ℕ) (n : Node) → StandsAt places.old.items p n → IsNodeFor layout.now n }
@@ -350,7 +361,7 @@ pub(crate) fn put_node<K: Covers>(
     requires none_covers { stairs.old.row ≡ Some key → NoneCovers stairs.old.steps glance }
     requires sought { stairs.old.row ≡ Some key → covering ≡ true }
     requires complete { (p : ℕ) (n : Node) → StandsAt places.old.items p n → covers K.prune K.minimize K.operator layout.now node n ≡ true → Has (chain_from chains.old.links.items (older_at chains.old.links.items place)) p }
-    ensures places { places.new.items ≡ slice_set (fold (cleared (λ (held : Node). covers K.prune K.minimize K.operator layout.now node held)) places.old.items (chain_from chains.old.links.items (older_at chains.old.links.items place))) place (Some node) }
+    ensures places { places.new.items ≡ fold (cleared (λ (held : Node). covers K.prune K.minimize K.operator layout.now node held)) places.old.items (chain_from chains.old.links.items (older_at chains.old.links.items place)) ++ Some node ∷ [] }
     ensures counted { length (nodes_of places.new.items) + result ≡ length (nodes_of places.old.items) + 1 }
     ensures rows { KeepsRows (row_in chains.old.heads.items chains.old.links.items) (row_in chains.new.heads.items chains.new.links.items) place places.new.items }
     ensures steps { AreSteps K.prune K.minimize K.operator layout.now stairs.new.row stairs.new.steps places.new.items }
@@ -361,6 +372,6 @@ pub(crate) fn put_node<K: Covers>(
         layout, chains, stairs, places, glances, covering, place, &node, key, glance,
     );
     stairs.add(key, glance, place);
-    places[place] = Some(node);
+    places.push_reserved(Some(node));
     gone
 }

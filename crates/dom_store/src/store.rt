@@ -1,16 +1,17 @@
 //! The store of a layer's nodes.
 
-ghost use Rattle.std.specs.Prelude.{◌≡◌, ◌+◌, ◌++◌, ◌⊎◌, [], if◌then◌else◌, length, min, IfOk, OnOk, IfErr, OnErr};
+ghost use Rattle.std.specs.Prelude.{◌≡◌, ◌+◌, ◌++◌, ◌⊎◌, [], if◌then◌else◌, length, map, min, IfOk, OnOk, IfErr, OnErr};
 ghost use Rattle.dp_claims.specs.Enough.{Has};
 ghost use Rattle.dp_model.specs.declared.whole.Model.{Model as DpModel};
 ghost use Rattle.cost_laws.specs.Orders.{IsLawOf};
 ghost use Rattle.state_layout.specs.Conditions.{IsLayoutOf, IsNodeFor};
 ghost use Rattle.state_layout.specs.declared.node.Node.{Node};
-ghost use Rattle.dom_store.specs.Covering.{covers};
-ghost use Rattle.dom_store.specs.Contents.{is_covered, with_node, IsCovered, Apart};
+ghost use Rattle.dom_store.specs.Covering.{covers, key_of};
+ghost use Rattle.dom_store.specs.Contents.{is_covered, with_node, with_nodes, AreAdded, IsCovered, Apart};
 ghost use Rattle.dom_store.specs.Order.{IsOrdering, IsLeastFloor};
 ghost use Rattle.dom_store.specs.Past.{covers_past, not_past, IsPast};
 
+use crate::ahead::{make_keys, read_nodes, read_rows};
 use crate::chains::Chains;
 use crate::covers::Covers;
 use crate::glance::Glance;
@@ -23,7 +24,9 @@ use crate::taking::{Taken, take_nodes};
 use cost_laws::CostLaw;
 use state_layout::{Layout, Node, NodeBox};
 use std::alloc::{AllocError, Global};
+use std::collections::VecDeque;
 use std::marker::{Model, PhantomData};
+use std::mem;
 
 /// The nodes of a layer so far, in order of adding, none of which covers another.
 #[derive(Drop)]
@@ -36,6 +39,9 @@ pub struct DomStore<K: Covers> {
     glances: Vec<Glance>,
     count: usize,
     spare: Vec<NodeBox>,
+    // room for keys of nodes that are added together, and a word that stands for what was read ahead
+    keys: Vec<u64>,
+    seen: u64,
     covering: PhantomData<K>,
 }
 
@@ -68,6 +74,8 @@ impl<K: Covers> DomStore<K> {
             glances: Vec::new(alloc),
             count: 0,
             spare: Vec::new(alloc),
+            keys: Vec::new(alloc),
+            seen: 0,
             covering: PhantomData,
         })
     }
@@ -77,6 +85,24 @@ impl<K: Covers> DomStore<K> {
     pub fn add(&mut self, layout: &Layout, node: NodeBox) -> Result<Added, NodeBox>
         requires layout { layout.now ≡ self.old.layout }
         requires node { IsNodeFor layout.now node }
+        ensures answer { IfOk result (λ added. added ≡ (if is_covered (covers K.prune K.minimize K.operator layout.now) self.old.nodes node then Added.Covered else Added.Kept)) }
+        ensures nodes { OnOk result (self.new.nodes ≡ (if is_covered (covers K.prune K.minimize K.operator layout.now) self.old.nodes node then self.old.nodes else with_node (covers K.prune K.minimize K.operator layout.now) self.old.nodes node)) }
+        ensures layout { self.new.layout ≡ self.old.layout }
+        ensures err { IfErr result (λ back. (back ≡ node) × (self.new.nodes ≡ self.old.nodes)) }
+        ensures covered { (m : DpModel) → IsLayoutOf m layout.now → IsLawOf m K.minimize K.operator → (n : Node) → IsCovered m K.prune self.old.nodes n → IsCovered m K.prune self.new.nodes n }
+        ensures added { (m : DpModel) → IsLayoutOf m layout.now → IsLawOf m K.minimize K.operator → OnOk result (IsCovered m K.prune self.new.nodes node) }
+        ensures apart { (m : DpModel) → IsLayoutOf m layout.now → IsLawOf m K.minimize K.operator → Apart m K.prune self.new.nodes }
+    {
+        let key = K::key(layout, node.get());
+        self.add_keyed(layout, node, key)
+    }
+
+    // the same by the key of the node
+    #[inline(never)]
+    fn add_keyed(&mut self, layout: &Layout, node: NodeBox, key: u64) -> Result<Added, NodeBox>
+        requires layout { layout.now ≡ self.old.layout }
+        requires node { IsNodeFor layout.now node }
+        requires key { key ≡ key_of K.prune layout.now node }
         ensures answer { IfOk result (λ added. added ≡ (if is_covered (covers K.prune K.minimize K.operator layout.now) self.old.nodes node then Added.Covered else Added.Kept)) }
         ensures nodes { OnOk result (self.new.nodes ≡ (if is_covered (covers K.prune K.minimize K.operator layout.now) self.old.nodes node then self.old.nodes else with_node (covers K.prune K.minimize K.operator layout.now) self.old.nodes node)) }
         ensures layout { self.new.layout ≡ self.old.layout }
@@ -95,7 +121,77 @@ impl<K: Covers> DomStore<K> {
             &mut self.glances,
             &mut self.count,
             node,
+            key,
         )
+    }
+
+    /// Adds the nodes of a list, one after another, as `add` does, and takes them out of the list. What is read of each of them and of
+    /// its row is read for all before the first is added, so that the processor waits for all of it at once. On `Err` memory ran out:
+    /// the nodes that are left in the list were not added, and those before them were.
+    pub fn add_all(
+        &mut self,
+        layout: &Layout,
+        nodes: &mut VecDeque<NodeBox>,
+    ) -> Result<(), AllocError>
+        requires layout { layout.now ≡ self.old.layout }
+        requires nodes { (n : Node) → Has nodes.old.items n → IsNodeFor layout.now n }
+        ensures added { OnOk result (self.new.nodes ≡ with_nodes (covers K.prune K.minimize K.operator layout.now) self.old.nodes nodes.old.items) }
+        ensures emptied { OnOk result (nodes.new.items ≡ []) }
+        ensures err { OnErr result (AreAdded (covers K.prune K.minimize K.operator layout.now) self.old.nodes nodes.old.items self.new.nodes nodes.new.items) }
+        ensures layout { self.new.layout ≡ self.old.layout }
+        ensures from { (n : Node) → Has (self.new.nodes ++ nodes.new.items) n → Has (self.old.nodes ++ nodes.old.items) n }
+        ensures covered { (m : DpModel) → IsLayoutOf m layout.now → IsLawOf m K.minimize K.operator → (n : Node) → IsCovered m K.prune (self.old.nodes ++ nodes.old.items) n → IsCovered m K.prune (self.new.nodes ++ nodes.new.items) n }
+    {
+        let mut keys = mem::replace(&mut self.keys, Vec::new(*self.places.allocator()));
+        let end = self.add_ahead(layout, nodes, &mut keys);
+        keys.clear();
+        self.keys = keys;
+        end
+    }
+
+    // the same, with a list for the keys
+    fn add_ahead(
+        &mut self,
+        layout: &Layout,
+        nodes: &mut VecDeque<NodeBox>,
+        keys: &mut Vec<u64>,
+    ) -> Result<(), AllocError>
+        requires layout { layout.now ≡ self.old.layout }
+        requires nodes { (n : Node) → Has nodes.old.items n → IsNodeFor layout.now n }
+        ensures added { AreAdded (covers K.prune K.minimize K.operator layout.now) self.old.nodes nodes.old.items self.new.nodes nodes.new.items }
+        ensures emptied { OnOk result (nodes.new.items ≡ []) }
+        ensures layout { self.new.layout ≡ self.old.layout }
+    {
+        self.seen = self.seen ^ read_nodes(nodes);
+        make_keys::<K>(layout, nodes, keys)?;
+        self.seen = self.seen ^ read_rows(&self.chains, &self.places, &self.glances, keys);
+        self.add_each(layout, nodes, keys)
+    }
+
+    // adds the nodes one after another, by their keys
+    fn add_each(
+        &mut self,
+        layout: &Layout,
+        nodes: &mut VecDeque<NodeBox>,
+        keys: &[u64],
+    ) -> Result<(), AllocError>
+        requires layout { layout.now ≡ self.old.layout }
+        requires nodes { (n : Node) → Has nodes.old.items n → IsNodeFor layout.now n }
+        requires keys { keys.now ≡ map (key_of K.prune layout.now) nodes.old.items }
+        ensures added { AreAdded (covers K.prune K.minimize K.operator layout.now) self.old.nodes nodes.old.items self.new.nodes nodes.new.items }
+        ensures emptied { OnOk result (nodes.new.items ≡ []) }
+        ensures layout { self.new.layout ≡ self.old.layout }
+    {
+        for key in keys {
+            let Some(node) = nodes.pop_front() else {
+                return Ok(());
+            };
+            if let Err(back) = self.add_keyed(layout, node, *key) {
+                nodes.push_front_reserved(back);
+                return Err(AllocError);
+            }
+        }
+        Ok(())
     }
 
     /// Takes out the nodes that the past covers. The others stay in their order. It takes no memory.
