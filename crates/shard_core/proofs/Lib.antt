@@ -2,6 +2,7 @@ pub mod Rows
 pub mod Intakes
 pub mod Accepts
 pub mod Closes
+pub mod Merges
 pub mod Posts
 pub mod Tells
 pub mod Best

@@ -1,5 +1,5 @@
 -- The layers that are not closed, as one more comes, as one changes, and as the first is taken out.
-use Rattle.std.proofs.Common.{◌≡◌, ℕ, zero, suc, ◌+◌, ◌<◌, ◌⊎◌, inl, inr, Bool, true, false, not, List, [], ◌∷◌, ◌++◌, length, min, get_or, slice_get, slice_set, Option, Some, None, refl, sym, ap, subst, ◌∙◌, arith, if◌then◌else◌}
+use Rattle.std.proofs.Common.{◌≡◌, ℕ, zero, suc, ◌+◌, ◌<◌, ◌⊎◌, inl, inr, Bool, false, List, [], ◌∷◌, ◌++◌, length, min, get_or, slice_get, slice_set, Option, Some, None, refl, sym, ap, subst, append_assoc, append-nil, ◌∙◌, arith}
 use Rattle.std.specs.Prelude.{Result, Ok, Err, IfOk, OnOk, OnErr, IfSome, ℤ}
 use Rattle.std.specs.List.{remove}
 use Rattle.std.specs.declared.alloc.AllocError.{AllocError}
@@ -13,15 +13,14 @@ use Rattle.pass_ledger.specs.Passes.{Pass}
 use Rattle.dp_claims.specs.Enough.{Has}
 use Rattle.state_layout.specs.declared.layout.Layout.{Layout}
 use Rattle.state_layout.specs.declared.node.Node.{Node}
-use Rattle.dom_store.specs.Contents.{IsCovered, Apart, with_node}
+use Rattle.dom_store.specs.Contents.{IsCovered, Apart, AreAdded}
 use Rattle.dom_store.specs.Past.{IsPast}
 use Rattle.dom_store.specs.declared.past_node.PastNode.{PastNode}
 use Rattle.dom_store.specs.declared.taking.Taken.{Taken}
-use Rattle.dom_store.proofs.Members.{has_filtered}
-use Rattle.dp_claims.proofs.Covering.{transitive}
-use Rattle.pass_ledger.proofs.Lists.{has_none, has_head, has_cases, has_left, has_right}
+use Rattle.dp_claims.proofs.Covering.{reflexive, transitive}
+use Rattle.pass_ledger.proofs.Lists.{has_none, has_head, has_cases, has_left, has_right, has_last}
 use Rattle.pass_ledger.proofs.Appends.{get_push}
-use Rattle.shard_core.specs.Layers.{nodes_at, busy_at, nodes_of, AreOf, Merges, Splits}
+use Rattle.shard_core.specs.Layers.{nodes_at, busy_at, nodes_of, IsOf, AreOf, Merges, Splits}
 use Rattle.shard_core.specs.declared.layers.Layer.{Layer}
 
 -- what holds in any case holds where all went well
@@ -31,11 +30,11 @@ ok_holds (Err e) p = tt
 
 module _ {B : Type 0} where
   -- one more layer, without nodes
-  pub push_nodes : (layers : List (Layer B)) (x : Layer B) → x.nodes.nodes ≡ [] → (d : ℕ) → nodes_at (layers ++ x ∷ []) d ≡ nodes_at layers d
-  push_nodes [] x e zero = e
-  push_nodes [] x e (suc d) = refl
-  push_nodes (y ∷ layers) x e zero = refl
-  push_nodes (y ∷ layers) x e (suc d) = push_nodes layers x e d
+  pub push_nodes : (layers : List (Layer B)) (x : Layer B) → x.nodes.nodes ≡ [] → x.pending.items ≡ [] → (d : ℕ) → nodes_at (layers ++ x ∷ []) d ≡ nodes_at layers d
+  push_nodes [] x e f zero = subst (λ (ns : List Node). ns ++ x.pending.items ≡ []) (sym e) f
+  push_nodes [] x e f (suc d) = refl
+  push_nodes (y ∷ layers) x e f zero = refl
+  push_nodes (y ∷ layers) x e f (suc d) = push_nodes layers x e f d
 
   pub push_busy : (layers : List (Layer B)) (x : Layer B) → x.busy ≡ false → (d : ℕ) → busy_at (layers ++ x ∷ []) d ≡ busy_at layers d
   push_busy [] x e zero = e
@@ -43,17 +42,17 @@ module _ {B : Type 0} where
   push_busy (y ∷ layers) x e zero = refl
   push_busy (y ∷ layers) x e (suc d) = push_busy layers x e d
 
-  pub push_layouts : (layout : Layout) (layers : List (Layer B)) (x : Layer B) → AreOf layout layers → x.nodes.layout ≡ layout → AreOf layout (layers ++ x ∷ [])
-  push_layouts layout layers x are e d y h =
+  pub push_layouts : (layout : Layout) (layers : List (Layer B)) (x : Layer B) → AreOf layout layers → x.nodes.layout ≡ layout → x.pending.items ≡ [] → AreOf layout (layers ++ x ∷ [])
+  push_layouts layout layers x are e f d y h =
       elim (get_push layers x d y h) [
         | inl old ↦ are d y old
-        | inr new ↦ subst (λ (z : Layer B). z.nodes.layout ≡ layout) new.1 e
+        | inr new ↦ subst (λ (z : Layer B). IsOf layout z) new.1 (e, λ n there. absurd (has_none n (subst (λ (ns : List Node). Has ns n) f there)))
       ]
 
   -- one layer changes
-  pub set_layouts : (layout : Layout) (layers : List (Layer B)) (k : ℕ) (x : Layer B) → AreOf layout layers → x.nodes.layout ≡ layout → AreOf layout (slice_set layers k x)
+  pub set_layouts : (layout : Layout) (layers : List (Layer B)) (k : ℕ) (x : Layer B) → AreOf layout layers → IsOf layout x → AreOf layout (slice_set layers k x)
   set_layouts layout [] k x are e d y h = are d y h
-  set_layouts layout (z ∷ layers) zero x are e zero y h = subst (λ (w : Layer B). w.nodes.layout ≡ layout) (some_is h) e
+  set_layouts layout (z ∷ layers) zero x are e zero y h = subst (λ (w : Layer B). IsOf layout w) (some_is h) e
     where
       some_is : {a b : Layer B} → Some a ≡ Some b → a ≡ b
       some_is h = cc
@@ -86,9 +85,9 @@ module _ {B : Type 0} where
   set_same (y ∷ layers) zero x at = let same : y ≡ x = cc in ap (λ (z : Layer B). z ∷ layers) (sym same)
   set_same (y ∷ layers) (suc k) x at = ap (λ (zs : List (Layer B)). y ∷ zs) (set_same layers k x at)
 
-  pub set_merges : (p : Pass) (layers : List (Layer B)) (k : ℕ) (x old : Layer B) (node : Node) → k < length layers → slice_get layers k ≡ Some old → Merges p old.nodes.nodes node x.nodes.nodes → Merges p (nodes_at layers k) node (nodes_at (slice_set layers k x) k)
+  pub set_merges : (p : Pass) (layers : List (Layer B)) (k : ℕ) (x old : Layer B) (node : Node) → k < length layers → slice_get layers k ≡ Some old → Merges p (nodes_of (Some old)) node (nodes_of (Some x)) → Merges p (nodes_at layers k) node (nodes_at (slice_set layers k x) k)
   set_merges p layers k x old node lt at merges =
-      subst (λ (ns : List Node). Merges p (nodes_at layers k) node ns) (sym (set_at nodes_of layers k x lt)) (subst (λ (ns : List Node). Merges p ns node x.nodes.nodes) (sym (ap nodes_of at)) merges)
+      subst (λ (ns : List Node). Merges p (nodes_at layers k) node ns) (sym (set_at nodes_of layers k x lt)) (subst (λ (ns : List Node). Merges p ns node (nodes_of (Some x))) (sym (ap nodes_of at)) merges)
 
   -- the first layer is taken out
   pub rest_at : {A : Type 0} (f : Option (Layer B) → A) (layers : List (Layer B)) → 0 < length layers → (d : ℕ) → f (slice_get (remove layers 0) d) ≡ f (slice_get layers (d + 1))
@@ -118,6 +117,24 @@ on_err (Err e) P h = h
 
 -- ---- a store
 
+pub none_left : (layout : Layout) (ns : List Node) → ns ≡ [] → (n : Node) → Has ns n → IsNodeFor layout n
+none_left layout ns e n h = absurd (has_none n (subst (λ (ms : List Node). Has ms n) e h))
+
+pub fit_same : (layout : Layout) (ns new : List Node) → new ≡ ns → ((n : Node) → Has ns n → IsNodeFor layout n) → (n : Node) → Has new n → IsNodeFor layout n
+fit_same layout ns new is fits n h = fits n (subst (λ (ms : List Node). Has ms n) is h)
+
+-- one more node fits where all others do
+pub fit_more : (layout : Layout) (ns : List Node) (node : Node) (new : List Node) → new ≡ ns ++ node ∷ [] → ((n : Node) → Has ns n → IsNodeFor layout n) → IsNodeFor layout node → (n : Node) → Has new n → IsNodeFor layout n
+fit_more layout ns node new is fits here n h =
+    elim (has_cases ns (node ∷ []) n (subst (λ (ms : List Node). Has ms n) is h)) [
+      | inl before ↦ fits n before
+      | inr last ↦ elim (has_head node [] n last) [ inl e ↦ subst (IsNodeFor layout) e here | inr gone ↦ absurd (has_none n gone) ]
+    ]
+
+-- nodes that are left of a list were in it
+pub left_in : (test : Node → Node → Bool) (stored list new left : List Node) → AreAdded test stored list new left → (n : Node) → Has left n → Has list n
+left_in test stored list new left added n h = subst (λ (ns : List Node). Has ns n) (sym added.1) (has_right added.0 left n h)
+
 -- the best floor of nodes is one of theirs
 pub floor_wide : (minimize : Bool) (operator : JoinOp) (ns : List Node) (floor : Option ℤ) → IsLeastFloor minimize operator ns floor → ((n : Node) → Has ns n → IfSome n.floor InWideRange) → IfSome floor InWideRange
 floor_wide minimize operator ns None h good = tt
@@ -132,23 +149,36 @@ pub fit_kept : (layout other : Layout) → layout ≡ other → (result : Result
 fit_kept layout other e (Err x) fits = tt
 fit_kept layout other e (Ok t) fits = λ n h. subst (λ (l : Layout). IsNodeFor l n) e (fits n (has_left t.kept t.dropped n h))
 
-pub merges : (p : Pass) (prune : Bool) → prune ≡ p.prune → (old : List Node) (node : Node) (new : List Node) → ((n : Node) → Has new n → Has old n ⊎ (n ≡ node)) → ((n : Node) → IsCovered p.model prune old n → IsCovered p.model prune new n)
-    → IsCovered p.model prune new node → Merges p old node new
-merges p prune e old node new only kept added =
+-- a node that comes last is merged into the others
+merges_last : (p : Pass) (old : List Node) (node : Node) → Merges p old node (old ++ node ∷ [])
+merges_last p old node =
     record {
-      only = only;
-      kept = subst (λ (b : Bool). (n : Node) → IsCovered p.model b old n → IsCovered p.model b new n) e kept;
-      added = subst (λ (b : Bool). IsCovered p.model b new node) e added;
+      only = λ n h. elim (has_cases old (node ∷ []) n h) [
+        | inl before ↦ inl before
+        | inr last ↦ elim (has_head node [] n last) [ inl e ↦ inr (sym e) | inr gone ↦ absurd (has_none n gone) ]
+      ];
+      kept = λ n c. (c.0, has_left old (node ∷ []) c.0 c.1, c.2);
+      added = (node, has_last old node, reflexive p.model p.prune node.state node.cost);
     }
 
--- a node that is added comes beside some of the others
-pub added_only : (test : Node → Node → Bool) (nodes : List Node) (node : Node) (b : Bool) (n : Node) → Has (if b then nodes else with_node test nodes node) n → Has nodes n ⊎ (n ≡ node)
-added_only test nodes node true n h = inl h
-added_only test nodes node false n h =
-    elim (has_cases _ (node ∷ []) n h) [
-      | inl old ↦ inl (has_filtered (λ held. not (test node held)) nodes n old).0
-      | inr new ↦ elim (has_head node [] n new) [ inl e ↦ inr (sym e) | inr gone ↦ absurd (has_none n gone) ]
-    ]
+-- and is so where some that others cover are taken out then
+pub merges_among : (p : Pass) (prune : Bool) → prune ≡ p.prune → (stored waits : List Node) (node : Node) (waiting new : List Node) → waiting ≡ waits ++ node ∷ [] → ((n : Node) → Has new n → Has (stored ++ waiting) n)
+    → ((n : Node) → IsCovered p.model prune (stored ++ waiting) n → IsCovered p.model prune new n) → Merges p (stored ++ waits) node new
+merges_among p prune e stored waits node waiting new is from covered =
+    record {
+      only = λ n h. last.only n (subst (λ (ns : List Node). Has ns n) same (from n h));
+      kept = λ n c. are_covered n (subst (λ (ns : List Node). IsCovered p.model p.prune ns n) (sym same) (last.kept n c));
+      added = are_covered node (subst (λ (ns : List Node). IsCovered p.model p.prune ns node) (sym same) last.added);
+    }
+  where
+    same : stored ++ waiting ≡ (stored ++ waits) ++ node ∷ []
+    same = ap (λ (ns : List Node). stored ++ ns) is ∙ sym (append_assoc stored waits (node ∷ []))
+
+    last : Merges p (stored ++ waits) node ((stored ++ waits) ++ node ∷ [])
+    last = merges_last p (stored ++ waits) node
+
+    are_covered : (n : Node) → IsCovered p.model p.prune (stored ++ waiting) n → IsCovered p.model p.prune new n
+    are_covered = subst (λ (b : Bool). (n : Node) → IsCovered p.model b (stored ++ waiting) n → IsCovered p.model b new n) e covered
 
 -- something is dropped only where just the share is kept
 pub dropped_full : (share : ℕ) (nodes kept dropped : List Node) → length kept ≡ min share (length nodes) → length kept + length dropped ≡ length nodes → (n : Node) → Has dropped n → length kept ≡ share
@@ -192,3 +222,23 @@ splits p share past nodes left minimize operator prune e law only each news (Ok 
 
     are_covered : (n : Node) → IsCovered p.model p.prune left n → IsCovered p.model p.prune (t.kept ++ t.dropped) n
     are_covered = subst (λ (b : Bool). (n : Node) → IsCovered p.model b left n → IsCovered p.model b (t.kept ++ t.dropped) n) e covered
+
+-- the nodes that were shared out are those of before, where some that others cover were taken out first
+pub splits_before : (p : Pass) (share : ℕ) (past : List PastNode) (nodes stored waits : List Node) (taken : Taken) (prune : Bool) → prune ≡ p.prune → waits ≡ [] → ((n : Node) → Has (stored ++ waits) n → Has nodes n)
+    → ((n : Node) → IsCovered p.model prune nodes n → IsCovered p.model prune (stored ++ waits) n) → Splits p share past stored taken → Splits p share past nodes taken
+splits_before p share past nodes stored waits taken prune e none from covered s =
+    record {
+      from = λ n h. from n (has_left stored waits n (s.from n h));
+      news = s.news;
+      covered = λ n c. s.covered n (subst (λ (ns : List Node). IsCovered p.model p.prune ns n) same (are_covered n c));
+      apart = s.apart;
+      few = s.few;
+      full = s.full;
+      floor = s.floor;
+    }
+  where
+    same : stored ++ waits ≡ stored
+    same = ap (λ (ns : List Node). stored ++ ns) none ∙ append-nil stored
+
+    are_covered : (n : Node) → IsCovered p.model p.prune nodes n → IsCovered p.model p.prune (stored ++ waits) n
+    are_covered = subst (λ (b : Bool). (n : Node) → IsCovered p.model b nodes n → IsCovered p.model b (stored ++ waits) n) e covered

@@ -1,6 +1,7 @@
 -- The layers that are not closed.
 use Rattle.std.specs.Prelude.{◌≡◌, ℕ, ◌≤◌, ◌⊎◌, Bool, false, List, [], ◌++◌, length, slice_get, Option, Some, None}
 use Rattle.dp_claims.specs.Enough.{Has}
+use Rattle.state_layout.specs.Conditions.{IsNodeFor}
 use Rattle.state_layout.specs.declared.layout.Layout.{Layout}
 use Rattle.state_layout.specs.declared.node.Node.{Node}
 use Rattle.dom_store.specs.Contents.{IsCovered, Apart}
@@ -12,9 +13,10 @@ use Rattle.pass_ledger.specs.Passes.{Pass}
 use Rattle.shard_core.specs.declared.layers.Layer.{Layer}
 
 module _ {B : Type 0} where
+  -- the nodes of the store, and those that wait to be added to it
   abbrev pub nodes_of : Option (Layer B) → List Node
   nodes_of None = []
-  nodes_of (Some layer) = layer.nodes.nodes
+  nodes_of (Some layer) = layer.nodes.nodes ++ layer.pending.items
 
   abbrev pub busy_of : Option (Layer B) → Bool
   busy_of None = false
@@ -27,9 +29,13 @@ module _ {B : Type 0} where
   abbrev pub busy_at : List (Layer B) → ℕ → Bool
   busy_at layers d = busy_of (slice_get layers d)
 
-  -- all stores are of one layout
+  -- the store is of the layout, and those that wait are nodes for it
+  abbrev pub IsOf : Layout → Layer B → Type 0
+  IsOf layout layer = (layer.nodes.layout ≡ layout) × ((n : Node) → Has layer.pending.items n → IsNodeFor layout n)
+
+  -- all layers are of one layout
   abbrev pub AreOf : Layout → List (Layer B) → Type 0
-  AreOf layout layers = (d : ℕ) (x : Layer B) → slice_get layers d ≡ Some x → x.nodes.layout ≡ layout
+  AreOf layout layers = (d : ℕ) (x : Layer B) → slice_get layers d ≡ Some x → IsOf layout x
 
 -- A node is merged into others: it is covered then, and so is what was covered.
 pub record Merges (p : Pass) (old : List Node) (node : Node) (new : List Node) : Type 0 where

@@ -1,36 +1,58 @@
 //! The layers that are not closed, with the nodes that were received for them so far.
 
-ghost use Rattle.std.specs.Prelude.{◌≡◌, ℕ, ◌+◌, ◌<◌, true, false, List, [], length, option_to_list, IfOk, IfErr, OnErr, OnOk, IfSome, Option, Some, None};
+ghost use Rattle.std.specs.Prelude.{◌≡◌, ℕ, ◌+◌, ◌<◌, true, false, List, [], ◌∷◌, ◌++◌, length, option_to_list, IfOk, IfErr, OnErr, OnOk, IfSome, Option, Some, None};
 ghost use Rattle.cost_laws.specs.Orders.{InWideRange, IsLawOf};
 ghost use Rattle.dp_claims.specs.Enough.{Has};
+ghost use Rattle.dp_model.specs.declared.whole.Model.{Model as DpModel};
+ghost use Rattle.dom_store.specs.Contents.{IsCovered};
 ghost use Rattle.state_layout.specs.Conditions.{IsLayoutOf, IsNodeFor};
 ghost use Rattle.state_layout.specs.declared.layout.Layout.{Layout};
 ghost use Rattle.state_layout.specs.declared.node.Node.{Node};
 ghost use Rattle.pass_ledger.specs.Passes.{Pass};
-ghost use Rattle.shard_core.specs.Layers.{nodes_at, busy_at, AreOf, Merges, Splits};
+ghost use Rattle.shard_core.specs.Layers.{nodes_of, nodes_at, busy_at, IsOf, AreOf, Merges, Splits};
 
 use cost_laws::CostLaw;
 use dom_store::{Covers, DomStore, PastStore, Taken};
 use state_layout::{Layout, Node, NodeBox};
 use std::alloc::{AllocError, Global};
+use std::collections::VecDeque;
 
-/// A layer that is not closed: its nodes so far, and whether a mark told that some shard has states of it.
+/// So many nodes are added to a layer together. What is read of memory for each of them is then waited for once; of more than these not
+/// all would be in the processor's first cache when their turn comes.
+const TOGETHER: usize = 16;
+
+/// A store of fewer nodes stands in the processor's own cache, so that there is little to wait for: its nodes are added as they come.
+const WIDE: u64 = 4096;
+
+/// A layer that is not closed.
 #[derive(Drop)]
 pub struct Layer<K: Covers> {
     pub nodes: DomStore<K>,
+    /// The nodes that came last and are not yet in the store: fewer than are added together, but where memory ran out.
+    pub pending: VecDeque<NodeBox>,
+    /// Whether a mark told that some shard has states of the layer.
     pub busy: bool,
 }
 
 /// Puts a layer without nodes behind the others.
-#[tactic(auto, using(crate::proofs::Rows::push_nodes, crate::proofs::Rows::push_busy, crate::proofs::Rows::push_layouts))]
-fn put_behind<K: Covers>(layers: &mut Vec<Layer<K>>, nodes: DomStore<K>) -> Result<(), AllocError>
-    requires { nodes.nodes ≡ [] }
+#[tactic(auto, using(crate::proofs::Rows::push_nodes, crate::proofs::Rows::push_busy))]
+fn put_behind<K: Covers>(
+    layers: &mut Vec<Layer<K>>,
+    nodes: DomStore<K>,
+    pending: VecDeque<NodeBox>,
+) -> Result<(), AllocError>
+    requires nodes { nodes.nodes ≡ [] }
+    requires pending { pending.items ≡ [] }
     ensures layouts { (layout : Layout) → AreOf layout layers.old.items → nodes.layout ≡ layout → AreOf layout layers.new.items }
     ensures long { OnOk result (length layers.new.items ≡ length layers.old.items + 1) }
     ensures nodes { (d : ℕ) → nodes_at layers.new.items d ≡ nodes_at layers.old.items d }
     ensures busy { (d : ℕ) → busy_at layers.new.items d ≡ busy_at layers.old.items d }
 {
-    layers.push(Layer { nodes, busy: false })?;
+    layers.push(Layer {
+        nodes,
+        pending,
+        busy: false,
+    })?;
     Ok(())
 }
 
@@ -47,7 +69,7 @@ fn push_layer<K: Covers>(
     ensures busy { (d : ℕ) → busy_at layers.new.items d ≡ busy_at layers.old.items d }
 {
     let nodes = DomStore::new(alloc, layout)?;
-    put_behind(layers, nodes)
+    put_behind(layers, nodes, VecDeque::new(alloc))
 }
 
 /// Layers without nodes are put behind the others, up to the place.
@@ -113,7 +135,108 @@ pub(crate) fn collect<K: Covers>(
     add_at(layout, layers, place, node)
 }
 
-#[tactic(auto, using(crate::proofs::Rows::set_layouts, crate::proofs::Rows::set_at, crate::proofs::Rows::set_off, crate::proofs::Rows::added_only))]
+// the nodes that wait go into the store; on `Err` memory ran out, and those that are left wait on
+fn add_pending<K: Covers>(layout: &Layout, layer: &mut Layer<K>) -> Result<(), AllocError>
+    requires { IsOf layout.now layer.old }
+    ensures fits { IsOf layout.now layer.new }
+    ensures from { (n : Node) → Has (nodes_of (Some layer.new)) n → Has (nodes_of (Some layer.old)) n }
+    ensures covered { (m : DpModel) → IsLayoutOf m layout.now → IsLawOf m K.minimize K.operator → (n : Node) → IsCovered m K.prune (nodes_of (Some layer.old)) n → IsCovered m K.prune (nodes_of (Some layer.new)) n }
+    ensures busy { layer.new.busy ≡ layer.old.busy }
+    ensures emptied { OnOk result (layer.new.pending.items ≡ []) }
+{
+    layer.nodes.add_all(layout, &mut layer.pending)?;
+    Ok(())
+}
+
+// the same where as many wait as are added together; where memory ran out they wait on, and the layer's close says so
+fn add_enough<K: Covers>(layout: &Layout, layer: &mut Layer<K>)
+    requires { IsOf layout.now layer.old }
+    ensures fits { IsOf layout.now layer.new }
+    ensures from { (n : Node) → Has (nodes_of (Some layer.new)) n → Has (nodes_of (Some layer.old)) n }
+    ensures covered { (m : DpModel) → IsLayoutOf m layout.now → IsLawOf m K.minimize K.operator → (n : Node) → IsCovered m K.prune (nodes_of (Some layer.old)) n → IsCovered m K.prune (nodes_of (Some layer.new)) n }
+    ensures busy { layer.new.busy ≡ layer.old.busy }
+{
+    if layer.pending.len() < TOGETHER {
+        return;
+    }
+    let _ = add_pending(layout, layer);
+}
+
+// a node goes behind those that wait; nearly always there is room
+#[inline(always)]
+fn push_waiting(pending: &mut VecDeque<NodeBox>, node: NodeBox) -> Result<(), NodeBox>
+    ensures items { OnOk result (pending.new.items ≡ pending.old.items ++ node ∷ []) }
+    ensures same { OnErr result (pending.new.items ≡ pending.old.items) }
+    ensures back { IfErr result (λ back. back ≡ node) }
+{
+    if pending.len() < pending.capacity() {
+        pending.push_back_reserved(node);
+        return Ok(());
+    }
+    push_growing(pending, node)
+}
+
+// the same where there is no room
+#[inline(never)]
+fn push_growing(pending: &mut VecDeque<NodeBox>, node: NodeBox) -> Result<(), NodeBox>
+    ensures items { OnOk result (pending.new.items ≡ pending.old.items ++ node ∷ []) }
+    ensures same { OnErr result (pending.new.items ≡ pending.old.items) }
+    ensures back { IfErr result (λ back. back ≡ node) }
+{
+    match pending.push_back(node) {
+        Ok(()) => Ok(()),
+        Err(failed) => Err(failed.value),
+    }
+}
+
+// a node is added to the store at once; on `Err` memory ran out, and the node comes back
+#[inline(always)]
+fn add_now<K: Covers>(layout: &Layout, layer: &mut Layer<K>, node: NodeBox) -> Result<(), NodeBox>
+    requires layer { IsOf layout.now layer.old }
+    requires node { IsNodeFor layout.now node }
+    ensures fits { IsOf layout.now layer.new }
+    ensures merged { (p : Pass) → IsLayoutOf p.model layout.now → IsLawOf p.model K.minimize K.operator → K.prune ≡ p.prune → OnOk result (Merges p (nodes_of (Some layer.old)) node (nodes_of (Some layer.new))) }
+    ensures busy { layer.new.busy ≡ layer.old.busy }
+    ensures same { OnErr result (nodes_of (Some layer.new) ≡ nodes_of (Some layer.old)) }
+    ensures back { IfErr result (λ back. back ≡ node) }
+{
+    layer.nodes.add(layout, node)?;
+    Ok(())
+}
+
+// a node waits, until as many do as are added together; on `Err` memory ran out, and the node comes back
+#[inline(never)]
+fn add_later<K: Covers>(layout: &Layout, layer: &mut Layer<K>, node: NodeBox) -> Result<(), NodeBox>
+    requires layer { IsOf layout.now layer.old }
+    requires node { IsNodeFor layout.now node }
+    ensures fits { IsOf layout.now layer.new }
+    ensures merged { (p : Pass) → IsLayoutOf p.model layout.now → IsLawOf p.model K.minimize K.operator → K.prune ≡ p.prune → OnOk result (Merges p (nodes_of (Some layer.old)) node (nodes_of (Some layer.new))) }
+    ensures busy { layer.new.busy ≡ layer.old.busy }
+    ensures same { OnErr result (nodes_of (Some layer.new) ≡ nodes_of (Some layer.old)) }
+    ensures back { IfErr result (λ back. back ≡ node) }
+{
+    push_waiting(&mut layer.pending, node)?;
+    add_enough(layout, layer);
+    Ok(())
+}
+
+// a node comes to those of its layer; on `Err` memory ran out, and the node comes back
+#[inline]
+fn take_in<K: Covers>(layout: &Layout, layer: &mut Layer<K>, node: NodeBox) -> Result<(), NodeBox>
+    requires layer { IsOf layout.now layer.old }
+    requires node { IsNodeFor layout.now node }
+    ensures fits { IsOf layout.now layer.new }
+    ensures merged { (p : Pass) → IsLayoutOf p.model layout.now → IsLawOf p.model K.minimize K.operator → K.prune ≡ p.prune → OnOk result (Merges p (nodes_of (Some layer.old)) node (nodes_of (Some layer.new))) }
+    ensures busy { layer.new.busy ≡ layer.old.busy }
+    ensures same { OnErr result (nodes_of (Some layer.new) ≡ nodes_of (Some layer.old)) }
+    ensures back { IfErr result (λ back. back ≡ node) }
+{
+    if layer.pending.is_empty() && layer.nodes.len() < WIDE {
+        return add_now(layout, layer, node);
+    }
+    add_later(layout, layer, node)
+}
+
 fn add_at<K: Covers>(
     layout: &Layout,
     layers: &mut Vec<Layer<K>>,
@@ -130,7 +253,7 @@ fn add_at<K: Covers>(
     ensures same { OnErr result ((d : ℕ) → nodes_at layers.new.items d ≡ nodes_at layers.old.items d) }
     ensures back { IfErr result (λ back. back ≡ node) }
 {
-    layers[place as usize].nodes.add(layout, node)?;
+    take_in(layout, &mut layers[place as usize], node)?;
     Ok(())
 }
 
@@ -171,7 +294,6 @@ pub(crate) fn first_layers<K: Covers>(
 }
 
 /// Notes that some shard has states of a layer.
-#[tactic(auto, using(crate::proofs::Rows::set_layouts, crate::proofs::Rows::set_at, crate::proofs::Rows::set_off))]
 pub(crate) fn mark_busy<K: Covers>(
     alloc: Global,
     layout: &Layout,
@@ -223,7 +345,7 @@ pub(crate) fn is_busy<K: Covers>(layers: &[Layer<K>]) -> bool
 }
 
 /// Takes the first layer out, without the nodes that the past covers, and with its best nodes kept up to the share. Its emptied
-/// store goes behind the others, so that its memory serves again.
+/// store, and the list of those that waited, go behind the others, so that their memory serves again.
 #[tactic(auto, using(crate::proofs::Rows::rest_at, crate::proofs::Rows::rest_layouts, crate::proofs::Rows::dropped_full))]
 pub(crate) fn take_layer<L: CostLaw, K: Covers>(
     alloc: Global,
@@ -243,8 +365,9 @@ pub(crate) fn take_layer<L: CostLaw, K: Covers>(
 {
     open_layers(alloc, layout, layers, 0)?;
     let mut layer = layers.remove(0);
+    add_pending(layout, &mut layer)?;
     layer.nodes.drop_past(layout, past);
     let taken = layer.nodes.take_best::<L>(alloc, share)?;
-    put_behind(layers, layer.nodes)?;
+    put_behind(layers, layer.nodes, layer.pending)?;
     Ok(taken)
 }

@@ -446,6 +446,19 @@ impl<'m, L: CostLaw, K: Covers> Shard<'m, L, K> {
         !is_busy(&self.collected)
     }
 
+    /// Lets go of the nodes, the letters and the layers that the shard holds: none of them is handed back at the end. Afterwards
+    /// the shard is only ended. It takes no memory.
+    pub fn let_go(&mut self)
+        ensures ends { (p : Pass) (r : ShardRecord) → EndsAs p self.old r → EndsAs p self.new r }
+        ensures me { self.new.me ≡ self.old.me }
+    {
+        self.waiting = VecDeque::new(self.alloc);
+        self.letters = VecDeque::new(self.alloc);
+        self.collected = Vec::new(self.alloc);
+        self.batch = Batch::new(self.alloc);
+        self.expander.drop_spares();
+    }
+
     /// What the shard hands back, and its log of steps. It takes no memory.
     pub fn end(self) -> (ShardEnd, PathLog)
         ensures { (p : Pass) (r : ShardRecord) → EndsAs p self.entry r → IsEnd p self.entry.me r result.0 result.1 }

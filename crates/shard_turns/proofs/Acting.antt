@@ -397,9 +397,20 @@ module _ {A B : Type 0} where
   turned p board boxes t seat a turns =
       record { shard_record = a.shard_record; shared = a.shared; stands = a.stands; on_board = a.on_board; sits = a.sits; taker = a.taker; posters = a.posters; mail = a.mail }
 
-  pub left_turned : (p : Pass) (board : BoardFacts) (boxes : List MailboxFacts) (t : Turner A B) (seat : SeatFacts) (end : Ended) → Leaves p board boxes end t seat → (ended : Option Ended) → Leaves p board boxes end (record t { ended = ended }) seat
-  left_turned p board boxes t seat end left ended =
-      record { shard_record = left.shard_record; below = left.below; ends = left.ends; on_board = left.on_board; sat = left.sat; taker = left.taker; posters = left.posters; mail = left.mail }
+  -- a shard that has ended leaves the same when it has let go of what it does not hand back
+  pub left_gone : (p : Pass) (board : BoardFacts) (boxes : List MailboxFacts) (t : Turner A B) (seat : SeatFacts) (end : Ended) (left : Leaves p board boxes end t seat) (new : Shard A B) → new.me ≡ t.shard.me → EndsAs p new left.shard_record → (ended : Option Ended)
+      → Leaves p board boxes end (record t { shard = new; ended = ended }) seat
+  left_gone p board boxes t seat end left new me ends ended =
+      record {
+        shard_record = left.shard_record;
+        below = subst (λ (i : ℕ). i < p.shards) (sym me) left.below;
+        ends = ends;
+        on_board = left.on_board;
+        sat = subst (λ (i : ℕ). Sat p i end seat.view left.shard_record) (sym me) left.sat;
+        taker = subst (λ (i : ℕ). IsTakerFor p boxes i t.taker) (sym me) left.taker;
+        posters = subst (λ (i : ℕ). ArePostersFor p boxes i t.posters.items) (sym me) left.posters;
+        mail = left.mail;
+      }
 
   abbrev pub counted : (p : Pass) (board : BoardFacts) (boxes : List MailboxFacts) (t : Turner A B) (seat : SeatFacts) → Acts p board boxes t seat → (letters : ℕ) → Acts p board boxes (record t { letters = letters }) seat
   counted p board boxes t seat a letters =

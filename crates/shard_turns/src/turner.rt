@@ -47,8 +47,8 @@ pub struct Turner<'m, L: CostLaw, K: Covers> {
 
 impl<'m, L: CostLaw, K: Covers> Turner<'m, L, K> {
     /// One turn: after the gate, the shard looks for a halt, takes a letter, closes its layer if it can, visits or prunes a node
-    /// if one waits, and posts what is ready. So a turn with work does some, or the shard has ended. It waits for nobody but
-    /// within the mailboxes' queues.
+    /// if one waits, and posts what is ready. So a turn with work does some, or the shard has ended, and has let go of what it
+    /// does not hand back. It waits for nobody but within the mailboxes' queues.
     pub fn turn<R: Wait, G: Gate>(
         &mut self,
         rt: &R,
@@ -69,6 +69,7 @@ impl<'m, L: CostLaw, K: Covers> Turner<'m, L, K> {
         self.turns = self.turns.saturating_add(1);
         if let Err(end) = self.act(rt, board, boxes, seat) {
             self.ended = Some(end);
+            self.shard.let_go();
         }
     }
 

@@ -1,6 +1,6 @@
 use Rattle.std.proofs.Common.{Option, Some, sym, subst, ◌∙◌}
 use Rattle.std.proofs.lemmas.Option.{none-some}
-use Rattle.shard_turns.proofs.Acting.{turned, left_turned}
+use Rattle.shard_turns.proofs.Acting.{turned, left_gone}
 use Rattle.shard_turns.specs.Turners.{KeepsAs}
 use Rattle.shard_turns.specs.declared.turner.Ended.{Ended}
 use Rattle.shard_turns.proofs.turner.Turner.turn.Goals as goal
@@ -8,7 +8,8 @@ use Rattle.shard_turns.proofs.turner.Turner.turn.Goals as goal
 pub returns-in-Err-clause-keeps : goal.returns-in-Err-clause-keeps
 returns-in-Err-clause-keeps g c = λ p suited a.
     let before = turned p c.args.board.now c.args.boxes.now.items c.args.self.now c.args.seat.now a c.saturating_add-self.result in
-    left_turned p c.args.board.now c.args.boxes.now.items c.act.new.self c.act.new.seat c.in-Err.end (c.in-Err.ensures.ends p suited before) (Some c.in-Err.end)
+    let left = c.in-Err.ensures.ends p suited before in
+    left_gone p c.args.board.now c.args.boxes.now.items c.act.new.self c.act.new.seat c.in-Err.end left c.let_go.new.self c.let_go.ensures.me (c.let_go.ensures.ends p left.shard_record left.ends) (Some c.in-Err.end)
 
 pub returns-in_default-clause-keeps : goal.returns-in_default-clause-keeps
 returns-in_default-clause-keeps g c = λ p suited a.
