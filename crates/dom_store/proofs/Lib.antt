@@ -10,6 +10,7 @@ pub mod Ranks
 pub mod Sorting
 pub mod Ranking
 pub mod Sharing
+pub mod Splitting
 pub mod Sweeping
 pub mod Reading
 pub mod Remembering

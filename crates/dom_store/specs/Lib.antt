@@ -6,6 +6,7 @@ pub mod Contents
 pub mod Places
 pub mod Order
 pub mod Ranking
+pub mod Taking
 pub mod Past
 pub mod Stairs
 pub mod Staircases

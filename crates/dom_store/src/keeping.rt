@@ -118,15 +118,11 @@ fn add_by_steps<K: Covers>(
         return Ok(Added::Covered);
     };
     let mut node = node;
-    let held = node.take(*places.allocator());
     let gone = match keep_node::<K>(
-        layout, chains, stairs, places, glances, covering, held, key, glance,
+        layout, chains, stairs, places, glances, covering, &mut node, key, glance,
     ) {
         Ok(gone) => gone,
-        Err(held) => {
-            node.put(held);
-            return Err(node);
-        }
+        Err(_) => return Err(node),
     };
     keep_box(spare, node);
     *count = *count + 1 - gone;
@@ -195,7 +191,8 @@ fn covers_by_steps<K: Covers>(
     covers_held::<K>(layout, chains, places, glances, node, key, glance)
 }
 
-// puts the node at a new place, where those that it covers are gone, none where `covering` is false, and tells how many these were
+// moves the node out of its box to a new place, where those that it covers are gone, none where `covering` is false, and tells how many
+// these were; on `Err` memory ran out, and the node is in its box
 fn keep_node<K: Covers>(
     layout: &Layout,
     chains: &mut Chains,
@@ -203,36 +200,34 @@ fn keep_node<K: Covers>(
     places: &mut Vec<Option<Node>>,
     glances: &mut Vec<Glance>,
     covering: bool,
-    node: Node,
+    node: &mut NodeBox,
     key: u64,
     glance: Glance,
-) -> Result<usize, Node>
-    requires node { IsNodeFor layout.now node }
-    requires key { key ≡ key_of K.prune layout.now node }
-    requires glance { IsGlanceOf K.minimize K.operator layout.now node glance }
+) -> Result<usize, AllocError>
+    requires node { IsNodeFor layout.now node.old }
+    requires key { key ≡ key_of K.prune layout.now node.old }
+    requires glance { IsGlanceOf K.minimize K.operator layout.now node.old glance }
     requires filed { AreFiled (key_of K.prune layout.now) layout.now (row_in chains.old.heads.items chains.old.links.items) places.old.items }
     requires glanced { AreGlanced K.minimize K.operator layout.now places.old.items glances.old.items }
     requires level { length glances.old.items ≡ length places.old.items }
     requires linked { length chains.old.links.items ≡ length places.old.items }
     requires steps { AreSteps K.prune K.minimize K.operator layout.now stairs.old.row stairs.old.steps places.old.items }
-    requires covering { covering ≡ false → (p : ℕ) (n : Node) → StandsAt places.old.items p n → covers K.prune K.minimize K.operator layout.now node n ≡ false }
+    requires covering { covering ≡ false → (p : ℕ) (n : Node) → StandsAt places.old.items p n → covers K.prune K.minimize K.operator layout.now node.old n ≡ false }
     requires none_covers { stairs.old.row ≡ Some key → NoneCovers stairs.old.steps glance }
     requires sought { stairs.old.row ≡ Some key → covering ≡ true }
-    ensures nodes { OnOk result (nodes_of places.new.items ≡ with_node (covers K.prune K.minimize K.operator layout.now) (nodes_of places.old.items) node) }
+    ensures nodes { OnOk result (nodes_of places.new.items ≡ with_node (covers K.prune K.minimize K.operator layout.now) (nodes_of places.old.items) node.old) }
     ensures counted { IfOk result (λ gone. length (nodes_of places.new.items) + gone ≡ length (nodes_of places.old.items) + 1) }
-    ensures err { IfErr result (λ back. (back ≡ node) × (places.new.items ≡ places.old.items)) }
+    ensures err { OnErr result ((node.new ≡ node.old) × (places.new.items ≡ places.old.items)) }
     ensures filed { AreFiled (key_of K.prune layout.now) layout.now (row_in chains.new.heads.items chains.new.links.items) places.new.items }
     ensures glanced { AreGlanced K.minimize K.operator layout.now places.new.items glances.new.items }
     ensures steps { AreSteps K.prune K.minimize K.operator layout.now stairs.new.row stairs.new.steps places.new.items }
     ensures row { (k : ℕ) → stairs.new.row ≡ Some k → stairs.old.row ≡ Some k }
-    ensures stood { (p : ℕ) (n : Node) → StandsAt places.new.items p n → StandsAt places.old.items p n ⊎ (node ≡ n) }
+    ensures stood { (p : ℕ) (n : Node) → StandsAt places.new.items p n → StandsAt places.old.items p n ⊎ (node.old ≡ n) }
     ensures level { length glances.new.items ≡ length places.new.items }
     ensures linked { length chains.new.links.items ≡ length places.new.items }
 {
     let place = places.len();
-    let Ok(()) = open_place(chains, places, glances, key, glance) else {
-        return Err(node);
-    };
+    open_place(chains, places, glances, key, glance)?;
     Ok(put_node::<K>(
         layout, chains, stairs, places, glances, covering, place, node, key, glance,
     ))

@@ -24,4 +24,4 @@ pub use keeping::Added;
 pub use past::PastStore;
 pub use past_node::PastNode;
 pub use store::DomStore;
-pub use taking::Taken;
+pub use taking::{Best, Taken};

@@ -1,6 +1,6 @@
 //! The store of a layer's nodes.
 
-ghost use Rattle.std.specs.Prelude.{◌≡◌, ◌+◌, ◌++◌, ◌⊎◌, [], if◌then◌else◌, length, map, min, IfOk, OnOk, IfErr, OnErr};
+ghost use Rattle.std.specs.Prelude.{◌≡◌, ◌+◌, ◌++◌, ◌⊎◌, List, [], if◌then◌else◌, length, map, min, IfOk, OnOk, IfErr, OnErr};
 ghost use Rattle.dp_claims.specs.Enough.{Has};
 ghost use Rattle.dp_model.specs.declared.whole.Model.{Model as DpModel};
 ghost use Rattle.cost_laws.specs.Orders.{IsLawOf};
@@ -10,6 +10,7 @@ ghost use Rattle.dom_store.specs.Covering.{covers, key_of};
 ghost use Rattle.dom_store.specs.Contents.{is_covered, with_node, with_nodes, AreAdded, IsCovered, Apart};
 ghost use Rattle.dom_store.specs.Order.{IsOrdering, IsLeastFloor};
 ghost use Rattle.dom_store.specs.Past.{covers_past, not_past, IsPast};
+ghost use Rattle.dom_store.specs.Taking.{with_dropped, AreShared, AreOfStore};
 
 use crate::ahead::{make_keys, read_nodes, read_rows};
 use crate::chains::Chains;
@@ -20,13 +21,16 @@ use crate::past::PastStore;
 use crate::rising::has_one_resource;
 use crate::staircases::Staircases;
 use crate::sweep::clear_past;
-use crate::taking::{Taken, take_nodes};
+use crate::taking::{Best, Taken, take_first, take_nodes};
 use cost_laws::CostLaw;
 use state_layout::{Layout, Node, NodeBox};
 use std::alloc::{AllocError, Global};
 use std::collections::VecDeque;
 use std::marker::{Model, PhantomData};
 use std::mem;
+
+/// A store of so many nodes is wide. One of fewer stands in the processor's own cache, so that there is little to wait for in it.
+const WIDE: usize = 4096;
 
 /// The nodes of a layer so far, in order of adding, none of which covers another.
 #[derive(Drop)]
@@ -125,9 +129,9 @@ impl<K: Covers> DomStore<K> {
         )
     }
 
-    /// Adds the nodes of a list, one after another, as `add` does, and takes them out of the list. What is read of each of them and of
-    /// its row is read for all before the first is added, so that the processor waits for all of it at once. On `Err` memory ran out:
-    /// the nodes that are left in the list were not added, and those before them were.
+    /// Adds the nodes of a list, one after another, as `add` does, and takes them out of the list. What is read of each of them, and in a
+    /// wide store of its row, is read for all before the first is added, so that the processor waits for all of it at once. On `Err`
+    /// memory ran out: the nodes that are left in the list were not added, and those before them were.
     pub fn add_all(
         &mut self,
         layout: &Layout,
@@ -164,8 +168,17 @@ impl<K: Covers> DomStore<K> {
     {
         self.seen = self.seen ^ read_nodes(nodes);
         make_keys::<K>(layout, nodes, keys)?;
-        self.seen = self.seen ^ read_rows(&self.chains, &self.places, &self.glances, keys);
+        self.read_wide(keys);
         self.add_each(layout, nodes, keys)
+    }
+
+    // reads what the first look for each key asks for, where the store is wide
+    fn read_wide(&mut self, keys: &[u64])
+        ensures { self.new ≡ self.old }
+    {
+        if self.count >= WIDE {
+            self.seen = self.seen ^ read_rows(&self.chains, &self.places, &self.glances, keys);
+        }
     }
 
     // adds the nodes one after another, by their keys
@@ -228,6 +241,22 @@ impl<K: Covers> DomStore<K> {
         self.glances.clear();
         self.count = 0;
         Ok(taken)
+    }
+
+    /// Takes all nodes out, as `take_best` does; the dropped ones are let go where they stand, and only counted. On `Err` memory ran
+    /// out, and the store holds what it held.
+    pub fn take_kept<L: CostLaw>(&mut self, alloc: Global, share: u64) -> Result<Best, AllocError>
+        ensures shared { IfOk result (λ best. (dropped : List Node) × (best.dropped ≡ length dropped) × AreShared L.minimize L.operator share self.old.nodes (with_dropped best dropped) × AreOfStore K.prune K.minimize K.operator self.old (with_dropped best dropped)) }
+        ensures emptied { OnOk result (self.new.nodes ≡ []) }
+        ensures layout { self.new.layout ≡ self.old.layout }
+        ensures err { OnErr result (self.new.nodes ≡ self.old.nodes) }
+    {
+        let best = take_first::<L, K>(alloc, &mut self.places, &self.glances, self.count, share)?;
+        self.chains.clear();
+        self.staircases.clear();
+        self.glances.clear();
+        self.count = 0;
+        Ok(best)
     }
 
     /// A box whose node is no longer needed, to put another node into it, where there is one: such are the boxes of the nodes that

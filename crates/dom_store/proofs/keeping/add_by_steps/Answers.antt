@@ -25,11 +25,8 @@ covers_by_steps-requires-clause-glanced g c = rw (c.deref.ensures.value, c.deref
 pub keep_node-requires-clause-steps : goal.keep_node-requires-clause-steps
 keep_node-requires-clause-steps g c = rw c.deref.ensures.value at c.covers_by_steps.ensures.steps
 
-pub keep_node-requires-clause-node : goal.keep_node-requires-clause-node
-keep_node-requires-clause-node g c = rw c.take-held.ensures c.requires.node
-
 pub keep_node-requires-clause-covering : goal.keep_node-requires-clause-covering
-keep_node-requires-clause-covering g c = λ none p n stands. rw c.take-held.ensures (rw c.get-seen.ensures at c.in-Some.ensures.covering none p n (subst (λ (ps : List (Option Node)). StandsAt ps p n) (sym c.deref.ensures.value) stands))
+keep_node-requires-clause-covering g c = λ none p n stands. rw c.get-seen.ensures at c.in-Some.ensures.covering none p n (subst (λ (ps : List (Option Node)). StandsAt ps p n) (sym c.deref.ensures.value) stands)
 
 pub returns-in-Err-clause-kept : goal.returns-in-Err-clause-kept
 returns-in-Err-clause-kept g c =
@@ -45,7 +42,4 @@ pub returns-clause-kept : goal.returns-clause-kept
 returns-clause-kept g c =
     let free : is_covered (covers g.K.Covers.prune g.K.Covers.minimize g.K.Covers.operator c.args.layout.now) (nodes_of c.args.places.now.items) c.args.node ≡ false = ap (λ (ps : List (Option Node)). is_covered (covers g.K.Covers.prune g.K.Covers.minimize g.K.Covers.operator c.args.layout.now) (nodes_of ps) c.args.node) (sym c.deref.ensures.value) ∙ (rw c.get-seen.ensures at c.in-Some.ensures.free) in
     kept_with g.K.Covers.prune g.K.Covers.minimize g.K.Covers.operator c.args.layout.now (row_in c.args.chains.now.heads.items c.args.chains.now.links.items) (row_in c.keep_node.new.chains.heads.items c.keep_node.new.chains.links.items) (length c.args.chains.now.links.items) (length c.keep_node.new.chains.links.items) c.args.places.now.items c.keep_node.new.places.items c.args.glances.now.items c.keep_node.new.glances.items c.args.count.now c.in-Ok.gone c.args.node c.requires.kept
-    free (rw c.take-held.ensures at c.in-Ok.ensures.nodes) c.in-Ok.ensures.counted c.keep_node.ensures.filed c.keep_node.ensures.glanced c.keep_node.ensures.level c.keep_node.ensures.linked
-
-pub returns-clause-stood : goal.returns-clause-stood
-returns-clause-stood g c = λ p n stands. rw c.take-held.ensures at (c.keep_node.ensures.stood p n stands)
+    free c.in-Ok.ensures.nodes c.in-Ok.ensures.counted c.keep_node.ensures.filed c.keep_node.ensures.glanced c.keep_node.ensures.level c.keep_node.ensures.linked
