@@ -211,6 +211,7 @@ impl<'m, L: CostLaw> Expander<'m, L> {
         ensures fits { OnOk result (BatchFits self.old.model batch.new) }
         ensures same { self.new ≡ self.old }
     {
+        self.spares.read_ahead();
         let visitor: Visitor<'_, L> = Visitor {
             model: self.model,
             tables: &self.tables,
