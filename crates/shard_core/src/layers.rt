@@ -5,6 +5,7 @@ ghost use Rattle.cost_laws.specs.Orders.{InWideRange, IsLawOf};
 ghost use Rattle.dp_claims.specs.Enough.{Has};
 ghost use Rattle.dp_model.specs.declared.whole.Model.{Model as DpModel};
 ghost use Rattle.dom_store.specs.Contents.{IsCovered};
+ghost use Rattle.dom_store.specs.Taking.{with_dropped};
 ghost use Rattle.state_layout.specs.Conditions.{IsLayoutOf, IsNodeFor};
 ghost use Rattle.state_layout.specs.declared.layout.Layout.{Layout};
 ghost use Rattle.state_layout.specs.declared.node.Node.{Node};
@@ -12,7 +13,7 @@ ghost use Rattle.pass_ledger.specs.Passes.{Pass};
 ghost use Rattle.shard_core.specs.Layers.{nodes_of, nodes_at, busy_at, IsOf, AreOf, Merges, Splits};
 
 use cost_laws::CostLaw;
-use dom_store::{Covers, DomStore, PastStore, Taken};
+use dom_store::{Best, Covers, DomStore, PastStore};
 use state_layout::{Layout, Node, NodeBox};
 use std::alloc::{AllocError, Global};
 use std::collections::VecDeque;
@@ -21,7 +22,8 @@ use std::collections::VecDeque;
 /// all would be in the processor's first cache when their turn comes.
 const TOGETHER: usize = 16;
 
-/// A store of fewer nodes stands in the processor's own cache, so that there is little to wait for: its nodes are added as they come.
+/// A store of fewer nodes stands in the processor's own cache, so that there is little to wait for: nodes that the shard sent to itself
+/// are added as they come. One that another shard sent stands in the cache of another processor.
 const WIDE: u64 = 4096;
 
 /// A layer that is not closed.
@@ -112,13 +114,14 @@ fn open_layers<K: Covers>(
     push_layers(alloc, layout, layers, place)
 }
 
-/// Adds a node to its layer. On `Err` memory ran out, and the node comes back.
+/// Adds a node to its layer; `is_own` is whether the shard itself sent it. On `Err` memory ran out, and the node comes back.
 pub(crate) fn collect<K: Covers>(
     alloc: Global,
     layout: &Layout,
     layers: &mut Vec<Layer<K>>,
     place: u64,
     node: NodeBox,
+    is_own: bool,
 ) -> Result<(), NodeBox>
     requires layouts { AreOf layout.now layers.old.items }
     requires node { IsNodeFor layout.now node }
@@ -132,7 +135,7 @@ pub(crate) fn collect<K: Covers>(
     if open_layers(alloc, layout, layers, place).is_err() {
         return Err(node);
     }
-    add_at(layout, layers, place, node)
+    add_at(layout, layers, place, node, is_own)
 }
 
 // the nodes that wait go into the store; on `Err` memory ran out, and those that are left wait on
@@ -148,7 +151,8 @@ fn add_pending<K: Covers>(layout: &Layout, layer: &mut Layer<K>) -> Result<(), A
     Ok(())
 }
 
-// the same where as many wait as are added together; where memory ran out they wait on, and the layer's close says so
+// the same where as many wait as are added together; where memory ran out they wait on, and the next node of the layer comes back, or
+// the layer's close says so
 fn add_enough<K: Covers>(layout: &Layout, layer: &mut Layer<K>)
     requires { IsOf layout.now layer.old }
     ensures fits { IsOf layout.now layer.new }
@@ -220,9 +224,15 @@ fn add_later<K: Covers>(layout: &Layout, layer: &mut Layer<K>, node: NodeBox) ->
     Ok(())
 }
 
-// a node comes to those of its layer; on `Err` memory ran out, and the node comes back
+// a node comes to those of its layer, behind those that wait; on `Err` memory ran out, now or where as many waited as are added together,
+// and the node comes back
 #[inline]
-fn take_in<K: Covers>(layout: &Layout, layer: &mut Layer<K>, node: NodeBox) -> Result<(), NodeBox>
+fn take_in<K: Covers>(
+    layout: &Layout,
+    layer: &mut Layer<K>,
+    node: NodeBox,
+    is_own: bool,
+) -> Result<(), NodeBox>
     requires layer { IsOf layout.now layer.old }
     requires node { IsNodeFor layout.now node }
     ensures fits { IsOf layout.now layer.new }
@@ -231,8 +241,11 @@ fn take_in<K: Covers>(layout: &Layout, layer: &mut Layer<K>, node: NodeBox) -> R
     ensures same { OnErr result (nodes_of (Some layer.new) ≡ nodes_of (Some layer.old)) }
     ensures back { IfErr result (λ back. back ≡ node) }
 {
-    if layer.pending.is_empty() && layer.nodes.len() < WIDE {
+    if is_own && layer.pending.is_empty() && layer.nodes.len() < WIDE {
         return add_now(layout, layer, node);
+    }
+    if layer.pending.len() >= TOGETHER {
+        return Err(node);
     }
     add_later(layout, layer, node)
 }
@@ -242,6 +255,7 @@ fn add_at<K: Covers>(
     layers: &mut Vec<Layer<K>>,
     place: u64,
     node: NodeBox,
+    is_own: bool,
 ) -> Result<(), NodeBox>
     requires layouts { AreOf layout.now layers.old.items }
     requires node { IsNodeFor layout.now node }
@@ -253,7 +267,7 @@ fn add_at<K: Covers>(
     ensures same { OnErr result ((d : ℕ) → nodes_at layers.new.items d ≡ nodes_at layers.old.items d) }
     ensures back { IfErr result (λ back. back ≡ node) }
 {
-    take_in(layout, &mut layers[place as usize], node)?;
+    take_in(layout, &mut layers[place as usize], node, is_own)?;
     Ok(())
 }
 
@@ -287,7 +301,7 @@ pub(crate) fn first_layers<K: Covers>(
         return Ok(layers);
     };
     let boxed = NodeBox::new(alloc, node)?;
-    match collect(alloc, layout, &mut layers, 0, boxed) {
+    match collect(alloc, layout, &mut layers, 0, boxed, true) {
         Ok(()) => Ok(layers),
         Err(_) => Err(AllocError),
     }
@@ -344,7 +358,8 @@ pub(crate) fn is_busy<K: Covers>(layers: &[Layer<K>]) -> bool
     }
 }
 
-/// Takes the first layer out, without the nodes that the past covers, and with its best nodes kept up to the share. Its emptied
+/// Takes the first layer out, without the nodes that the past covers, and with its best nodes kept up to the share; the others are
+/// dropped, and only counted. Its emptied
 /// store, and the list of those that waited, go behind the others, so that their memory serves again.
 #[tactic(auto, using(crate::proofs::Rows::rest_at, crate::proofs::Rows::rest_layouts, crate::proofs::Rows::dropped_full))]
 pub(crate) fn take_layer<L: CostLaw, K: Covers>(
@@ -353,21 +368,21 @@ pub(crate) fn take_layer<L: CostLaw, K: Covers>(
     layers: &mut Vec<Layer<K>>,
     past: &PastStore<K>,
     share: u64,
-) -> Result<Taken, AllocError>
+) -> Result<Best, AllocError>
     requires layouts { AreOf layout.now layers.old.items }
     requires past { past.now.layout ≡ layout.now }
     ensures layouts { AreOf layout.now layers.new.items }
-    ensures split { (p : Pass) → IsLayoutOf p.model layout.now → IsLawOf p.model L.minimize L.operator → IsLawOf p.model K.minimize K.operator → K.prune ≡ p.prune → IfOk result (λ taken. Splits p share past.now.nodes (nodes_at layers.old.items 0) taken) }
-    ensures fits { IfOk result (λ taken. (n : Node) → Has taken.kept n → IsNodeFor layout.now n) }
+    ensures split { (p : Pass) → IsLayoutOf p.model layout.now → IsLawOf p.model L.minimize L.operator → IsLawOf p.model K.minimize K.operator → K.prune ≡ p.prune → IfOk result (λ best. (dropped : List Node) × (best.dropped ≡ length dropped) × Splits p share past.now.nodes (nodes_at layers.old.items 0) (with_dropped best dropped)) }
+    ensures fits { IfOk result (λ best. (n : Node) → Has best.kept n → IsNodeFor layout.now n) }
     ensures nodes { OnOk result ((d : ℕ) → nodes_at layers.new.items d ≡ nodes_at layers.old.items (d + 1)) }
     ensures busy { OnOk result ((d : ℕ) → busy_at layers.new.items d ≡ busy_at layers.old.items (d + 1)) }
-    ensures wide { IfOk result (λ taken. IfSome taken.least_floor InWideRange) }
+    ensures wide { IfOk result (λ best. IfSome best.least_floor InWideRange) }
 {
     open_layers(alloc, layout, layers, 0)?;
     let mut layer = layers.remove(0);
     add_pending(layout, &mut layer)?;
     layer.nodes.drop_past(layout, past);
-    let taken = layer.nodes.take_best::<L>(alloc, share)?;
+    let best = layer.nodes.take_kept::<L>(alloc, share)?;
     put_behind(layers, layer.nodes, layer.pending)?;
-    Ok(taken)
+    Ok(best)
 }

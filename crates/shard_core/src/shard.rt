@@ -190,7 +190,15 @@ impl<'m, L: CostLaw, K: Covers> Shard<'m, L, K> {
         ensures me { self.new.me ≡ self.old.me }
     {
         let place = layer - self.layer;
-        match collect(self.alloc, &self.layout, &mut self.collected, place, node) {
+        let is_own = from == self.me;
+        match collect(
+            self.alloc,
+            &self.layout,
+            &mut self.collected,
+            place,
+            node,
+            is_own,
+        ) {
             Ok(()) => {
                 give_spare(&mut self.expander, &mut self.collected, place);
                 Ok(())
@@ -252,7 +260,7 @@ impl<'m, L: CostLaw, K: Covers> Shard<'m, L, K> {
         ensures me { self.new.me ≡ self.old.me }
     {
         let layer = sum(self.layer, 1)?;
-        let taken = take_layer::<L, K>(
+        let best = take_layer::<L, K>(
             self.alloc,
             &self.layout,
             &mut self.collected,
@@ -260,12 +268,12 @@ impl<'m, L: CostLaw, K: Covers> Shard<'m, L, K> {
             self.share,
         )?;
         let closed = Closed {
-            kept: taken.kept.list().len() as u64,
-            dropped: taken.dropped.list().len() as u64,
-            least_floor: taken.least_floor,
+            kept: best.kept.list().len() as u64,
+            dropped: best.dropped,
+            least_floor: best.least_floor,
         };
         let dropped = sum(self.dropped, closed.dropped)?;
-        remember(self.keep, &self.layout, &mut self.past, taken.kept.list())?;
+        remember(self.keep, &self.layout, &mut self.past, best.kept.list())?;
         self.least_floor = merged_floor::<L>(
             self.dropped,
             closed.dropped,
@@ -273,7 +281,7 @@ impl<'m, L: CostLaw, K: Covers> Shard<'m, L, K> {
             closed.least_floor,
         );
         self.dropped = dropped;
-        self.waiting = VecDeque::from_vec(taken.kept.into_list());
+        self.waiting = VecDeque::from_vec(best.kept.into_list());
         self.layer = layer;
         self.told = 0;
         self.total = 0;

@@ -2,6 +2,7 @@ use Rattle.std.proofs.Common.{◌+◌, ap, sym, ◌∙◌, subst}
 use Rattle.std.specs.Prelude.{List, Some, Ok}
 use Rattle.dp_claims.specs.Enough.{Has}
 use Rattle.state_layout.specs.declared.node.Node.{Node}
+use Rattle.dom_store.specs.Taking.{with_dropped}
 use Rattle.dom_store.proofs.Members.{has_filtered}
 use Rattle.shard_core.specs.Layers.{nodes_of, busy_of, nodes_at, busy_at, AreOf, Splits}
 use Rattle.shard_core.specs.declared.layers.Layer.{Layer}
@@ -17,37 +18,41 @@ drop_past-requires-clause-layout g c = sym c.add_pending.ensures.fits.0
 pub returns-in_err-add_pending-clause-layouts : goal.returns-in_err-add_pending-clause-layouts
 returns-in_err-add_pending-clause-layouts g c = subst (λ (xs : List (Layer g.row.K.Denot)). AreOf c.args.layout.now xs) (sym c.remove-layer.ensures.items) (rest_layouts c.args.layout.now c.open_layers.new.layers.items c.open_layers.ensures.layouts)
 
-pub returns-in_err-taken-clause-layouts : goal.returns-in_err-taken-clause-layouts
-returns-in_err-taken-clause-layouts g c = subst (λ (xs : List (Layer g.row.K.Denot)). AreOf c.args.layout.now xs) (sym c.remove-layer.ensures.items) (rest_layouts c.args.layout.now c.open_layers.new.layers.items c.open_layers.ensures.layouts)
+pub returns-in_err-best-clause-layouts : goal.returns-in_err-best-clause-layouts
+returns-in_err-best-clause-layouts g c = subst (λ (xs : List (Layer g.row.K.Denot)). AreOf c.args.layout.now xs) (sym c.remove-layer.ensures.items) (rest_layouts c.args.layout.now c.open_layers.new.layers.items c.open_layers.ensures.layouts)
 
 pub returns-in_err-put_behind-clause-layouts : goal.returns-in_err-put_behind-clause-layouts
 returns-in_err-put_behind-clause-layouts g c =
     c.put_behind.ensures.layouts c.args.layout.now (subst (λ (xs : List (Layer g.row.K.Denot)). AreOf c.args.layout.now xs) (sym c.remove-layer.ensures.items) (rest_layouts c.args.layout.now c.open_layers.new.layers.items c.open_layers.ensures.layouts))
-    (c.take_best.ensures.layout ∙ (c.drop_past.ensures.layout ∙ c.add_pending.ensures.fits.0))
+    (c.take_kept.ensures.layout ∙ (c.drop_past.ensures.layout ∙ c.add_pending.ensures.fits.0))
 
 pub returns-clause-layouts : goal.returns-clause-layouts
 returns-clause-layouts g c =
     c.put_behind.ensures.layouts c.args.layout.now (subst (λ (xs : List (Layer g.row.K.Denot)). AreOf c.args.layout.now xs) (sym c.remove-layer.ensures.items) (rest_layouts c.args.layout.now c.open_layers.new.layers.items c.open_layers.ensures.layouts))
-    (c.take_best.ensures.layout ∙ (c.drop_past.ensures.layout ∙ c.add_pending.ensures.fits.0))
+    (c.take_kept.ensures.layout ∙ (c.drop_past.ensures.layout ∙ c.add_pending.ensures.fits.0))
 
 pub returns-clause-split : goal.returns-clause-split
 returns-clause-split g c = λ p of law covering prune.
-    let e = c.in_ok-taken.ensures in
+    let e = c.in_ok-best.ensures.shared in
+    let taken = with_dropped c.in_ok-best.best e.0 in
     let at = got c.open_layers.new.layers.items 0 c.remove-layer.result c.in_ok-open_layers.ensures.long c.remove-layer.ensures.value in
     let layout = c.add_pending.ensures.fits.0 in
-    let nodes = sym (ap nodes_of at) ∙ c.open_layers.ensures.nodes 0 in
-    subst (λ (ns : List Node). Splits p c.args.share c.args.past.now.nodes ns c.in_ok-taken.taken) nodes
-    (splits_before p c.args.share c.args.past.now.nodes (nodes_of (Some c.remove-layer.result)) c.add_pending.new.layer.nodes.nodes c.add_pending.new.layer.pending.items c.in_ok-taken.taken g.K.Covers.prune prune
-    c.in_ok-add_pending.ensures.emptied c.add_pending.ensures.from (c.add_pending.ensures.covered p.model of covering)
-    (splits p c.args.share c.args.past.now.nodes c.add_pending.new.layer.nodes.nodes c.drop_past.new.self.nodes g.L.CostLaw.minimize g.L.CostLaw.operator g.K.Covers.prune prune law
-    (λ n h. (has_filtered _ c.add_pending.new.layer.nodes.nodes n (subst (λ (ns : List Node). Has ns n) c.drop_past.ensures.nodes h)).0)
-    (c.drop_past.ensures.left p.model of covering) (c.drop_past.ensures.news p.model of covering) (Ok c.in_ok-taken.taken)
-    e.order e.share e.all e.floor
-    (λ n there. e.covered p.model (c.drop_past.ensures.layout ∙ layout ∙ of) covering n there)
-    (e.apart p.model (c.drop_past.ensures.layout ∙ layout ∙ of) covering)))
+    let nodes = sym (ap nodes_of at) ∙ c.open_layers.ensures.nodes 0 in (
+      e.0,
+      e.1,
+      subst (λ (ns : List Node). Splits p c.args.share c.args.past.now.nodes ns taken) nodes
+          (splits_before p c.args.share c.args.past.now.nodes (nodes_of (Some c.remove-layer.result)) c.add_pending.new.layer.nodes.nodes c.add_pending.new.layer.pending.items taken g.K.Covers.prune prune
+          c.in_ok-add_pending.ensures.emptied c.add_pending.ensures.from (c.add_pending.ensures.covered p.model of covering)
+          (splits p c.args.share c.args.past.now.nodes c.add_pending.new.layer.nodes.nodes c.drop_past.new.self.nodes g.L.CostLaw.minimize g.L.CostLaw.operator g.K.Covers.prune prune law
+          (λ n h. (has_filtered _ c.add_pending.new.layer.nodes.nodes n (subst (λ (ns : List Node). Has ns n) c.drop_past.ensures.nodes h)).0)
+          (c.drop_past.ensures.left p.model of covering) (c.drop_past.ensures.news p.model of covering) (Ok taken)
+          e.2.order e.2.kept e.2.all e.2.floor
+          (λ n there. e.3.covered p.model (c.drop_past.ensures.layout ∙ layout ∙ of) covering n there)
+          (e.3.apart p.model (c.drop_past.ensures.layout ∙ layout ∙ of) covering))),
+    )
 
 pub returns-clause-wide : goal.returns-clause-wide
-returns-clause-wide g c = wide g.L.CostLaw.minimize g.L.CostLaw.operator _ (Ok c.in_ok-taken.taken) c.in_ok-taken.ensures.floor c.in_ok-taken.ensures.fits
+returns-clause-wide g c = wide g.L.CostLaw.minimize g.L.CostLaw.operator _ (Ok (with_dropped c.in_ok-best.best c.in_ok-best.ensures.shared.0)) c.in_ok-best.ensures.shared.2.floor c.in_ok-best.ensures.shared.3.fits
 
 pub returns-clause-nodes : goal.returns-clause-nodes
 returns-clause-nodes g c = λ d.
@@ -64,4 +69,4 @@ returns-clause-busy g c = λ d.
     ∙ c.open_layers.ensures.busy (d + 1)))
 
 pub returns-clause-fits : goal.returns-clause-fits
-returns-clause-fits g c = fit_kept c.drop_past.new.self.layout c.args.layout.now (c.drop_past.ensures.layout ∙ c.add_pending.ensures.fits.0) (Ok c.in_ok-taken.taken) c.in_ok-taken.ensures.fits
+returns-clause-fits g c = fit_kept c.drop_past.new.self.layout c.args.layout.now (c.drop_past.ensures.layout ∙ c.add_pending.ensures.fits.0) (Ok (with_dropped c.in_ok-best.best c.in_ok-best.ensures.shared.0)) c.in_ok-best.ensures.shared.3.fits
