@@ -132,6 +132,24 @@ table_values:
 """
 
 
+def clearing(rooms):
+    draw = random.Random(rooms)
+    guards = [[0] * rooms for _ in range(rooms)]
+    for i in range(rooms):
+        for j in range(i):
+            if draw.random() < 0.3:
+                guards[i][j] = guards[j][i] = draw.randrange(1, 10)
+    return f"""domain: graph_clearing
+problem: drawn
+object_numbers: {{ room: {rooms} }}
+target: {{ dirty: {members(range(rooms))} }}
+table_values:
+  all: {members(range(rooms))}
+  sweepers: {listed([draw.randrange(1, 10) for _ in range(rooms)])}
+  guards: {squared(guards)}
+"""
+
+
 def domain(folder, file="domain.yaml"):
     return os.path.join(TOP, folder, file)
 
@@ -155,7 +173,11 @@ GROWN = [
 ]
 BUDGETS = ["100000", "1000000", "10000000"]
 # Those whose layers are wide.
+OFF = ["--prune", "off", "--budget", "400000"]
 WIDE = [
+    ("talent of 18, bounds off", domain("talent"), talent(18, 8), OFF),
+    ("tour of 24, bounds off", TOURS, tour(24, 2000), OFF),
+    ("clearing of 18, bounds off", domain("graph_clearing"), clearing(18), OFF),
     ("talent of 16", domain("talent"), talent(16, 8), []),
     ("tour of 15, wide windows", TOURS, tour(15, 1000), []),
     ("bins of 24", domain("bin_packing"), bins(24), []),
