@@ -2,3 +2,4 @@ pub mod Batches
 pub mod Skips
 pub mod Limits
 pub mod Stops
+pub mod Cases

@@ -4,3 +4,4 @@ pub mod Candidates
 pub mod Searches
 pub mod Visits
 pub mod Starts
+pub mod Switches

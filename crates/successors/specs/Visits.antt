@@ -1,5 +1,5 @@
 -- What a visit makes of an inner node: its successors in order of definition, up to the first fault.
-use Rattle.std.specs.Prelude.{ℕ, ◌+◌, Bool, false, if◌then◌else◌, List, [], ◌∷◌, ◌++◌, Option, Some, None, Result, Ok, ℤ, pos, int_le}
+use Rattle.std.specs.Prelude.{ℕ, ◌+◌, Bool, false, if◌then◌else◌, List, [], ◌∷◌, ◌++◌, Option, Some, None, Result, Ok, ℤ, pos, int_le, slice_index}
 use Rattle.dp_base.specs.Results.{◌>>=◌, each}
 use Rattle.dp_model.specs.Costs.{join_onto, order_word, ranged}
 use Rattle.dp_model.specs.StepTexts.{ground_of}
@@ -59,6 +59,11 @@ with_number m visit batch g = with_named m visit batch g (ground_of m g)
 -- a transition that is not forced: it is tested after the whole treatment of those before it
 abbrev pub with_tested : Model → Visit → Batch → ℕ → Result Batch Met
 with_tested m visit batch g = here (number_enabled m visit.state g) >>= λ enabled. if enabled then with_number m visit batch g else Ok batch
+
+-- the one at a place among others, if there is a place
+abbrev pub with_picked : Model → Visit → Batch → List ℕ → Option ℕ → Result Batch Met
+with_picked m visit batch numbers None = Ok batch
+with_picked m visit batch numbers (Some k) = with_tested m visit batch (slice_index numbers k)
 
 -- an enabled forced transition is the only one considered
 abbrev pub after_forced : Model → Visit → (first : Option ℕ) → Result Batch Met

@@ -20,6 +20,7 @@ use crate::candidates::{Candidate, candidates_of};
 use crate::ends::ExpandEnd;
 use crate::spares::Spares;
 use crate::starts::Start;
+use crate::switches::{Switch, switches_of};
 use crate::visits::{Visitor, words_of};
 use cost_laws::CostLaw;
 use dp_model::Model as DpModel;
@@ -56,6 +57,7 @@ pub struct Expander<'m, L: CostLaw> {
     tables: Tables,
     forced: Vec<u32>,
     others: Vec<Candidate>,
+    switches: Vec<Switch>,
     stack: Vec<u64>,
     spares: Spares,
     law: PhantomData<L>,
@@ -71,6 +73,7 @@ impl<'m, L: CostLaw> Model for Expander<'m, L> {
     ghost use Rattle.eval_room.specs.Needs.{ServesModel};
     ghost use Rattle.successors.specs.Candidates.{candidate_of};
     ghost use Rattle.successors.specs.Searches.{Search, search_code};
+    ghost use Rattle.successors.specs.Switches.{AreSwitches};
 
     ghost Value = { Search };
 
@@ -78,7 +81,7 @@ impl<'m, L: CostLaw> Model for Expander<'m, L> {
 
     ghost view = { λ e. record { model = e.model.now; prune = e.prune } };
 
-    ghost invariant = { λ e. IsLawOf e.model.now L.minimize L.operator × IsLayoutOf e.model.now e.layout × (e.forced.items ≡ forced_of e.model.now) × (e.others.items ≡ map (candidate_of e.model.now) (others_of e.model.now)) × AreTablesOf e.model.now e.tables × ServesModel e.model.now (length e.stack.items) };
+    ghost invariant = { λ e. IsLawOf e.model.now L.minimize L.operator × IsLayoutOf e.model.now e.layout × (e.forced.items ≡ forced_of e.model.now) × (e.others.items ≡ map (candidate_of e.model.now) (others_of e.model.now)) × AreSwitches e.model.now (others_of e.model.now) e.switches.items × AreTablesOf e.model.now e.tables × ServesModel e.model.now (length e.stack.items) };
 }
 
 impl<'m, L: CostLaw> Expander<'m, L> {
@@ -98,6 +101,7 @@ impl<'m, L: CostLaw> Expander<'m, L> {
             tables: Tables::of(alloc, model)?,
             forced: spot_eval::forced_of(alloc, model)?,
             others: candidates_of(alloc, model)?,
+            switches: switches_of(alloc, model)?,
             stack: stack_for(alloc, model)?,
             spares: Spares::new(alloc),
             law: PhantomData,
@@ -227,6 +231,7 @@ impl<'m, L: CostLaw> Expander<'m, L> {
             alloc,
             &self.forced,
             &self.others,
+            &self.switches,
             batch,
             &mut self.stack,
             &mut self.spares,

@@ -8,6 +8,7 @@ mod ends;
 mod expander;
 mod spares;
 mod starts;
+mod switches;
 mod visits;
 
 pub use batch::{Batch, Offer};
@@ -15,3 +16,4 @@ pub use candidates::{Candidate, Membership};
 pub use ends::ExpandEnd;
 pub use expander::Expander;
 pub use starts::Start;
+pub use switches::{Switch, Wanted};

@@ -17,12 +17,14 @@ ghost use Rattle.spot_eval.specs.Moves.{forced_of, number_enabled, others_of};
 ghost use Rattle.successors.specs.Answers.{AnswersBy, after};
 ghost use Rattle.successors.specs.Batches.{BatchFits, empty_batch};
 ghost use Rattle.successors.specs.Candidates.{candidate_of};
-ghost use Rattle.successors.specs.Visits.{expansion, is_pruned, with_next, with_node, with_number, with_successor, with_tested};
+ghost use Rattle.successors.specs.Switches.{AreSwitches};
+ghost use Rattle.successors.specs.Visits.{expansion, is_pruned, with_next, with_node, with_number, with_picked, with_successor, with_tested};
 
 use crate::batch::{Batch, Offer};
 use crate::candidates::{Candidate, words_given};
 use crate::ends::ExpandEnd;
 use crate::spares::Spares;
+use crate::switches::{Switch, case_at};
 use cost_laws::CostLaw;
 use dp_model::{Model as DpModel, Spot, Transition};
 use packed_spots::in_words;
@@ -367,6 +369,38 @@ impl<'a, L: CostLaw> Visitor<'a, L> {
         self.push_tested(alloc, at, candidate, batch, stack, spares)
     }
 
+    /// Adds the successor that the candidate at a place makes, if there is a place, and it is enabled.
+    #[tactic(auto, using(crate::proofs::Skips::candidate_at))]
+    #[inline(always)]
+    fn push_case(
+        &self,
+        alloc: Global,
+        at: &Scene<'_>,
+        candidates: &[Candidate],
+        pick: Option<usize>,
+        batch: &mut Batch,
+        stack: &mut [u64],
+        spares: &mut Spares,
+    ) -> Result<(), ExpandEnd>
+        requires model { at.now.model.now ≡ self.now.model }
+        requires state { state_in at.now.words.now ≡ self.now.visit.state }
+        requires candidates { candidates.now ≡ map (candidate_of self.now.model) (others_of self.now.model) }
+        requires there { IfSome pick (λ k. k < length candidates.now) }
+        requires room { ServesModel self.now.model (length stack.old) }
+        requires fits { BatchFits self.now.model batch.old }
+        requires few { batch.old.not_allowed < 65536 }
+        ensures batch { AnswersBy (λ _. batch.new) result (with_picked self.now.model self.now.visit batch.old (others_of self.now.model) pick) }
+        ensures fits { OnOk result (BatchFits self.now.model batch.new) }
+        ensures few { OnOk result (batch.new.not_allowed ≤ batch.old.not_allowed + 1) }
+    {
+        match pick {
+            Some(place) => {
+                self.push_candidate(alloc, at, &candidates[place], batch, stack, spares)
+            }
+            None => Ok(()),
+        }
+    }
+
     /// Adds the successors that these candidates make, where no forced transition is enabled.
     #[tactic(auto, using(crate::proofs::Batches::empty_fits))]
     fn push_each(
@@ -374,6 +408,7 @@ impl<'a, L: CostLaw> Visitor<'a, L> {
         alloc: Global,
         at: &Scene<'_>,
         candidates: &[Candidate],
+        switches: &[Switch],
         batch: &mut Batch,
         stack: &mut [u64],
         spares: &mut Spares,
@@ -382,13 +417,17 @@ impl<'a, L: CostLaw> Visitor<'a, L> {
         requires model { at.now.model.now ≡ self.now.model }
         requires state { state_in at.now.words.now ≡ self.now.visit.state }
         requires candidates { candidates.now ≡ map (candidate_of self.now.model) (others_of self.now.model) }
+        requires switches { AreSwitches self.now.model (others_of self.now.model) switches.now }
         requires few { length candidates.now ≤ 65536 }
         requires empty { batch.old ≡ empty_batch }
         ensures batch { AnswersBy (λ _. batch.new) result (each (with_tested self.now.model self.now.visit) empty_batch (others_of self.now.model)) }
         ensures fits { OnOk result (BatchFits self.now.model batch.new) }
     {
-        for candidate in candidates {
-            self.push_candidate(alloc, at, candidate, batch, stack, spares)?;
+        let mut place = 0;
+        while place < candidates.len() {
+            let case = case_at(at, switches, place);
+            self.push_case(alloc, at, candidates, case.pick, batch, stack, spares)?;
+            place = case.next;
         }
         Ok(())
     }
@@ -401,6 +440,7 @@ impl<'a, L: CostLaw> Visitor<'a, L> {
         alloc: Global,
         forced: &[u32],
         others: &[Candidate],
+        switches: &[Switch],
         batch: &mut Batch,
         stack: &mut [u64],
         spares: &mut Spares,
@@ -408,6 +448,7 @@ impl<'a, L: CostLaw> Visitor<'a, L> {
         requires room { ServesModel self.now.model (length stack.old) }
         requires forced { forced.now ≡ forced_of self.now.model }
         requires others { others.now ≡ map (candidate_of self.now.model) (others_of self.now.model) }
+        requires switches { AreSwitches self.now.model (others_of self.now.model) switches.now }
         requires empty { batch.old ≡ empty_batch }
         ensures batch { AnswersBy (λ _. batch.new) result (expansion self.now.model self.now.visit) }
         ensures fits { OnOk result (BatchFits self.now.model batch.new) }
@@ -417,7 +458,7 @@ impl<'a, L: CostLaw> Visitor<'a, L> {
             Some(number) => self.push_number(alloc, &at, number, batch, stack, spares),
             None => {
                 let visited = at;
-                self.push_each(alloc, &visited, others, batch, stack, spares)
+                self.push_each(alloc, &visited, others, switches, batch, stack, spares)
             }
         }
     }
