@@ -13,14 +13,14 @@ use Rattle.pass_ledger.specs.Passes.{Pass}
 use Rattle.dp_claims.specs.Enough.{Has}
 use Rattle.state_layout.specs.declared.layout.Layout.{Layout}
 use Rattle.state_layout.specs.declared.node.Node.{Node}
-use Rattle.dom_store.specs.Contents.{IsCovered, Apart, AreAdded}
+use Rattle.dom_store.specs.Contents.{with_added, with_nodes, IsCovered, Apart, AreAdded}
 use Rattle.dom_store.specs.Past.{IsPast}
 use Rattle.dom_store.specs.declared.past_node.PastNode.{PastNode}
 use Rattle.dom_store.specs.declared.taking.Taken.{Taken}
 use Rattle.dp_claims.proofs.Covering.{reflexive, transitive}
 use Rattle.pass_ledger.proofs.Lists.{has_none, has_head, has_cases, has_left, has_right, has_last}
 use Rattle.pass_ledger.proofs.Appends.{get_push}
-use Rattle.shard_core.specs.Layers.{nodes_at, busy_at, nodes_of, IsOf, AreOf, Merges, Splits}
+use Rattle.shard_core.specs.Layers.{joined_at, nodes_at, busy_at, nodes_of, IsOf, AreOf, Merges, Splits}
 use Rattle.shard_core.specs.declared.layers.Layer.{Layer}
 
 -- what holds in any case holds where all went well
@@ -35,6 +35,12 @@ module _ {B : Type 0} where
   push_nodes [] x e f (suc d) = refl
   push_nodes (y ∷ layers) x e f zero = refl
   push_nodes (y ∷ layers) x e f (suc d) = push_nodes layers x e f d
+
+  pub push_joined : (layers : List (Layer B)) (x : Layer B) → x.nodes.nodes ≡ [] → x.pending.items ≡ [] → (test : Node → Node → Bool) (d : ℕ) → joined_at test (layers ++ x ∷ []) d ≡ joined_at test layers d
+  push_joined [] x e f test zero = ap (with_nodes test x.nodes.nodes) f ∙ e
+  push_joined [] x e f test (suc d) = refl
+  push_joined (y ∷ layers) x e f test zero = refl
+  push_joined (y ∷ layers) x e f test (suc d) = push_joined layers x e f test d
 
   pub push_busy : (layers : List (Layer B)) (x : Layer B) → x.busy ≡ false → (d : ℕ) → busy_at (layers ++ x ∷ []) d ≡ busy_at layers d
   push_busy [] x e zero = e
@@ -100,6 +106,28 @@ module _ {B : Type 0} where
   pub rest_layouts : (layout : Layout) (layers : List (Layer B)) → AreOf layout layers → AreOf layout (remove layers 0)
   rest_layouts layout [] are d y h = are d y h
   rest_layouts layout (x ∷ layers) are d y h = are (suc d) y h
+
+-- ---- nodes that are added in turn
+
+pub with_more : (test : Node → Node → Bool) (nodes done left : List Node) → with_nodes test nodes (done ++ left) ≡ with_nodes test (with_nodes test nodes done) left
+with_more test nodes [] left = refl
+with_more test nodes (d ∷ ds) left = with_more test (with_added test nodes d) ds left
+
+-- of those that wait the first ones are added
+pub still_joined : (test : Node → Node → Bool) (nodes list new left : List Node) → AreAdded test nodes list new left → with_nodes test new left ≡ with_nodes test nodes list
+still_joined test nodes list new left a = ap (λ (ns : List Node). with_nodes test ns left) a.2 ∙ sym (with_more test nodes a.0 left) ∙ ap (with_nodes test nodes) (sym a.1)
+
+-- all of them are
+pub all_joined : (test : Node → Node → Bool) (nodes list new left : List Node) → new ≡ with_nodes test nodes list → left ≡ [] → with_nodes test new left ≡ with_nodes test nodes list
+all_joined test nodes list new left is none = ap (with_nodes test new) none ∙ is
+
+-- a node is added where none waits
+pub joined_now : (test : Node → Node → Bool) (nodes waiting new : List Node) (node : Node) → waiting ≡ [] → new ≡ with_added test nodes node → with_nodes test new waiting ≡ with_added test (with_nodes test nodes waiting) node
+joined_now test nodes waiting new node none is = rw none is
+
+-- a node waits behind the others
+pub joined_later : (test : Node → Node → Bool) (nodes waiting longer : List Node) (node : Node) → longer ≡ waiting ++ node ∷ [] → with_nodes test nodes longer ≡ with_added test (with_nodes test nodes waiting) node
+joined_later test nodes waiting longer node is = ap (with_nodes test nodes) is ∙ with_more test nodes waiting (node ∷ [])
 
 -- ---- a law of costs that is the model's
 

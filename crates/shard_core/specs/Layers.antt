@@ -4,7 +4,7 @@ use Rattle.dp_claims.specs.Enough.{Has}
 use Rattle.state_layout.specs.Conditions.{IsNodeFor}
 use Rattle.state_layout.specs.declared.layout.Layout.{Layout}
 use Rattle.state_layout.specs.declared.node.Node.{Node}
-use Rattle.dom_store.specs.Contents.{IsCovered, Apart}
+use Rattle.dom_store.specs.Contents.{with_nodes, IsCovered, Apart}
 use Rattle.dom_store.specs.Order.{IsLeastFloor}
 use Rattle.dom_store.specs.Past.{IsPast}
 use Rattle.dom_store.specs.declared.past_node.PastNode.{PastNode}
@@ -18,13 +18,21 @@ module _ {B : Type 0} where
   nodes_of None = []
   nodes_of (Some layer) = layer.nodes.nodes ++ layer.pending.items
 
+  -- the nodes that the layer has once those that wait are added to the store's, one after another
+  abbrev pub joined : (Node → Node → Bool) → Option (Layer B) → List Node
+  joined test None = []
+  joined test (Some layer) = with_nodes test layer.nodes.nodes layer.pending.items
+
   abbrev pub busy_of : Option (Layer B) → Bool
   busy_of None = false
   busy_of (Some layer) = layer.busy
 
-  -- the nodes of the layer at a place, and whether some shard has states of it
+  -- the nodes of the layer at a place, those that it has once all are added, and whether some shard has states of it
   abbrev pub nodes_at : List (Layer B) → ℕ → List Node
   nodes_at layers d = nodes_of (slice_get layers d)
+
+  abbrev pub joined_at : (Node → Node → Bool) → List (Layer B) → ℕ → List Node
+  joined_at test layers d = joined test (slice_get layers d)
 
   abbrev pub busy_at : List (Layer B) → ℕ → Bool
   busy_at layers d = busy_of (slice_get layers d)

@@ -1,16 +1,18 @@
 //! The layers that are not closed, with the nodes that were received for them so far.
 
-ghost use Rattle.std.specs.Prelude.{◌≡◌, ℕ, ◌+◌, ◌<◌, true, false, List, [], ◌∷◌, ◌++◌, length, option_to_list, IfOk, IfErr, OnErr, OnOk, IfSome, Option, Some, None};
+ghost use Rattle.std.specs.Prelude.{◌≡◌, ℕ, ◌+◌, ◌<◌, true, false, Bool, List, [], ◌∷◌, ◌++◌, length, option_to_list, IfOk, IfErr, OnErr, OnOk, IfSome, Option, Some, None};
 ghost use Rattle.cost_laws.specs.Orders.{InWideRange, IsLawOf};
 ghost use Rattle.dp_claims.specs.Enough.{Has};
 ghost use Rattle.dp_model.specs.declared.whole.Model.{Model as DpModel};
-ghost use Rattle.dom_store.specs.Contents.{IsCovered};
-ghost use Rattle.dom_store.specs.Taking.{with_dropped};
+ghost use Rattle.dom_store.specs.Contents.{with_added, IsCovered};
+ghost use Rattle.dom_store.specs.Covering.{covers};
+ghost use Rattle.dom_store.specs.Past.{covers_past, not_past};
+ghost use Rattle.dom_store.specs.Taking.{with_dropped, AreShared};
 ghost use Rattle.state_layout.specs.Conditions.{IsLayoutOf, IsNodeFor};
 ghost use Rattle.state_layout.specs.declared.layout.Layout.{Layout};
 ghost use Rattle.state_layout.specs.declared.node.Node.{Node};
 ghost use Rattle.pass_ledger.specs.Passes.{Pass};
-ghost use Rattle.shard_core.specs.Layers.{nodes_of, nodes_at, busy_at, IsOf, AreOf, Merges, Splits};
+ghost use Rattle.shard_core.specs.Layers.{joined, joined_at, nodes_of, nodes_at, busy_at, IsOf, AreOf, Merges, Splits};
 
 use cost_laws::CostLaw;
 use dom_store::{Best, Covers, DomStore, PastStore};
@@ -37,7 +39,7 @@ pub struct Layer<K: Covers> {
 }
 
 /// Puts a layer without nodes behind the others.
-#[tactic(auto, using(crate::proofs::Rows::push_nodes, crate::proofs::Rows::push_busy))]
+#[tactic(auto, using(crate::proofs::Rows::push_nodes, crate::proofs::Rows::push_joined, crate::proofs::Rows::push_busy))]
 fn put_behind<K: Covers>(
     layers: &mut Vec<Layer<K>>,
     nodes: DomStore<K>,
@@ -48,6 +50,7 @@ fn put_behind<K: Covers>(
     ensures layouts { (layout : Layout) → AreOf layout layers.old.items → nodes.layout ≡ layout → AreOf layout layers.new.items }
     ensures long { OnOk result (length layers.new.items ≡ length layers.old.items + 1) }
     ensures nodes { (d : ℕ) → nodes_at layers.new.items d ≡ nodes_at layers.old.items d }
+    ensures joined { (test : Node → Node → Bool) (d : ℕ) → joined_at test layers.new.items d ≡ joined_at test layers.old.items d }
     ensures busy { (d : ℕ) → busy_at layers.new.items d ≡ busy_at layers.old.items d }
 {
     layers.push(Layer {
@@ -68,6 +71,7 @@ fn push_layer<K: Covers>(
     ensures layouts { AreOf layout.now layers.new.items }
     ensures long { OnOk result (length layers.new.items ≡ length layers.old.items + 1) }
     ensures nodes { (d : ℕ) → nodes_at layers.new.items d ≡ nodes_at layers.old.items d }
+    ensures joined { (test : Node → Node → Bool) (d : ℕ) → joined_at test layers.new.items d ≡ joined_at test layers.old.items d }
     ensures busy { (d : ℕ) → busy_at layers.new.items d ≡ busy_at layers.old.items d }
 {
     let nodes = DomStore::new(alloc, layout)?;
@@ -86,6 +90,7 @@ fn push_layers<K: Covers>(
     ensures layouts { AreOf layout.now layers.new.items }
     ensures long { OnOk result (place < length layers.new.items) }
     ensures nodes { (d : ℕ) → nodes_at layers.new.items d ≡ nodes_at layers.old.items d }
+    ensures joined { (test : Node → Node → Bool) (d : ℕ) → joined_at test layers.new.items d ≡ joined_at test layers.old.items d }
     ensures busy { (d : ℕ) → busy_at layers.new.items d ≡ busy_at layers.old.items d }
 {
     while layers.len() as u64 <= place {
@@ -106,6 +111,7 @@ fn open_layers<K: Covers>(
     ensures layouts { AreOf layout.now layers.new.items }
     ensures long { OnOk result (place < length layers.new.items) }
     ensures nodes { (d : ℕ) → nodes_at layers.new.items d ≡ nodes_at layers.old.items d }
+    ensures joined { (test : Node → Node → Bool) (d : ℕ) → joined_at test layers.new.items d ≡ joined_at test layers.old.items d }
     ensures busy { (d : ℕ) → busy_at layers.new.items d ≡ busy_at layers.old.items d }
 {
     if place < layers.len() as u64 {
@@ -127,6 +133,7 @@ pub(crate) fn collect<K: Covers>(
     requires node { IsNodeFor layout.now node }
     ensures layouts { AreOf layout.now layers.new.items }
     ensures merged { (p : Pass) → IsLayoutOf p.model layout.now → IsLawOf p.model K.minimize K.operator → K.prune ≡ p.prune → OnOk result (Merges p (nodes_at layers.old.items place) node (nodes_at layers.new.items place)) }
+    ensures in_turn { OnOk result (joined_at (covers K.prune K.minimize K.operator layout.now) layers.new.items place ≡ with_added (covers K.prune K.minimize K.operator layout.now) (joined_at (covers K.prune K.minimize K.operator layout.now) layers.old.items place) node) }
     ensures others { (d : ℕ) → (d ≡ place → ⊥) → nodes_at layers.new.items d ≡ nodes_at layers.old.items d }
     ensures busy { (d : ℕ) → busy_at layers.new.items d ≡ busy_at layers.old.items d }
     ensures same { OnErr result ((d : ℕ) → nodes_at layers.new.items d ≡ nodes_at layers.old.items d) }
@@ -144,6 +151,7 @@ fn add_pending<K: Covers>(layout: &Layout, layer: &mut Layer<K>) -> Result<(), A
     ensures fits { IsOf layout.now layer.new }
     ensures from { (n : Node) → Has (nodes_of (Some layer.new)) n → Has (nodes_of (Some layer.old)) n }
     ensures covered { (m : DpModel) → IsLayoutOf m layout.now → IsLawOf m K.minimize K.operator → (n : Node) → IsCovered m K.prune (nodes_of (Some layer.old)) n → IsCovered m K.prune (nodes_of (Some layer.new)) n }
+    ensures in_turn { joined (covers K.prune K.minimize K.operator layout.now) (Some layer.new) ≡ joined (covers K.prune K.minimize K.operator layout.now) (Some layer.old) }
     ensures busy { layer.new.busy ≡ layer.old.busy }
     ensures emptied { OnOk result (layer.new.pending.items ≡ []) }
 {
@@ -158,6 +166,7 @@ fn add_enough<K: Covers>(layout: &Layout, layer: &mut Layer<K>)
     ensures fits { IsOf layout.now layer.new }
     ensures from { (n : Node) → Has (nodes_of (Some layer.new)) n → Has (nodes_of (Some layer.old)) n }
     ensures covered { (m : DpModel) → IsLayoutOf m layout.now → IsLawOf m K.minimize K.operator → (n : Node) → IsCovered m K.prune (nodes_of (Some layer.old)) n → IsCovered m K.prune (nodes_of (Some layer.new)) n }
+    ensures in_turn { joined (covers K.prune K.minimize K.operator layout.now) (Some layer.new) ≡ joined (covers K.prune K.minimize K.operator layout.now) (Some layer.old) }
     ensures busy { layer.new.busy ≡ layer.old.busy }
 {
     if layer.pending.len() < TOGETHER {
@@ -193,13 +202,15 @@ fn push_growing(pending: &mut VecDeque<NodeBox>, node: NodeBox) -> Result<(), No
     }
 }
 
-// a node is added to the store at once; on `Err` memory ran out, and the node comes back
+// a node is added to the store at once, where none waits; on `Err` memory ran out, and the node comes back
 #[inline(always)]
 fn add_now<K: Covers>(layout: &Layout, layer: &mut Layer<K>, node: NodeBox) -> Result<(), NodeBox>
     requires layer { IsOf layout.now layer.old }
+    requires none { layer.old.pending.items ≡ [] }
     requires node { IsNodeFor layout.now node }
     ensures fits { IsOf layout.now layer.new }
     ensures merged { (p : Pass) → IsLayoutOf p.model layout.now → IsLawOf p.model K.minimize K.operator → K.prune ≡ p.prune → OnOk result (Merges p (nodes_of (Some layer.old)) node (nodes_of (Some layer.new))) }
+    ensures in_turn { OnOk result (joined (covers K.prune K.minimize K.operator layout.now) (Some layer.new) ≡ with_added (covers K.prune K.minimize K.operator layout.now) (joined (covers K.prune K.minimize K.operator layout.now) (Some layer.old)) node) }
     ensures busy { layer.new.busy ≡ layer.old.busy }
     ensures same { OnErr result (nodes_of (Some layer.new) ≡ nodes_of (Some layer.old)) }
     ensures back { IfErr result (λ back. back ≡ node) }
@@ -215,6 +226,7 @@ fn add_later<K: Covers>(layout: &Layout, layer: &mut Layer<K>, node: NodeBox) ->
     requires node { IsNodeFor layout.now node }
     ensures fits { IsOf layout.now layer.new }
     ensures merged { (p : Pass) → IsLayoutOf p.model layout.now → IsLawOf p.model K.minimize K.operator → K.prune ≡ p.prune → OnOk result (Merges p (nodes_of (Some layer.old)) node (nodes_of (Some layer.new))) }
+    ensures in_turn { OnOk result (joined (covers K.prune K.minimize K.operator layout.now) (Some layer.new) ≡ with_added (covers K.prune K.minimize K.operator layout.now) (joined (covers K.prune K.minimize K.operator layout.now) (Some layer.old)) node) }
     ensures busy { layer.new.busy ≡ layer.old.busy }
     ensures same { OnErr result (nodes_of (Some layer.new) ≡ nodes_of (Some layer.old)) }
     ensures back { IfErr result (λ back. back ≡ node) }
@@ -237,6 +249,7 @@ fn take_in<K: Covers>(
     requires node { IsNodeFor layout.now node }
     ensures fits { IsOf layout.now layer.new }
     ensures merged { (p : Pass) → IsLayoutOf p.model layout.now → IsLawOf p.model K.minimize K.operator → K.prune ≡ p.prune → OnOk result (Merges p (nodes_of (Some layer.old)) node (nodes_of (Some layer.new))) }
+    ensures in_turn { OnOk result (joined (covers K.prune K.minimize K.operator layout.now) (Some layer.new) ≡ with_added (covers K.prune K.minimize K.operator layout.now) (joined (covers K.prune K.minimize K.operator layout.now) (Some layer.old)) node) }
     ensures busy { layer.new.busy ≡ layer.old.busy }
     ensures same { OnErr result (nodes_of (Some layer.new) ≡ nodes_of (Some layer.old)) }
     ensures back { IfErr result (λ back. back ≡ node) }
@@ -262,6 +275,7 @@ fn add_at<K: Covers>(
     requires there { place < length layers.old.items }
     ensures layouts { AreOf layout.now layers.new.items }
     ensures merged { (p : Pass) → IsLayoutOf p.model layout.now → IsLawOf p.model K.minimize K.operator → K.prune ≡ p.prune → OnOk result (Merges p (nodes_at layers.old.items place) node (nodes_at layers.new.items place)) }
+    ensures in_turn { OnOk result (joined_at (covers K.prune K.minimize K.operator layout.now) layers.new.items place ≡ with_added (covers K.prune K.minimize K.operator layout.now) (joined_at (covers K.prune K.minimize K.operator layout.now) layers.old.items place) node) }
     ensures others { (d : ℕ) → (d ≡ place → ⊥) → nodes_at layers.new.items d ≡ nodes_at layers.old.items d }
     ensures busy { (d : ℕ) → busy_at layers.new.items d ≡ busy_at layers.old.items d }
     ensures same { OnErr result ((d : ℕ) → nodes_at layers.new.items d ≡ nodes_at layers.old.items d) }
@@ -373,6 +387,7 @@ pub(crate) fn take_layer<L: CostLaw, K: Covers>(
     requires past { past.now.layout ≡ layout.now }
     ensures layouts { AreOf layout.now layers.new.items }
     ensures split { (p : Pass) → IsLayoutOf p.model layout.now → IsLawOf p.model L.minimize L.operator → IsLawOf p.model K.minimize K.operator → K.prune ≡ p.prune → IfOk result (λ best. (dropped : List Node) × (best.dropped ≡ length dropped) × Splits p share past.now.nodes (nodes_at layers.old.items 0) (with_dropped best dropped)) }
+    ensures in_turn { IfOk result (λ best. (dropped : List Node) × (best.dropped ≡ length dropped) × AreShared L.minimize L.operator share (not_past (covers_past K.prune K.minimize K.operator layout.now) past.now.nodes (joined_at (covers K.prune K.minimize K.operator layout.now) layers.old.items 0)) (with_dropped best dropped)) }
     ensures fits { IfOk result (λ best. (n : Node) → Has best.kept n → IsNodeFor layout.now n) }
     ensures nodes { OnOk result ((d : ℕ) → nodes_at layers.new.items d ≡ nodes_at layers.old.items (d + 1)) }
     ensures busy { OnOk result ((d : ℕ) → busy_at layers.new.items d ≡ busy_at layers.old.items (d + 1)) }

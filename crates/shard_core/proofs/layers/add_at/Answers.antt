@@ -1,5 +1,8 @@
-use Rattle.shard_core.specs.Layers.{nodes_of, busy_of}
-use Rattle.shard_core.proofs.Rows.{got, on_err, set_layouts, set_off, set_all, set_merges}
+use Rattle.std.proofs.Common.{Option, sym, ap, ◌∙◌}
+use Rattle.dom_store.specs.Contents.{with_added}
+use Rattle.dom_store.specs.Covering.{covers}
+use Rattle.shard_core.specs.Layers.{joined, nodes_of, busy_of}
+use Rattle.shard_core.proofs.Rows.{got, on_err, set_at, set_layouts, set_off, set_all, set_merges}
 use Rattle.shard_core.proofs.layers.add_at.Goals as goal
 
 pub take_in-requires-clause-layer : goal.take_in-requires-clause-layer
@@ -30,3 +33,9 @@ returns-clause-others g c = set_off nodes_of c.args.layers.now.items c.args.plac
 
 pub returns-clause-busy : goal.returns-clause-busy
 returns-clause-busy g c = set_all busy_of c.args.layers.now.items c.args.place _ c.index_mut.result.now (got c.args.layers.now.items c.args.place c.index_mut.result.now c.requires.there c.index_mut.ensures.value) c.take_in.ensures.busy
+
+pub returns-clause-in_turn : goal.returns-clause-in_turn
+returns-clause-in_turn g c =
+    let test = covers g.K.Covers.prune g.K.Covers.minimize g.K.Covers.operator c.args.layout.now in
+    let there = got c.args.layers.now.items c.args.place c.index_mut.result.now c.requires.there c.index_mut.ensures.value in
+    set_at (joined test) c.args.layers.now.items c.args.place _ c.requires.there ∙ c.in_ok-take_in.ensures.in_turn ∙ ap (λ (o : Option _). with_added test (joined test o) c.args.node) (sym there)

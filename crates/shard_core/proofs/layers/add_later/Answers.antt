@@ -1,8 +1,9 @@
-use Rattle.std.proofs.Common.{ap}
+use Rattle.std.proofs.Common.{ap, ◌∙◌}
 use Rattle.std.specs.Prelude.{List, Some, ◌++◌}
 use Rattle.state_layout.specs.declared.node.Node.{Node}
+use Rattle.dom_store.specs.Covering.{covers}
 use Rattle.shard_core.specs.Layers.{nodes_of}
-use Rattle.shard_core.proofs.Rows.{on_err, merges_among, fit_more, fit_same}
+use Rattle.shard_core.proofs.Rows.{joined_later, on_err, merges_among, fit_more, fit_same}
 use Rattle.shard_core.proofs.layers.add_later.Goals as goal
 
 pub add_enough-requires : goal.add_enough-requires
@@ -18,3 +19,8 @@ pub returns-clause-merged : goal.returns-clause-merged
 returns-clause-merged g c = λ p of law prune.
     merges_among p g.K.Covers.prune prune c.args.layer.now.nodes.nodes c.args.layer.now.pending.items c.args.node c.push_waiting.new.pending.items (nodes_of (Some c.add_enough.new.layer)) c.in_ok-push_waiting.ensures.items
     c.add_enough.ensures.from (c.add_enough.ensures.covered p.model of law)
+
+pub returns-clause-in_turn : goal.returns-clause-in_turn
+returns-clause-in_turn g c =
+    let test = covers g.K.Covers.prune g.K.Covers.minimize g.K.Covers.operator c.args.layout.now in
+    c.add_enough.ensures.in_turn ∙ joined_later test c.args.layer.now.nodes.nodes c.args.layer.now.pending.items c.push_waiting.new.pending.items c.args.node c.in_ok-push_waiting.ensures.items

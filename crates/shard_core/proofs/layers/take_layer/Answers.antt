@@ -1,10 +1,13 @@
-use Rattle.std.proofs.Common.{◌+◌, ap, sym, ◌∙◌, subst}
+use Rattle.std.proofs.Common.{◌≡◌, ◌+◌, ap, sym, ◌∙◌, subst}
 use Rattle.std.specs.Prelude.{List, Some, Ok}
 use Rattle.dp_claims.specs.Enough.{Has}
 use Rattle.state_layout.specs.declared.node.Node.{Node}
-use Rattle.dom_store.specs.Taking.{with_dropped}
+use Rattle.dom_store.specs.Contents.{with_nodes}
+use Rattle.dom_store.specs.Covering.{covers}
+use Rattle.dom_store.specs.Past.{covers_past, not_past}
+use Rattle.dom_store.specs.Taking.{with_dropped, AreShared}
 use Rattle.dom_store.proofs.Members.{has_filtered}
-use Rattle.shard_core.specs.Layers.{nodes_of, busy_of, nodes_at, busy_at, AreOf, Splits}
+use Rattle.shard_core.specs.Layers.{joined, joined_at, nodes_of, busy_of, nodes_at, busy_at, AreOf, Splits}
 use Rattle.shard_core.specs.declared.layers.Layer.{Layer}
 use Rattle.shard_core.proofs.Rows.{got, rest_at, rest_layouts, splits, splits_before, fit_kept, wide}
 use Rattle.shard_core.proofs.layers.take_layer.Goals as goal
@@ -70,3 +73,13 @@ returns-clause-busy g c = λ d.
 
 pub returns-clause-fits : goal.returns-clause-fits
 returns-clause-fits g c = fit_kept c.drop_past.new.self.layout c.args.layout.now (c.drop_past.ensures.layout ∙ c.add_pending.ensures.fits.0) (Ok (with_dropped c.in_ok-best.best c.in_ok-best.ensures.shared.0)) c.in_ok-best.ensures.shared.3.fits
+
+pub returns-clause-in_turn : goal.returns-clause-in_turn
+returns-clause-in_turn g c =
+    let test = covers g.K.Covers.prune g.K.Covers.minimize g.K.Covers.operator c.args.layout.now in
+    let covered = covers_past g.K.Covers.prune g.K.Covers.minimize g.K.Covers.operator c.args.layout.now in
+    let e = c.in_ok-best.ensures.shared in
+    let at = got c.open_layers.new.layers.items 0 c.remove-layer.result c.in_ok-open_layers.ensures.long c.remove-layer.ensures.value in
+    let whole : c.add_pending.new.layer.nodes.nodes ≡ joined_at test c.args.layers.now.items 0 =
+    sym (ap (with_nodes test c.add_pending.new.layer.nodes.nodes) c.in_ok-add_pending.ensures.emptied) ∙ (c.add_pending.ensures.in_turn ∙ (sym (ap (joined test) at) ∙ c.open_layers.ensures.joined test 0)) in
+    (e.0, e.1, subst (λ (ns : List Node). AreShared g.L.CostLaw.minimize g.L.CostLaw.operator c.args.share ns (with_dropped c.in_ok-best.best e.0)) (c.drop_past.ensures.nodes ∙ ap (not_past covered c.args.past.now.nodes) whole) e.2)
