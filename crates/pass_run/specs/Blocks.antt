@@ -1,5 +1,5 @@
 -- Blocks of shards, which stay what they are when they come back from a thread.
-use Rattle.std.specs.Prelude.{◌≡◌, ℕ, List}
+use Rattle.std.specs.Prelude.{ℕ, List}
 use Rattle.board_words.specs.Seats.{BoardFacts}
 use Rattle.pass_ledger.specs.Passes.{Pass}
 use Rattle.shard_mail.specs.Ends.{MailboxFacts}
