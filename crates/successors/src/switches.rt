@@ -193,7 +193,17 @@ fn push_next(
     }
 }
 
-/// The switches of the ground transitions that are not forced.
+/// Whether a switch has cases.
+fn has_some(switches: &[Switch]) -> bool {
+    for switch in switches {
+        if switch.count > 0 {
+            return true;
+        }
+    }
+    false
+}
+
+/// The switches of the ground transitions that are not forced. There are none where none has cases, so that no visit looks at them.
 pub(crate) fn switches_of(alloc: Global, model: &Model) -> Result<Vec<Switch>, AllocError>
     ensures { IfOk result (λ switches. AreSwitches model.now (others_of model.now) switches.items) }
 {
@@ -203,7 +213,10 @@ pub(crate) fn switches_of(alloc: Global, model: &Model) -> Result<Vec<Switch>, A
     for number in &numbers {
         head = push_next(&mut switches, head, wanted_by(model, *number))?;
     }
-    Ok(switches)
+    if has_some(&switches) {
+        return Ok(switches);
+    }
+    Ok(Vec::new(alloc))
 }
 
 /// The candidate that is the case of a number, where the switch has one for it and stands at this place.
