@@ -1,5 +1,5 @@
 -- The lines that the program prints of solutions, passes, verdicts, refusals and models, as lists of bytes.
-use Rattle.std.specs.Prelude.{ℕ, ◌+◌, Bool, true, false, List, [], ◌++◌, ◌∷◌, length, drop, slice_get, Option, Some, None, codes, decimal, ◌==◌, if◌then◌else◌}
+use Rattle.std.specs.Prelude.{ℕ, ◌+◌, Bool, true, false, List, [], ◌++◌, ◌∷◌, length, drop, slice_get, Option, Some, None, ℤ, codes, decimal, ◌==◌, if◌then◌else◌}
 use Rattle.std.specs.List.{flat_map, prefix_len}
 use Rattle.std.specs.Fmt.{signed_decimal}
 use Rattle.dp_base.specs.Bytes.{line}
@@ -16,6 +16,8 @@ use Rattle.dp_model.specs.declared.answers.Reason.TheVariants as reasons
 use Rattle.dp_model.specs.declared.answers.Found.{Found}
 use Rattle.dp_model.specs.declared.answers.Verdict.{Verdict}
 use Rattle.dp_model.specs.declared.answers.Verdict.TheVariants as verdicts
+use Rattle.dp_model.specs.declared.answers.Written.{Written}
+use Rattle.dp_model.specs.declared.answers.Written.TheVariants as writtens
 use Rattle.dp_model.specs.declared.parts.Cells.{Cells}
 use Rattle.dp_model.specs.declared.parts.Cells.TheVariants as cells
 use Rattle.dp_model.specs.declared.parts.Effect.{Effect}
@@ -35,12 +37,24 @@ use Rattle.dp_model.specs.declared.whole.Model.{Model}
 abbrev pub step_lines : Model → List ℕ → List ℕ
 step_lines m steps = flat_map (λ g. line (step_text m g)) steps
 
+-- a solution behind the words in front of it
+abbrev pub found_text : (front : List ℕ) → Model → Found → List ℕ
+found_text front m s = line (front ++ signed_decimal s.cost ++ codes " " ++ decimal (length s.steps)) ++ step_lines m s.steps
+
 abbrev pub solution_text : Model → Found → List ℕ
-solution_text m s = line (codes "solution " ++ signed_decimal s.cost ++ codes " " ++ decimal (length s.steps)) ++ step_lines m s.steps
+solution_text m s = found_text (codes "solution ") m s
 
 -- a pass: its number from 1, how many nodes each shard kept per layer, and how many nodes it visited and dropped
 abbrev pub pass_line : (number share visited dropped : ℕ) → List ℕ
 pass_line number share visited dropped = line (codes "pass " ++ decimal number ++ codes " share " ++ decimal share ++ codes " visited " ++ decimal visited ++ codes " dropped " ++ decimal dropped)
+
+-- the bound that the passes of a run have proved
+abbrev pub bound_line : ℤ → List ℕ
+bound_line cost = line (codes "bound " ++ signed_decimal cost)
+
+-- how many costs were announced while a pass ran, and how many calls were refused
+abbrev pub announced_line : (announced refused : ℕ) → List ℕ
+announced_line announced refused = line (codes "announced " ++ decimal announced ++ codes " refused " ++ decimal refused)
 
 abbrev pub kind_text : FaultKind → List ℕ
 kind_text kinds.Range = codes "Range"
@@ -83,8 +97,12 @@ spot_text m (spots.Weight g) = step_text m g ++ codes " weight"
 spot_text m (spots.Cost g) = step_text m g ++ codes " cost"
 spot_text m (spots.Effect g i) = step_text m g ++ codes " effect " ++ effect_text m (ground_of m g) i
 
+-- a fault behind the words in front of it
+abbrev pub fault_behind : (front : List ℕ) → Model → FaultAt → List ℕ
+fault_behind front m f = front ++ kind_text f.kind ++ codes " at " ++ spot_text m f.spot ++ codes " after " ++ decimal (length f.steps)
+
 abbrev pub fault_text : Model → FaultAt → List ℕ
-fault_text m f = codes "verdict fault " ++ kind_text f.kind ++ codes " at " ++ spot_text m f.spot ++ codes " after " ++ decimal (length f.steps)
+fault_text m f = fault_behind (codes "verdict fault ") m f
 
 abbrev pub verdict_text : Model → Verdict → List ℕ
 verdict_text m (verdicts.Optimal c) = line (codes "verdict optimal " ++ signed_decimal c)
@@ -93,6 +111,13 @@ verdict_text m (verdicts.Stopped v) = line (codes "verdict stopped " ++ decimal 
 verdict_text m (verdicts.Fault f) = line (fault_text m f) ++ step_lines m f.steps
 verdict_text m (verdicts.Legal c) = line (codes "verdict legal " ++ signed_decimal c)
 verdict_text m (verdicts.Illegal n r) = line (codes "verdict illegal " ++ decimal n ++ codes " " ++ reason_text r)
+
+-- what stands behind the lines of a certificate that is not whole
+abbrev pub written_text : Model → Written → List ℕ
+written_text m writtens.Whole = []
+written_text m (writtens.Stopped visits) = line (codes "certificate stopped " ++ decimal visits)
+written_text m (writtens.Better found) = found_text (codes "certificate better ") m found
+written_text m (writtens.Fault f) = line (fault_behind (codes "certificate fault ") m f) ++ step_lines m f.steps
 
 -- ---- refusals
 
@@ -144,6 +169,7 @@ refusals =
     ∷ (52, codes "LeftOut")
     ∷ (70, codes "UnknownStep")
     ∷ (71, codes "BadArguments")
+    ∷ (72, codes "BadCertificate")
     ∷ []
 
 abbrev pub name_among : List (ℕ × List ℕ) → ℕ → List ℕ

@@ -2,6 +2,7 @@
 //! each line at once where it is short. After a write that failed the sink has a front of the text.
 #![tactic(auto)]
 
+mod endings;
 mod lines;
 mod pieces;
 mod refusals;
@@ -9,8 +10,10 @@ mod shows;
 mod steps;
 mod verdicts;
 
-pub use lines::{put_line, put_pass, put_pieces, put_solution};
+pub use endings::put_written;
+pub use lines::{put_announced, put_bound, put_line, put_pass, put_pieces, put_solution};
 pub use pieces::Piece;
 pub use refusals::{file_name, put_refusal};
 pub use shows::put_show;
+pub use steps::{put_step_behind, put_steps};
 pub use verdicts::put_verdict;

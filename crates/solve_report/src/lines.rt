@@ -2,7 +2,7 @@
 
 ghost use Rattle.std.specs.Prelude.{◌≡◌};
 ghost use Rattle.dp_base.specs.Bytes.{line};
-ghost use Rattle.solve_report.specs.Lines.{solution_text, pass_line};
+ghost use Rattle.solve_report.specs.Lines.{announced_line, bound_line, found_text, pass_line, solution_text};
 ghost use Rattle.solve_report.specs.Pieces.{pieces_text};
 ghost use Rattle.solve_report.specs.Puts.{Puts};
 
@@ -31,19 +31,32 @@ pub fn put_pieces<S: Sink>(out: &mut S, pieces: &[Piece<'_>]) -> Result<(), Fail
     end_line(out, &mut held)
 }
 
-/// Writes the line of a solution, and a line for each of its steps.
-pub fn put_solution<S: Sink>(out: &mut S, model: &Model, found: &Found) -> Result<(), Failed>
+/// Writes the line of a solution behind the words in front of it, and a line for each of its steps.
+pub(crate) fn put_found<S: Sink>(
+    out: &mut S,
+    model: &Model,
+    front: &str,
+    found: &Found,
+) -> Result<(), Failed>
     ensures { Puts (S.taken out.old) (S.taken out.new) (S.faults out.old) (S.faults out.new)
-        (solution_text model.now found.now) result }
+        (found_text front.now model.now found.now) result }
 {
     let pieces = [
-        Piece::Text("solution "),
+        Piece::Text(front),
         Piece::Signed(found.cost),
         Piece::Text(" "),
         Piece::Number(length_of(&found.steps)),
     ];
     put_pieces(out, &pieces)?;
     put_steps(out, model, found.steps.list())
+}
+
+/// Writes the line of a solution, and a line for each of its steps.
+pub fn put_solution<S: Sink>(out: &mut S, model: &Model, found: &Found) -> Result<(), Failed>
+    ensures { Puts (S.taken out.old) (S.taken out.new) (S.faults out.old) (S.faults out.new)
+        (solution_text model.now found.now) result }
+{
+    put_found(out, model, "solution ", found)
 }
 
 /// Writes the line of a pass: its number from 1, how many nodes each shard kept per layer, and how many nodes it
@@ -67,6 +80,29 @@ pub fn put_pass<S: Sink>(
         Piece::Number(visited),
         Piece::Text(" dropped "),
         Piece::Number(dropped),
+    ];
+    put_pieces(out, &pieces)
+}
+
+/// Writes the line of a bound.
+pub fn put_bound<S: Sink>(out: &mut S, cost: i64) -> Result<(), Failed>
+    ensures { Puts (S.taken out.old) (S.taken out.new) (S.faults out.old) (S.faults out.new)
+        (bound_line cost) result }
+{
+    let pieces = [Piece::Text("bound "), Piece::Signed(cost)];
+    put_pieces(out, &pieces)
+}
+
+/// Writes the line of the announced costs of a pass: how many there were, and how many calls were refused.
+pub fn put_announced<S: Sink>(out: &mut S, announced: u64, refused: u64) -> Result<(), Failed>
+    ensures { Puts (S.taken out.old) (S.taken out.new) (S.faults out.old) (S.faults out.new)
+        (announced_line announced refused) result }
+{
+    let pieces = [
+        Piece::Text("announced "),
+        Piece::Number(announced),
+        Piece::Text(" refused "),
+        Piece::Number(refused),
     ];
     put_pieces(out, &pieces)
 }
