@@ -1,6 +1,6 @@
 -- How a layer follows the one before it, which is what a reader sees of it line by line, and what a whole certificate keeps of
 -- its nodes and of its lines.
-use Rattle.std.proofs.Common.{◌≡◌, ℕ, ◌+◌, ◌&&◌, Bool, true, false, List, [], ◌∷◌, length, take, Option, Some, None, refl, sym, ap, ◌∙◌, subst, arith}
+use Rattle.std.proofs.Common.{◌≡◌, ℕ, ◌+◌, ◌&&◌, Bool, true, false, List, [], ◌∷◌, length, take, Option, Some, None, refl, ap, arith}
 use Rattle.std.specs.Prelude.{nat_lt}
 use Rattle.std.specs.List.{list_all, sum_by}
 use Rattle.dp_model.specs.declared.answers.Claim.{Claim}

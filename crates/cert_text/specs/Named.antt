@@ -1,5 +1,5 @@
 -- Which ground transitions a certificate names.
-use Rattle.std.specs.Prelude.{ℕ, ◌&&◌, Bool, true, false, nat_lt, IsTrue, List, length, Option, Some, None}
+use Rattle.std.specs.Prelude.{ℕ, ◌&&◌, Bool, true, nat_lt, IsTrue, List, length, Option, Some, None}
 use Rattle.std.specs.List.{list_all}
 use Rattle.dp_model.specs.declared.answers.Claim.{Claim}
 use Rattle.dp_model.specs.declared.answers.Claim.TheVariants as claims

@@ -4,7 +4,7 @@ ghost use Rattle.std.specs.Prelude.{◌≡◌, ◌++◌, ◌<◌, ◌^◌, IfOk,
 ghost use Rattle.std.specs.Option.{option_copied};
 ghost use Rattle.std.specs.HashMap.{get_by_text};
 ghost use Rattle.step_names.specs.StepNames.{step_named};
-ghost use Rattle.cert_text.specs.Said.{ended, flagged, is_end, last_width, layer_begun, layered, made_from, node_behind, node_said, parted, target_said, unless_none, width_said, with_node};
+ghost use Rattle.cert_text.specs.Said.{ended, flagged, is_end, last_width, layer_begun, layered, made_from, node_behind, node_said, parted, target_said, width_said, with_node};
 ghost use Rattle.cert_text.specs.Words.{behind};
 
 use crate::said::{Body, Said, Start};
