@@ -1,5 +1,5 @@
-"""Certificates: `read` gives what a text says, or its first refusal; `checked` gives None where the certificate shows its claim, and
-else the first line, in the order of the text, at which something fails."""
+"""Certificates: `Reader(model, data).cert()` gives what a text says, or its first refusal; `checked` gives None where the certificate shows
+its claim, and else the first line, in the order of the text, at which something fails."""
 
 import re
 
@@ -93,7 +93,7 @@ class Reader:
             layers.append((self.at, [self.node(before) for _ in range(number(size))]))
             before = number(size)
 
-    def read(self):
+    def cert(self):
         first, keeps_all = self.head()
         (prune,) = self.line("prune (on|off)", "`prune on` or `prune off`")
         cert = Cert(first, keeps_all, prune == "on", *self.claim(), self.layers())
@@ -103,16 +103,14 @@ class Reader:
         return cert
 
 
-def read(model, data):
-    return Reader(model, data).read()
-
-
 class Rejected(Exception):
-    """What fails at a line, and in words why: of a step that was looked at, the state with its cost so far where it leads, or a fault."""
+    """What fails at a line, and in words why: of a step that was looked at, the state with its cost so far where it leads, or a fault. Where
+    the node's own list is at fault, that step is its last one, and `leads` is false."""
 
     def __init__(self, reason, why=None, step=None, there=None, fault=None):
         super().__init__(reason)
-        self.reason, self.why, self.step, self.there, self.fault, self.line = reason, why, step, there, fault, None
+        self.reason, self.why, self.step, self.there, self.fault = reason, why, step, there, fault
+        self.line, self.leads = None, True
 
 
 class Checker:
@@ -200,6 +198,7 @@ class Checker:
 
     def test_node(self, node, here, covering):
         if isinstance(here, Rejected):
+            here.leads = False
             raise here
         if not node[2]:
             self.test_steps(*here, covering)
