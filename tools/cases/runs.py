@@ -3,8 +3,8 @@
 
 VECTORS is a folder with the files that TABLES names: lists of models, each with the words of a run and with the output
 and the status that a program which shares no code with the solver worked out. The other runs, with their answers, stand
-in small_runs.py, written by hand; in docs/GUIDE.md, from where guide_runs.py takes them; and models_check.py works out
-those of the models of models/. Texts and words that mean no good are in hostile_runs.py.
+in small_runs.py and rule_runs.py, written by hand; in docs/GUIDE.md, from where guide_runs.py takes them; and models_check.py
+works out those of the models of models/. Texts and words that mean no good are in hostile_runs.py.
 
 A case is its title, its texts, its runs (words, output, status), and its runs of which the last line is shown alone, since
 the lines before it depend on how the workers of a search take turns."""
@@ -19,6 +19,7 @@ import models_check
 from asked import asked
 from case_lines import block, entry
 from model_problems import PROBLEMS
+from rule_runs import RULES
 from small_runs import ORDERS, RUNS
 
 CRATE = "crates/cases_runs"
@@ -115,7 +116,7 @@ def write(name, cases):
 def main(folder):
     out = [write(name, of_vectors(folder, name, table, most)) for name, table, most in TABLES]
     out.append(write("small", RUNS))
-    out.append(write("orders", ORDERS))
+    out.append(write("orders", ORDERS + RULES))
     out.append(write("models", of_models()))
     out.append(write("guide", guide_runs.cases()))
     out.append(hostile_runs.write(f"{CRATE}/data/hostile.txt", hostile_runs.plain()))
