@@ -51,7 +51,9 @@ def keyed(node, kind):
             refuse(52, key, f"`{name}` is left out")
         if name not in known:
             shown = f"`{name}`" if name is not None else "a list"
-            refuse(41, key, f"{shown} is no key of a {kind}{near(name or '', known)} Its keys are: {listed(known)}")
+            other = {"domain": "problem", "problem": "domain"}.get(kind)
+            close = f"; it is one of the {other}." if other and name in KEYS[other][0] else near(name or "", known)
+            refuse(41, key, f"{shown} is no key of a {kind}{close} Its keys are: {listed(known)}")
         entries[name] = value
     for name in needed:
         if name not in entries:
