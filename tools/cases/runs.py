@@ -18,7 +18,7 @@ import hostile_runs
 import models_check
 from asked import asked
 from case_lines import block, entry
-from model_problems import PROBLEMS
+from planning_problems import PROBLEMS
 from rule_runs import RULES
 from small_runs import ORDERS, RUNS
 
