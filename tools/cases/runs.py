@@ -1,5 +1,6 @@
 #!/usr/bin/env python3
-"""Writes the cases of crates/cases_runs and what they must give: runs.py VECTORS, from the top of the repository.
+"""Writes the cases of crates/cases_runs and what they must give, the front of its stdout: runs.py VECTORS, from the top of the
+repository. Those whose texts are made when they run are written by made_runs.py.
 
 VECTORS is a folder with the files that TABLES names: lists of models, each with the words of a run and with the output
 and the status that a program which shares no code with the solver worked out. The other runs, with their answers, stand
@@ -16,13 +17,14 @@ from pathlib import Path
 import guide_runs
 import hostile_runs
 import models_check
+import stored
 from asked import asked
 from case_lines import block, entry
 from planning_problems import PROBLEMS
 from rule_runs import RULES
 from small_runs import ORDERS, RUNS
+from stored import CRATE
 
-CRATE = "crates/cases_runs"
 # The file, the table, and of how many runs of one kind the first are taken (None: all).
 TABLES = [
     ("one_variable", "first_form_one_variable", None),
@@ -120,8 +122,7 @@ def main(folder):
     out.append(write("models", of_models()))
     out.append(write("guide", guide_runs.cases()))
     out.append(hostile_runs.write(f"{CRATE}/data/hostile.txt", hostile_runs.plain()))
-    with open(f"{CRATE}/stdout", "w", encoding="utf-8") as file:
-        file.writelines(out)
+    stored.write_front("".join(out))
 
 
 main(asked(__doc__, 1, 1, "folder")[0])
