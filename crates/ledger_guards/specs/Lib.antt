@@ -1,0 +1,3 @@
+pub mod Shuttle
+pub mod Floors
+pub mod Shares
