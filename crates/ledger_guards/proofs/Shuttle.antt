@@ -210,7 +210,7 @@ there_and_back =
 betters : NoRoundBetters gaining → ⊥
 betters h = h (0 ∷ 1 ∷ []) (at 0) ((Some (pos 2), there_and_back), inner_at false 1 refl 0 refl) 0 2 (at 0) None (Some (pos 2)) (omega arith) (omega arith) (refl, refl) there_and_back (omega (arith, ints))
 
-there : Path idle (0 ∷ []) (at 1) (Some (pos 0))
+pub there : Path idle (0 ∷ []) (at 1) (Some (pos 0))
 there = (at 1, Some (pos 0), there_step true 0 refl, in_range 0 (small 0 (omega arith)), (refl, refl))
 
 not_fewer : AreStates idle (at 0 ∷ []) → ⊥

@@ -2,6 +2,7 @@
 #![tactic(auto)]
 
 ghost use Rattle.ledger_guards.specs.Floors.{LawWorkedFloor};
+ghost use Rattle.ledger_guards.specs.Forced.{LawWorkedForced};
 ghost use Rattle.ledger_guards.specs.Shares.{LawWorkedShares};
 ghost use Rattle.ledger_guards.specs.Shuttle.{LawWorkedSmall};
 
@@ -19,4 +20,9 @@ pub fn law_worked_floor()
 /// Of two nodes a share of one keeps the better one and drops the other; neither may it keep none, nor the worse one.
 pub fn law_worked_shares()
     ensures { LawWorkedShares }
+{}
+
+/// Where a forced transition is enabled no other one is considered: a visit accounts for it, and for no other.
+pub fn law_worked_forced()
+    ensures { LawWorkedForced }
 {}
