@@ -82,16 +82,38 @@ def steps_of(data):
     return None if found is None else b"".join(row + b"\n" for row in found)
 
 
-def list_of(m, path):
-    """The steps of a file with a list, or with what `solve` printed."""
+def bound_of(data):
+    """The bound that a stopped search printed before its verdict; None where there is none."""
+    rows = data.rstrip(b"\n").split(b"\n")
+    words = rows[-2].split(b" ") if len(rows) > 1 else []
+    return int(words[1]) if len(words) == 2 and words[0] == b"bound" and words[1].lstrip(b"-").isdigit() else None
+
+
+def list_and_bound(m, path):
+    """The steps of a file with a list, or with what `solve` printed, and the bound that stands there, or None."""
     data = bytes_of(path)
     try:
-        return model.read_list(m, data)
+        return model.read_list(m, data), None
     except Refused:
         steps = steps_of(data)
         if steps is None:
             raise
-        return model.read_list(m, steps)
+        return model.read_list(m, steps), bound_of(data)
+
+
+def list_of(m, path):
+    """The steps of a file with a list, or with what `solve` printed."""
+    return list_and_bound(m, path)[0]
+
+
+def gap_words(best, bound):
+    """A bound, and how far a cost is from it, in percent of the cost (of the bound, where the cost is 0)."""
+    if bound is None:
+        return ""
+    if best is None:
+        return f", bound {bound}"
+    apart, of = abs(int(best) - bound), abs(int(best)) or abs(bound)
+    return f", bound {bound}, gap {100 * apart / of if of else 0:.1f} %"
 
 
 def run_program(program, words):

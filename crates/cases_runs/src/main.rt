@@ -9,7 +9,7 @@ use std::thread::Threads;
 use std::{fs, io};
 
 /// The files of cases, in the order in which they are run.
-const FILES: [&str; 14] = [
+const FILES: [&str; 15] = [
     "one_variable.txt",
     "first_form.txt",
     "refusals.txt",
@@ -17,6 +17,7 @@ const FILES: [&str; 14] = [
     "whole.txt",
     "pruned.txt",
     "keep.txt",
+    "gap.txt",
     "field.txt",
     "profile.txt",
     "small.txt",
