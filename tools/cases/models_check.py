@@ -7,7 +7,8 @@ from the top of the repository. PROGRAM is a build of the solver; without one on
 compared, and those of the searches that docs/GUIDE.md shows. The status is 0 where all agree.
 
 Nothing here reads a model or shares code with the solver. Each problem is stated again, with its data, in two ways: as a
-class with its own states and steps, and as a plain enumeration of all solutions, which knows neither (model_problems.py).
+class with its own states and steps, and as a plain enumeration of all solutions, which knows neither (model_problems.py and
+planning_problems.py).
 For each it asks
 
 - that the best cost of all lists of steps is that of the enumeration;
@@ -28,8 +29,9 @@ from itertools import permutations, product
 from pathlib import Path
 
 from asked import asked
-from model_problems import OF_THE_GUIDE, PROBLEMS
+from model_problems import OF_THE_GUIDE
 from model_search import DEFAULT_BUDGET, Search, replayed
+from planning_problems import PROBLEMS
 
 MODELS = "models"
 GUIDE = "docs/GUIDE.md"

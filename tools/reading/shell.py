@@ -2,6 +2,7 @@
 
 import argparse
 import os
+import re
 import subprocess
 import sys
 
@@ -82,38 +83,31 @@ def steps_of(data):
     return None if found is None else b"".join(row + b"\n" for row in found)
 
 
-def bound_of(data):
-    """The bound that a stopped search printed before its verdict; None where there is none."""
-    rows = data.rstrip(b"\n").split(b"\n")
-    words = rows[-2].split(b" ") if len(rows) > 1 else []
-    return int(words[1]) if len(words) == 2 and words[0] == b"bound" and words[1].lstrip(b"-").isdigit() else None
+def list_of(m, path):
+    """The steps of a file with a list, or with what `solve` printed."""
+    return list_in(m, bytes_of(path))
 
 
-def list_and_bound(m, path):
-    """The steps of a file with a list, or with what `solve` printed, and the bound that stands there, or None."""
-    data = bytes_of(path)
+def list_in(m, data):
+    """The same of a text."""
     try:
-        return model.read_list(m, data), None
+        return model.read_list(m, data)
     except Refused:
         steps = steps_of(data)
         if steps is None:
             raise
-        return model.read_list(m, steps), bound_of(data)
+        return model.read_list(m, steps)
 
 
-def list_of(m, path):
-    """The steps of a file with a list, or with what `solve` printed."""
-    return list_and_bound(m, path)[0]
+def bound_in(data):
+    """The bound that a stopped run printed last; None where there is none."""
+    found = re.findall(rb"^bound (-?[0-9]+)\nverdict stopped ", data, re.M)
+    return int(found[-1]) if found else None
 
 
-def gap_words(best, bound):
-    """A bound, and how far a cost is from it, in percent of the cost (of the bound, where the cost is 0)."""
-    if bound is None:
-        return ""
-    if best is None:
-        return f", bound {bound}"
-    apart, of = abs(int(best) - bound), abs(int(best)) or abs(bound)
-    return f", bound {bound}, gap {100 * apart / of if of else 0:.1f} %"
+def gap(best, bound):
+    """How far a bound is from the best cost so far, in percent of that cost."""
+    return f"a gap of {100 * abs(best - bound) / abs(best):.1f} %" if best else f"a gap of {abs(bound)}"
 
 
 def run_program(program, words):
