@@ -6,3 +6,4 @@ pub mod Generated
 pub mod Fitting
 pub mod Settling
 pub mod Certifying
+pub mod Behinds

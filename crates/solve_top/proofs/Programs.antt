@@ -15,11 +15,11 @@ use Rattle.run_ends.specs.declared.solved.Solved.{Solved}
 use Rattle.dp_outside.specs.Outside.{Takes, TakesFront}
 use Rattle.run_ends.specs.Statuses.{code_of}
 use Rattle.solve_passes.specs.declared.progress.Printing.{Printing}
-use Rattle.solve_passes.specs.declared.progress.Printing.TheVariants.{All}
 use Rattle.run_ends.specs.declared.status.Status.{Status}
 use Rattle.run_ends.specs.declared.status.Status.TheVariants as statuses
 use Rattle.cert_types.specs.declared.cert.Cert.{Cert}
 use Rattle.cert_laws.specs.Checks.{checked}
+use Rattle.solve_top.specs.Behind.{Solves}
 use Rattle.solve_top.specs.Jobs.{Asks, names_of, third_of}
 use Rattle.solve_top.specs.Outcomes.{NoMemory, Solving, Replayed, Checked, Shown, ComesOf, Does, Printed}
 use Rattle.solve_top.specs.Runs.{outcome_of, RefusedBy, IsUnread, GiveNothing}
@@ -33,9 +33,9 @@ pub as_printed : {m : Model} {options : Options} {gap : Bool} {printing : Printi
 as_printed c = elim c.printed [ inl h ↦ inl (h.0, h.1) | inr h ↦ inr (h.0, h.1) ]
 
 -- a model that was loaded was searched
-pub searched : (files : List ℕ → Option (List ℕ)) (domain problem : List ℕ) (options : Options) (gap certificate : Bool) (m : Model) (before after : Option (List ℕ)) (solved : Solved) →
-    OfTexts files (domain ∷ problem ∷ []) (λ texts. MeanModel texts m) → Concluded m options gap All before after solved → Does (jobs.Solve domain problem options gap certificate) files before after solved.status
-searched files domain problem options gap certificate m before after solved texts c = λ words asks. (Solving m options gap c.run, (domain, problem, certificate, asks, texts, c.right, c.word), as_printed c)
+pub searched : (files : List ℕ → Option (List ℕ)) (domain problem : List ℕ) (options : Options) (gap certificate : Bool) (m : Model) (before after : Option (List ℕ)) (status : Status) →
+    OfTexts files (domain ∷ problem ∷ []) (λ texts. MeanModel texts m) → Solves m options gap certificate before after status → Does (jobs.Solve domain problem options gap certificate) files before after status
+searched files domain problem options gap certificate m before after status texts s = λ words asks. (Solving m options gap s.run s.behind, (domain, problem, certificate, asks, texts, s.right, s.word, s.is_behind), s.printed)
 
 -- a list was replayed, or memory ran out
 pub was_replayed : (files : List ℕ → Option (List ℕ)) (domain problem list : List ℕ) (m : Model) (steps : List ℕ) (before after : Option (List ℕ)) (status : Status) →

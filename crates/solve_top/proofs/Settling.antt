@@ -19,6 +19,7 @@ use Rattle.solve_passes.specs.Records.{Record, Ending, Ended, OutOfMemory, Right
 use Rattle.run_ends.specs.Statuses.{code_of}
 use Rattle.run_ends.specs.declared.status.Status.{Status}
 use Rattle.solve_top.specs.Answers.{CanEnd, IsSettled, IsSmall, SettlesFiles, SettlesGenerated, SettlesSmall}
+use Rattle.solve_top.specs.Behind.{Behind, Nothing, Whole, Begun, OutOfRoom, NoRoom, Broken, behind_status}
 use Rattle.solve_top.specs.Files.{IsShort, IsLong, IsText, AreTexts, AtFile, OfTexts}
 use Rattle.solve_top.specs.Jobs.{Asks, gen_options, names_of, third_of}
 use Rattle.solve_top.specs.Outcomes.{Outcome, NoMeaning, ReadFault, TooLong, Refused, NoMemory, Solving, Replayed, Checked, Shown, NoGenerated, Generated, ComesOf, Printed, outcome_status}
@@ -58,6 +59,15 @@ ends_verdict m options gap r (verdicts.Illegal n reason) right can = absurd righ
 ends_well : (m : Model) (options : Options) (gap : Bool) (r : Record) (e : Ending) → RightEnding m options gap r e → CanEnd m options → IsSettled (code_of (ending_status e))
 ends_well m options gap r (Ended v) right can = ends_verdict m options gap r v right.0 can
 ends_well m options gap r OutOfMemory right can = memory
+
+-- what stands behind a verdict settles the run too
+behind_settled : (status : Status) (behind : Behind) → IsSettled (code_of status) → IsSettled (code_of (behind_status status behind))
+behind_settled status Nothing h = h
+behind_settled status (Whole cert) h = h
+behind_settled status (Begun claim layers why) h = h
+behind_settled status (OutOfRoom claim layers) h = memory
+behind_settled status NoRoom h = memory
+behind_settled status (Broken claim layers) h = write_fault
 
 -- ---- what cannot come where a job is asked for
 
@@ -122,7 +132,7 @@ module _ (words : List (List ℕ)) (files : List ℕ → Option (List ℕ)) (dom
       let of_texts : OfTexts files (domain ∷ problem ∷ []) (λ texts. AreRefused Steps texts r) = subst (λ (job : Job). OfTexts files (names_of job) (λ texts. AreRefused (third_of job) texts r)) (same_job words h.0 (jobs.Solve domain problem options gap certificate) h.1 asks) h.2 in
       absurd (not_refused r of_texts.0 of_texts.1 of_texts.2)
   settles_as NoMemory h = memory
-  settles_as (Solving other also over run) h =
+  settles_as (Solving other also over run behind) h =
       let same : jobs.Solve h.0 h.1 also over h.2 ≡ jobs.Solve domain problem options gap certificate = same_job words (jobs.Solve h.0 h.1 also over h.2) (jobs.Solve domain problem options gap certificate) h.3 asks in
       let d : h.0 ≡ domain = cc in
       let p : h.1 ≡ problem = cc in
@@ -130,7 +140,7 @@ module _ (words : List (List ℕ)) (files : List ℕ → Option (List ℕ)) (dom
       let of_texts : OfTexts files (domain ∷ problem ∷ []) (λ texts. MeanModel texts other) =
       subst (λ (name : List ℕ). OfTexts files (domain ∷ name ∷ []) (λ texts. MeanModel texts other)) p (subst (λ (name : List ℕ). OfTexts files (name ∷ h.1 ∷ []) (λ texts. MeanModel texts other)) d h.4) in
       let is = the_model other of_texts.0 of_texts.1 of_texts.2 in
-      ends_well other also over run run.ending h.5.ending (subst (λ (x : Options). CanEnd other x) (sym o) (subst (λ (x : Model). CanEnd x options) (sym is) can))
+      behind_settled (ending_status run.ending) behind (ends_well other also over run run.ending h.5.ending (subst (λ (x : Options). CanEnd other x) (sym o) (subst (λ (x : Model). CanEnd x options) (sym is) can)))
   settles_as (Replayed other steps tells) h =
       let same : jobs.Replay h.0 h.1 h.2 ≡ jobs.Solve domain problem options gap certificate = same_job words (jobs.Replay h.0 h.1 h.2) (jobs.Solve domain problem options gap certificate) h.3 asks in
       absurd cc
@@ -198,7 +208,7 @@ module _ (words : List (List ℕ)) (files : List ℕ → Option (List ℕ)) (kin
   settles_generated_as (TooLong file) h = absurd (not_long file (names_of h.0) (no_files h.0 h.1) h.2)
   settles_generated_as (Refused r) h = absurd (no_texts (third_of h.0) r (names_of h.0) h.2.0 (no_files h.0 h.1) h.2.1 h.2.2)
   settles_generated_as NoMemory h = memory
-  settles_generated_as (Solving other also over run) h =
+  settles_generated_as (Solving other also over run behind) h =
       let same : jobs.Solve h.0 h.1 also over h.2 ≡ jobs.Gen kind size seed workers = same_job words (jobs.Solve h.0 h.1 also over h.2) (jobs.Gen kind size seed workers) h.3 asks in
       absurd cc
   settles_generated_as (Replayed other steps tells) h =

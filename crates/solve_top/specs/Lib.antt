@@ -5,3 +5,4 @@ pub mod Outcomes
 pub mod Runs
 pub mod Answers
 pub mod Certified
+pub mod Behind

@@ -4,7 +4,7 @@ use Rattle.dp_outside.specs.Outside.{Takes, TakesFront}
 use Rattle.dp_model.specs.declared.answers.Options.{Options}
 use Rattle.dp_model.specs.declared.whole.Model.{Model}
 use Rattle.run_ends.specs.Statuses.{verdict_status}
-use Rattle.solve_passes.specs.Records.{Record, Right, KeepsWord, record_text, ending_status}
+use Rattle.solve_passes.specs.Records.{Record, Right, KeepsWord, claim_of, record_text, ending_status}
 use Rattle.solve_passes.specs.declared.progress.Printing.TheVariants.{All, VerdictAlone}
 use Rattle.run_ends.specs.declared.status.Status.{Status}
 use Rattle.run_ends.specs.declared.status.Status.TheVariants as statuses
@@ -30,6 +30,7 @@ use Rattle.cert_laws.specs.declared.answers.CertReason.{CertReason}
 use Rattle.cert_laws.specs.declared.answers.CertReason.TheVariants as reasons
 use Rattle.cert_laws.specs.declared.answers.Checked.{Checked as Findings}
 use Rattle.cert_laws.specs.declared.answers.Checked.TheVariants as findings
+use Rattle.solve_top.specs.Behind.{Behind, IsBehind, behind_status, behind_text}
 use Rattle.solve_top.specs.Jobs.{Asks, AskNothing, gen_options, names_of, third_of}
 use Rattle.solve_top.specs.Files.{IsReached, IsFirstLong, OfTexts}
 use Rattle.solve_top.specs.Texts.{Means, MeanCert, MeanModel, MeanSteps, AreRefused, IsRefused}
@@ -45,8 +46,8 @@ pub data Outcome : Type 0 where
   Refused : (refusal : Refusal) → Outcome
   -- memory ran out before a model was loaded
   NoMemory : Outcome
-  -- the model was searched, with the gap asked for or not
-  Solving : (model : Model) (options : Options) (gap : Bool) (run : Record) → Outcome
+  -- the model was searched, with the gap asked for or not, and this stands behind the verdict
+  Solving : (model : Model) (options : Options) (gap : Bool) (run : Record) (behind : Behind) → Outcome
   -- a list of steps of the model was replayed
   Replayed : (model : Model) (steps : List ℕ) (told : Told) → Outcome
   -- a certificate over the model was checked
@@ -119,7 +120,7 @@ outcome_text (ReadFault file) = line (codes "read fault " ++ file_name file)
 outcome_text (TooLong file) = line (codes "too long " ++ file_name file)
 outcome_text (Refused r) = refusal_text r.place r.offset r.number
 outcome_text NoMemory = line (codes "memory")
-outcome_text (Solving model options gap run) = record_text All model run
+outcome_text (Solving model options gap run behind) = record_text All model run ++ behind_text model options behind
 outcome_text (Replayed model steps told) = verdict_text model (replay_verdict steps told)
 outcome_text (Checked model cert told) = checked_text cert.claim told
 outcome_text (Shown model) = show_text model
@@ -132,7 +133,7 @@ outcome_status (ReadFault file) = statuses.ReadFault
 outcome_status (TooLong file) = statuses.TooLong
 outcome_status (Refused r) = statuses.Refused
 outcome_status NoMemory = statuses.Memory
-outcome_status (Solving model options gap run) = ending_status run.ending
+outcome_status (Solving model options gap run behind) = behind_status (ending_status run.ending) behind
 outcome_status (Replayed model steps told) = verdict_status (replay_verdict steps told)
 outcome_status (Checked model cert told) = checked_status told
 outcome_status (Shown model) = statuses.Success
@@ -152,9 +153,10 @@ ComesOf words files (ReadFault file) = (job : Job) × Asks words job × IsReache
 ComesOf words files (TooLong file) = (job : Job) × Asks words job × IsFirstLong files (names_of job) file
 ComesOf words files (Refused r) = (job : Job) × Asks words job × OfTexts files (names_of job) (λ texts. AreRefused (third_of job) texts r)
 ComesOf words files NoMemory = Unit {0}
-ComesOf words files (Solving model options gap run) =
+ComesOf words files (Solving model options gap run behind) =
     (domain : List ℕ) × (problem : List ℕ) × (certificate : Bool) × Asks words (jobs.Solve domain problem options gap certificate)
     × OfTexts files (domain ∷ problem ∷ []) (λ texts. MeanModel texts model) × Right model options gap run × KeepsWord model options run.bound run.ending
+    × IsBehind certificate model options (claim_of run) behind
 ComesOf words files (Replayed model steps told) =
     (domain : List ℕ) × (problem : List ℕ) × (list : List ℕ) × Asks words (jobs.Replay domain problem list)
     × OfTexts files (domain ∷ problem ∷ list ∷ []) (λ texts. MeanSteps texts model steps) × (told ≡ replayed model steps)

@@ -7,6 +7,7 @@ mod files;
 mod generating;
 mod laws;
 mod loading;
+mod making;
 mod program;
 mod replaying;
 mod texts;

@@ -1,6 +1,6 @@
 //! The top call: what the program does with its words.
 
-ghost use Rattle.std.specs.Prelude.{◌≡◌, ◌≤◌, ◌<◌, ◌^◌, ◌⊎◌, ◌++◌, Bool, ℕ, List, Option, Some, None, map, string_bytes, length};
+ghost use Rattle.std.specs.Prelude.{◌≡◌, ◌≤◌, ◌<◌, ◌^◌, ◌⊎◌, ◌++◌, ℕ, List, Option, Some, None, map, string_bytes, length};
 ghost use Rattle.dp_outside.specs.Outside.{Rose};
 ghost use Rattle.dp_base.specs.Bytes.{line};
 ghost use Rattle.command_line.specs.Jobs.{job_of};
@@ -25,6 +25,7 @@ use crate::causes::NoModel;
 use crate::checking::{checked_status, put_checked};
 use crate::generating::{generate_model, kind_name};
 use crate::loading::{Claimed, Listed, load, load_claimed, load_listed};
+use crate::making::solve_and_certify;
 use crate::replaying::verdict_on;
 use cert_check::check;
 use command_line::{Job, WordsEnd, read_words};
@@ -96,17 +97,15 @@ fn solve_files<R: Threads + Wait + Sync, F: Shelf, S: Sink, G: Gate>(
     problem: &Text,
     options: &Options,
     gap: bool,
+    certificate: bool,
 ) -> Status
     requires { AreOptions options.now }
-    ensures printed { (certificate : Bool) → Does (jobs.Solve domain.now problem.now options.now gap certificate) (F.bytes_under shelf.old) (S.taken out.old) (S.taken out.new) result }
+    ensures printed { Does (jobs.Solve domain.now problem.now options.now gap certificate) (F.bytes_under shelf.old) (S.taken out.old) (S.taken out.new) result }
     ensures read_fault { result ≡ Status.ReadFault → Rose (F.faults shelf.old) (F.faults shelf.new) }
     ensures write_fault { result ≡ Status.WriteFault → Rose (S.faults out.old) (S.faults out.new) }
 {
     match load(alloc, shelf, domain, problem) {
-        Ok(model) => {
-            let solved = solve(rt, alloc, out, &model, options, gap, Printing::All, gate);
-            solved.status
-        }
+        Ok(model) => solve_and_certify(rt, alloc, out, gate, &model, options, gap, certificate),
         Err(cause) => put_cause(out, &cause),
     }
 }
@@ -315,8 +314,19 @@ fn perform_job<R: Threads + Wait + Sync, F: Shelf, S: Sink, G: Gate>(
             problem,
             options,
             gap,
-            ..
-        } => solve_files(rt, alloc, shelf, out, gate, domain, problem, options, *gap),
+            certificate,
+        } => solve_files(
+            rt,
+            alloc,
+            shelf,
+            out,
+            gate,
+            domain,
+            problem,
+            options,
+            *gap,
+            *certificate,
+        ),
         Job::Replay {
             domain,
             problem,
