@@ -93,18 +93,9 @@ free_job [] told job e = e
 free_job (kind ∷ kinds) told job e = absurd cc
 
 solve_fits : (domain problem workers budget prune keep gap certificate : Option (List ℕ)) (job : Job) → solve_job domain problem workers budget prune keep gap certificate ≡ Some job → JobFits job
-solve_fits (Some domain) (Some problem) workers budget prune keep gap certificate job e =
-    let whole : Asked → Job = λ (asked : Asked). jobs.Solve domain problem asked.options asked.gap asked.certificate in
-    let a = map_some whole (asked_of (options_of workers budget prune keep) gap certificate) job e in
-    let with_options = λ (options : Options). option_and_then (λ (g : Bool). option_map (λ (c : Bool). record { options = options; gap = g; certificate = c }) (on_or_off false certificate)) (on_or_off false gap) in
-    let o = then_some with_options (options_of workers budget prune keep) a.0 a.1 in
-    let with_gap = λ (g : Bool). option_map (λ (c : Bool). record { options = o.0; gap = g; certificate = c }) (on_or_off false certificate) in
-    let g = then_some with_gap (on_or_off false gap) a.0 o.2 in
-    let with_certificate : Bool → Asked = λ (c : Bool). record { options = o.0; gap = g.0; certificate = c } in
-    let c = map_some with_certificate (on_or_off false certificate) a.0 g.2 in
-    subst JobFits a.2 (subst (λ (asked : Asked). AreOptions asked.options) c.2 (options_fit workers budget prune keep o.0 o.1))
-solve_fits (Some domain) None workers budget prune keep gap certificate job e = absurd cc
-solve_fits None problem workers budget prune keep gap certificate job e = absurd cc
+solve_fits domain problem workers budget prune keep gap certificate job e =
+    let s = is_search domain problem workers budget prune keep gap certificate job e in
+    subst JobFits (sym s.is) (options_fit workers budget prune keep s.given s.are)
 
 replay_fits : (domain problem list : Option (List ℕ)) (job : Job) → replay_job domain problem list ≡ Some job → JobFits job
 replay_fits (Some domain) (Some problem) (Some list) job e = subst JobFits (some_one (jobs.Replay domain problem list) job e) tt
