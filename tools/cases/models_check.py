@@ -96,6 +96,7 @@ def look_through(problem):
 
 BUDGETS = (1, 5, 20)
 LONG_BUDGET = 10_000
+GAP_BUDGETS = (20, LONG_BUDGET)
 WORKERS = (2, 4)
 WORKERS_OF_ALL = (2, 7)
 KEEPS = {"layer": [], "all": ["--keep", "all"]}
@@ -109,8 +110,8 @@ def files_of(problem):
 
 
 @cache
-def searched(problem, prune, budget=DEFAULT_BUDGET, keep="layer"):
-    search = Search(problem, prune, budget, keep)
+def searched(problem, prune, budget=DEFAULT_BUDGET, keep="layer", gap=False):
+    search = Search(problem, prune, budget, keep, gap)
     text, status = search.run()
     return text, status, search.list
 
@@ -127,6 +128,8 @@ def solve_runs(problem):
             yield [*words, *KEEPS[keep]], *searched(problem, prune, keep=keep)[:2]
     for budget in (*BUDGETS, LONG_BUDGET) if problem.comes_back else BUDGETS:
         yield ["--budget", str(budget)], *searched(problem, True, budget)[:2]
+    for budget in GAP_BUDGETS:
+        yield ["--gap", "on", "--budget", str(budget)], *searched(problem, True, budget, gap=True)[:2]
 
 
 def last_runs(problem):

@@ -34,6 +34,7 @@ TABLES = [
     ("whole", "models", 3),
     ("pruned", "pruned", 3),
     ("keep", "keep", 4),
+    ("gap", "gap", 1),
     ("field", "field", None),
     ("profile", "profile2", 4),
 ]
@@ -51,11 +52,12 @@ def told(words):
 
 
 def kind(case):
-    """What a run comes to; of a search also whether it found no solution, one or more, and made no pass, one, two or more."""
+    """What a run comes to; of a search also whether it found no solution, one or more, made no pass, one, two or more, and printed a bound."""
     lines = [line.split(" ") for line in case["stdout"].splitlines()]
     found = [told(words) for words in lines if words[0] in ("refused", "verdict")]
     counts = [sum(words[0] == name for words in lines) for name in ("solution", "pass")]
-    return [*found[0], str(min(counts[0], 2)), str(min(counts[1], 3))]
+    bound = ["bound"] * any(words[0] == "bound" for words in lines)
+    return [*found[0], str(min(counts[0], 2)), str(min(counts[1], 3)), *bound]
 
 
 def chosen(cases, most):

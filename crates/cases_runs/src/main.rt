@@ -13,7 +13,7 @@ use std::thread::{Builder, Threads};
 use std::{fs, io, thread};
 
 /// The files of cases, in the order in which they are run.
-const FILES: [&str; 14] = [
+const FILES: [&str; 15] = [
     "one_variable.txt",
     "first_form.txt",
     "refusals.txt",
@@ -21,6 +21,7 @@ const FILES: [&str; 14] = [
     "whole.txt",
     "pruned.txt",
     "keep.txt",
+    "gap.txt",
     "field.txt",
     "profile.txt",
     "small.txt",

@@ -4,7 +4,7 @@ ghost use Rattle.std.specs.Prelude.{◌≡◌, ◌≤◌, ◌⊎◌, codes};
 ghost use Rattle.dp_outside.specs.Outside.{Rose, Takes, TakesFront};
 ghost use Rattle.dp_base.specs.Bytes.{line};
 ghost use Rattle.solve_report.specs.Lines.{verdict_text};
-ghost use Rattle.solve_passes.specs.Records.{verdict_status};
+ghost use Rattle.run_ends.specs.Statuses.{verdict_status};
 
 use crate::status::Status;
 use dp_model::{Model, Verdict};

@@ -1,7 +1,7 @@
 //! How a run of the program ends.
 
 ghost use Rattle.std.specs.Prelude.{◌≡◌, OnOk, OnErr};
-ghost use Rattle.solve_passes.specs.Statuses.{code_of};
+ghost use Rattle.run_ends.specs.Statuses.{code_of};
 
 use dp_outside::Failed;
 
