@@ -1,5 +1,5 @@
 -- Members of lists, and what a history has after an event.
-use Rattle.std.proofs.Common.{◌≡◌, ℕ, zero, suc, ◌⊎◌, inl, inr, List, [], ◌∷◌, ◌++◌, map, slice_get, Some, refl, sym, subst, ◌∙◌, ap, append-nil, arith}
+use Rattle.std.proofs.Common.{◌≡◌, ℕ, zero, suc, ◌⊎◌, inl, inr, List, [], ◌∷◌, ◌++◌, map, slice_get, Some, subst, ◌∙◌, ap, append-nil, arith}
 use Rattle.std.specs.List.{All}
 use Rattle.dp_claims.specs.Enough.{Has}
 use Rattle.state_layout.specs.declared.node.Node.{Node}

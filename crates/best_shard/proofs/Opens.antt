@@ -1,5 +1,5 @@
 -- A node comes to the open ones as the store adds it, or not.
-use Rattle.std.proofs.Common.{◌≡◌, ◌⊎◌, inl, inr, Bool, List, [], ◌∷◌, sym, subst, refl, ◌∙◌}
+use Rattle.std.proofs.Common.{◌≡◌, ◌⊎◌, inl, inr, Bool, List, [], sym, subst}
 use Rattle.std.specs.Prelude.{Option, Some, None, IfSome, Result, Ok, Err, OnOk}
 use Rattle.dp_claims.specs.Enough.{Has}
 use Rattle.dp_claims.proofs.Covering.{reflexive}

@@ -2,7 +2,6 @@
 use Rattle.std.proofs.Common.{◌≡◌, ℕ, ◌<◌, ◌⊎◌, inl, inr, Bool, true, false, List, [], ◌∷◌, ◌++◌, length, map, Option, Some, None, refl, sym, subst, ap, ◌∙◌, arith}
 use Rattle.std.specs.Prelude.{IfSome, IfNone, IsTrue, ◌↔◌, ℤ, pos, ◌≤ℤ◌}
 use Rattle.cost_laws.specs.Orders.{InWideRange, IsLawOf}
-use Rattle.dp_claims.specs.Enough.{Has}
 use Rattle.dp_model.specs.Costs.{InRange, order_word}
 use Rattle.dp_model.specs.declared.parts.JoinOp.{JoinOp}
 use Rattle.dp_steps.specs.States.{Inner}
@@ -10,19 +9,19 @@ use Rattle.dom_store.specs.Contents.{Contents}
 use Rattle.dom_store.specs.Popping.{IsBestOf}
 use Rattle.state_layout.specs.Conditions.{IsNodeOf, IsNodeFor}
 use Rattle.state_layout.specs.declared.node.Node.{Node}
-use Rattle.pass_ledger.specs.Passes.{Pass, IsStart, Prunes, StartsInner}
+use Rattle.pass_ledger.specs.Passes.{Pass, Prunes, StartsInner}
 use Rattle.pass_ledger.specs.Records.{Starts}
 use Rattle.pass_ledger.specs.declared.records.Held.{Held}
 use Rattle.pass_ledger.specs.declared.records.PrunedAt.{PrunedAt}
 use Rattle.pass_ledger.proofs.Lists.{has_cases}
-use Rattle.best_ledger.specs.Events.{prune, CanPrune, IsWithout}
+use Rattle.best_ledger.specs.Events.{CanPrune}
 use Rattle.best_ledger.specs.Histories.{HasCome, visits_in}
 use Rattle.best_ledger.specs.Logs.{entry_of}
 use Rattle.best_ledger.specs.Records.{IsHeld}
 use Rattle.best_ledger.specs.declared.records.BestRecord.{BestRecord}
 use Rattle.best_ledger.specs.declared.records.BestVisit.{BestVisit}
 use Rattle.best_ledger.specs.declared.records.Moment.{Moment}
-use Rattle.best_ledger.specs.declared.records.Moment.TheVariants.{Came, Visited, Pruned}
+use Rattle.best_ledger.specs.declared.records.Moment.TheVariants.{Visited, Pruned}
 use Rattle.best_ledger.proofs.Moments.{all_pruned, none_came, came_back}
 use Rattle.best_ledger.proofs.Posts.{own_law}
 use Rattle.best_ledger.proofs.Steps.{without_this}

@@ -1,11 +1,11 @@
 -- A shard that hands out a letter stands for the record that posted it.
-use Rattle.std.proofs.Common.{◌≡◌, ℕ, ◌<◌, zero, List, [], ◌∷◌, ◌++◌, refl, sym, subst, ap, ◌∙◌}
+use Rattle.std.proofs.Common.{◌≡◌, ℕ, ◌<◌, zero, List, [], ◌∷◌, refl, sym, subst, ◌∙◌}
 use Rattle.std.specs.Prelude.{Option, Some, None, IfNone}
 use Rattle.std.specs.declared.alloc.Global.{Global}
 use Rattle.std.specs.declared.collections.VecDeque.{VecDeque}
 use Rattle.dp_claims.specs.Enough.{Has}
 use Rattle.pass_ledger.specs.Passes.{Pass}
-use Rattle.best_ledger.specs.Events.{post, CanPost}
+use Rattle.best_ledger.specs.Events.{CanPost}
 use Rattle.best_ledger.specs.declared.records.BestRecord.{BestRecord}
 use Rattle.best_ledger.specs.declared.records.ToPost.{ToPost}
 use Rattle.best_ledger.proofs.Posts.{own_law}

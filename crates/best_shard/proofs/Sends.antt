@@ -1,5 +1,5 @@
 -- Nodes that go to the letters.
-use Rattle.std.proofs.Common.{◌≡◌, ℕ, List, [], ◌∷◌, ◌++◌, map, refl, sym, ◌∙◌, ap, append_assoc}
+use Rattle.std.proofs.Common.{◌≡◌, List, [], ◌∷◌, ◌++◌, map, sym, ◌∙◌, ap, append_assoc}
 use Rattle.state_layout.specs.declared.node.Node.{Node}
 use Rattle.best_ledger.specs.declared.records.ToPost.{ToPost}
 

@@ -1,5 +1,5 @@
 -- A new shard stands for the record of a shard that has not begun.
-use Rattle.std.proofs.Common.{◌≡◌, ℕ, [], Option, Some, None, refl, sym, subst, ap, ◌∙◌}
+use Rattle.std.proofs.Common.{◌≡◌, [], Option, Some, None, refl}
 use Rattle.state_layout.specs.Conditions.{IsNodeOf}
 use Rattle.state_layout.specs.declared.node.Node.{Node}
 use Rattle.pass_ledger.specs.Passes.{Pass}

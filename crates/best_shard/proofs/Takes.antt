@@ -3,16 +3,15 @@ use Rattle.std.proofs.Common.{◌≡◌, ℕ, ◌≤◌, inl, inr, List, [], ◌
 use Rattle.dp_claims.specs.Enough.{Has}
 use Rattle.dp_claims.specs.Dominance.{Covers}
 use Rattle.dom_store.specs.Contents.{Contents, Apart}
-use Rattle.dom_store.specs.Past.{Past, IsPast, past_node}
+use Rattle.dom_store.specs.Past.{Past, IsPast}
 use Rattle.dom_store.specs.declared.past_node.PastNode.{PastNode}
-use Rattle.path_log.specs.declared.logs.Entry.{Entry}
 use Rattle.state_layout.specs.Conditions.{IsNodeFor}
 use Rattle.state_layout.specs.declared.layout.Layout.{Layout}
 use Rattle.state_layout.specs.declared.node.Node.{Node}
-use Rattle.pass_ledger.specs.Passes.{Pass, CoversNode}
+use Rattle.pass_ledger.specs.Passes.{Pass}
 use Rattle.pass_ledger.specs.Rows as rows
-use Rattle.pass_ledger.proofs.Lists.{has_none, has_map}
-use Rattle.best_ledger.specs.Events.{take_letter, CanTake, IsPastCovered}
+use Rattle.pass_ledger.proofs.Lists.{has_map}
+use Rattle.best_ledger.specs.Events.{CanTake, IsPastCovered}
 use Rattle.best_ledger.specs.Histories.{visits_in, IsNew}
 use Rattle.best_ledger.specs.Logs.{entry_of}
 use Rattle.best_ledger.specs.declared.letters.BestLetter.{BestLetter}

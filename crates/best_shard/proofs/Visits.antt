@@ -1,5 +1,5 @@
 -- A shard that visits the node that it picked stands for the record that visited it.
-use Rattle.std.proofs.Common.{◌≡◌, ℕ, ◌+◌, ◌≤◌, ◌<◌, inl, inr, zero, suc, Bool, List, [], ◌∷◌, ◌++◌, length, map, Option, Some, None, Ok, Err, refl, sym, subst, ◌∙◌, ap, arith}
+use Rattle.std.proofs.Common.{◌≡◌, ℕ, ◌+◌, ◌≤◌, inl, inr, suc, Bool, List, [], ◌∷◌, ◌++◌, length, map, Option, Some, None, Ok, Err, refl, sym, subst, ◌∙◌, ap, arith}
 use Rattle.std.specs.Prelude.{ℤ, pos, is_some, IfSome, Result}
 use Rattle.std.proofs.lemmas.List.{length_push, map-append}
 use Rattle.std.specs.declared.alloc.Global.{Global}
@@ -39,7 +39,7 @@ use Rattle.best_ledger.specs.Records.{node_to_post, to_post}
 use Rattle.best_ledger.specs.declared.records.BestRecord.{BestRecord}
 use Rattle.best_ledger.specs.declared.records.BestVisit.{BestVisit}
 use Rattle.best_ledger.specs.declared.records.Moment.{Moment}
-use Rattle.best_ledger.specs.declared.records.Moment.TheVariants.{Came, Visited, Pruned}
+use Rattle.best_ledger.specs.declared.records.Moment.TheVariants.{Pruned}
 use Rattle.best_ledger.specs.declared.records.ToPost.{ToPost}
 use Rattle.best_ledger.proofs.Moments.{came_back, no_letters}
 use Rattle.best_ledger.proofs.Posts.{own_law}
@@ -62,7 +62,7 @@ use Rattle.shard_core.proofs.Visits.{expands_in}
 use Rattle.spot_eval.specs.declared.ends.SpotFault.{SpotFault}
 use Rattle.best_shard.specs.Calls.{IsVisit, IsFaulted}
 use Rattle.best_shard.specs.Outgoing.{addressed}
-use Rattle.best_shard.specs.Stands.{Stands, Holds, Follows, IsClock, Ends, EndsAs, past_visit}
+use Rattle.best_shard.specs.Stands.{Holds, Follows, IsClock, Ends, EndsAs, past_visit}
 use Rattle.best_shard.specs.declared.shard.BestShard.{BestShard}
 use Rattle.best_shard.proofs.Lists.{map_has, all_has, visits_after, visit_cases}
 use Rattle.best_shard.proofs.Picks.{picked_good}
