@@ -357,7 +357,7 @@ MEANINGLESS = [
     "replay d p l l", "replay -- d p", "gen -- path 2", "gen path 2 0 -- 0", "gen path 2 0 1",
     # other commands
     " ", "--", "-- solve d p", "SOLVE d p", "sol d p", "solve-d p", "help", "help solve", "-h", "--help", "-V", "--version", "solve d p --help", "solve d p -h",
-    "solve d p --version", "show -h", "gen --help", "replay --help d p l", "solve help", "--prune off solve d p", "--workers=1 solve d p", "check d p l", "\u00a0solve d p",
+    "solve d p --version", "show -h", "gen --help", "replay --help d p l", "solve help", "--prune off solve d p", "--workers=1 solve d p", "check d p", "\u00a0solve d p",
     "solved d p", "\u0455olve d p",
 ]
 
