@@ -4,10 +4,9 @@ ghost use Rattle.std.specs.Prelude.{◌≡◌, ℕ, Bool, true, false};
 ghost use Rattle.board_words.specs.Seats.{BoardFacts, SeatFacts};
 
 use board_words::{Board, BoardSeat};
-use dp_outside::Gate;
 use std::sync::Wait;
 
-/// What all players share: the board, what they send one another by, and the gate of their turns.
+/// What all players share: the board, and what they send one another by; and the gate that each passes before a turn.
 pub struct Floor<'a, X, G> {
     pub board: &'a Board,
     pub boxes: &'a X,
@@ -35,7 +34,7 @@ pub struct Pulse {
     pub letters: u64,
 }
 
-/// What threads turn: it takes turns until it has ended, over a floor that it shares with others, and at a seat of its own.
+/// What threads turn: it takes turns until it has ended, over what it shares with others, and at a seat of its own.
 ///
 /// What it is held to is told by `Terms`: whatever a player with its seat kept before a turn, it keeps after the turn.
 pub trait Player: Drop {
@@ -51,16 +50,16 @@ pub trait Player: Drop {
     ghost has_ended: { Self → Bool };
 
     /// One turn. It waits for nobody but within the boxes.
-    fn turn<R: Wait, G: Gate>(
-        &mut self,
-        rt: &R,
-        floor: &Floor<Self::Boxes, G>,
-        seat: &mut BoardSeat,
-    )
-        requires held { (t : Self.Terms) × keeps t floor.now.board.now floor.now.boxes.now self.old seat.old }
+    fn turn<R: Wait>(&mut self, rt: &R, board: &Board, boxes: &Self::Boxes, seat: &mut BoardSeat)
+        requires held { (t : Self.Terms) × keeps t board.now boxes.now self.old seat.old }
         requires goes_on { has_ended self.old ≡ false }
-        ensures { (t : Self.Terms) → keeps t floor.now.board.now floor.now.boxes.now self.old seat.old
-            → keeps t floor.now.board.now floor.now.boxes.now self.new seat.new };
+        ensures { (t : Self.Terms) → keeps t board.now boxes.now self.old seat.old → keeps t board.now boxes.now self.new seat.new };
+
+    /// The number by which a gate knows it.
+    fn number(&self) -> u32;
+
+    /// How many turns it took, for a gate.
+    fn turns(&self) -> u64;
 
     /// Whether it takes no more turns.
     fn has_ended(&self) -> bool

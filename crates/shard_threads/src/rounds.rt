@@ -14,7 +14,7 @@ use std::sync::Wait;
 /// After so many rounds of turns a thread looks whether its players have ended or have nothing to do.
 const ROUNDS: u32 = 8;
 
-/// One turn of a player, unless it has ended.
+/// One turn of a player after the gate, unless it has ended.
 #[inline]
 pub(crate) fn turn_one<P: Player, R: Wait, G: Gate>(
     rt: &R,
@@ -25,7 +25,12 @@ pub(crate) fn turn_one<P: Player, R: Wait, G: Gate>(
     ensures { Stays P.keeps floor.now.board.now floor.now.boxes.now seated.old seated.new }
 {
     if !seated.player.has_ended() {
-        seated.player.turn(rt, floor, &mut seated.seat);
+        floor
+            .gate
+            .turn(seated.player.number(), seated.player.turns());
+        seated
+            .player
+            .turn(rt, floor.board, floor.boxes, &mut seated.seat);
     }
 }
 
