@@ -1,6 +1,7 @@
 """The problems of models/, stated again with their data: as states and steps, and as a plain enumeration of all solutions.
 
-Nothing here reads a model. models_check.py compares the two, and searches the states."""
+Nothing here reads a model. models_check.py compares the two, and searches the states. planning_problems.py has more of them, and the list of
+all."""
 
 import math
 from functools import cache

@@ -10,8 +10,9 @@ DEFAULT_BUDGET = 10_000_000
 class Search:
     """Complete anytime beam search with one worker, and what it prints."""
 
-    def __init__(self, problem, prune=True, budget=DEFAULT_BUDGET, keep="layer"):
-        self.problem, self.prune, self.budget, self.keep = problem, prune, budget, keep
+    def __init__(self, problem, prune=True, budget=DEFAULT_BUDGET, keep="layer", gap=False):
+        self.problem, self.prune, self.budget, self.keep, self.gap = problem, prune, budget, keep, gap
+        self.bound = None  # what the passes have proved: no list is better
         self.best = math.inf  # the word of the best total so far
         self.drawn = 0
         self.list = ()  # the last that was printed
@@ -71,17 +72,17 @@ class Search:
         return found
 
     def one_pass(self, share):
-        """Answers how many were visited and dropped, the best that was found, and whether the budget was spent."""
+        """Answers how many were visited, the floors of the dropped nodes, the best that was found, and whether the budget was spent."""
         start = self.problem.start()
         layer = [(start, None, self.floor(start, None), ())]
-        visited = dropped = 0
+        visited, dropped = 0, []
         held = None
         past = []  # the kept nodes of all layers before, where they cover too
         while layer:
             layer = [node for node in layer if not any(self.covers(before, node) for before in past)]
             # nodes stand in the order of adding, which a stable sort keeps
             layer.sort(key=lambda n: (self.word(n[1] if n[2] is None else n[2]), self.word(n[1])))
-            dropped += len(layer[share:])
+            dropped += [node[2] for node in layer[share:]]
             if self.keep == "all":
                 past += layer[:share]
             following = []
@@ -103,6 +104,19 @@ class Search:
     def tell(self, cost, path):
         self.lines += [f"solution {cost} {len(path)}", *path]
 
+    def better(self, a, b):
+        return min(a, b, key=self.word)
+
+    def prove(self, dropped, best):
+        """Counts in what a pass proves that was closed: where all that it dropped have floors, that no list is better than the best so
+        far and the best floor. Answers whether the best so far is proved."""
+        if not (self.gap and dropped) or None in dropped:
+            return False
+        floor = min(dropped, key=self.word)
+        by_pass = floor if best is None else self.better(best, floor)
+        self.bound = by_pass if self.bound is None else max(self.bound, by_pass, key=self.word)
+        return best is not None and self.word(best) <= self.word(floor)
+
     def run(self):
         """The text and the status."""
         printed = None
@@ -119,10 +133,12 @@ class Search:
                 printed = held[0]
                 self.list = held[1]
                 self.tell(*held)
-            self.lines.append(f"pass {number} share {share} visited {visited} dropped {dropped}")
+            self.lines.append(f"pass {number} share {share} visited {visited} dropped {len(dropped)}")
             if halted:
+                if self.bound is not None:
+                    self.lines.append(f"bound {self.bound}")
                 return self.told(f"verdict stopped {self.drawn}", 11)
-            if not dropped:
+            if not dropped or self.prove(dropped, printed):
                 return self.told("verdict infeasible", 10) if printed is None else self.told(f"verdict optimal {printed}", 0)
             number, share = number + 1, 2 * share
 

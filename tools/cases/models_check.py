@@ -7,7 +7,8 @@ from the top of the repository. PROGRAM is a build of the solver; without one on
 compared, and those of the searches that docs/GUIDE.md shows. The status is 0 where all agree.
 
 Nothing here reads a model or shares code with the solver. Each problem is stated again, with its data, in two ways: as a
-class with its own states and steps, and as a plain enumeration of all solutions, which knows neither (model_problems.py).
+class with its own states and steps, and as a plain enumeration of all solutions, which knows neither (model_problems.py and
+planning_problems.py).
 For each it asks
 
 - that the best cost of all lists of steps is that of the enumeration;
@@ -28,8 +29,9 @@ from itertools import permutations, product
 from pathlib import Path
 
 from asked import asked
-from model_problems import OF_THE_GUIDE, PROBLEMS
+from model_problems import OF_THE_GUIDE
 from model_search import DEFAULT_BUDGET, Search, replayed
+from planning_problems import PROBLEMS
 
 MODELS = "models"
 GUIDE = "docs/GUIDE.md"
@@ -94,6 +96,7 @@ def look_through(problem):
 
 BUDGETS = (1, 5, 20)
 LONG_BUDGET = 10_000
+GAP_BUDGETS = (20, LONG_BUDGET)
 WORKERS = (2, 4)
 WORKERS_OF_ALL = (2, 7)
 KEEPS = {"layer": [], "all": ["--keep", "all"]}
@@ -107,8 +110,8 @@ def files_of(problem):
 
 
 @cache
-def searched(problem, prune, budget=DEFAULT_BUDGET, keep="layer"):
-    search = Search(problem, prune, budget, keep)
+def searched(problem, prune, budget=DEFAULT_BUDGET, keep="layer", gap=False):
+    search = Search(problem, prune, budget, keep, gap)
     text, status = search.run()
     return text, status, search.list
 
@@ -125,6 +128,8 @@ def solve_runs(problem):
             yield [*words, *KEEPS[keep]], *searched(problem, prune, keep=keep)[:2]
     for budget in (*BUDGETS, LONG_BUDGET) if problem.comes_back else BUDGETS:
         yield ["--budget", str(budget)], *searched(problem, True, budget)[:2]
+    for budget in GAP_BUDGETS:
+        yield ["--gap", "on", "--budget", str(budget)], *searched(problem, True, budget, gap=True)[:2]
 
 
 def last_runs(problem):

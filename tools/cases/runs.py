@@ -1,10 +1,11 @@
 #!/usr/bin/env python3
-"""Writes the cases of crates/cases_runs and what they must give: runs.py VECTORS, from the top of the repository.
+"""Writes the cases of crates/cases_runs and what they must give, the front of its stdout: runs.py VECTORS, from the top of the
+repository. Those whose texts are made when they run are written by made_runs.py.
 
 VECTORS is a folder with the files that TABLES names: lists of models, each with the words of a run and with the output
 and the status that a program which shares no code with the solver worked out. The other runs, with their answers, stand
-in small_runs.py, written by hand; in docs/GUIDE.md, from where guide_runs.py takes them; and models_check.py works out
-those of the models of models/. Texts and words that mean no good are in hostile_runs.py.
+in small_runs.py and rule_runs.py, written by hand; in docs/GUIDE.md, from where guide_runs.py takes them; and models_check.py
+works out those of the models of models/. Texts and words that mean no good are in hostile_runs.py.
 
 A case is its title, its texts, its runs (words, output, status), and its runs of which the last line is shown alone, since
 the lines before it depend on how the workers of a search take turns."""
@@ -16,12 +17,14 @@ from pathlib import Path
 import guide_runs
 import hostile_runs
 import models_check
+import stored
 from asked import asked
 from case_lines import block, entry
-from model_problems import PROBLEMS
+from planning_problems import PROBLEMS
+from rule_runs import RULES
 from small_runs import ORDERS, RUNS
+from stored import CRATE
 
-CRATE = "crates/cases_runs"
 # The file, the table, and of how many runs of one kind the first are taken (None: all).
 TABLES = [
     ("one_variable", "first_form_one_variable", None),
@@ -31,6 +34,7 @@ TABLES = [
     ("whole", "models", 3),
     ("pruned", "pruned", 3),
     ("keep", "keep", 4),
+    ("gap", "gap", 1),
     ("field", "field", None),
     ("profile", "profile2", 4),
 ]
@@ -48,11 +52,12 @@ def told(words):
 
 
 def kind(case):
-    """What a run comes to; of a search also whether it found no solution, one or more, and made no pass, one, two or more."""
+    """What a run comes to; of a search also whether it found no solution, one or more, made no pass, one, two or more, and printed a bound."""
     lines = [line.split(" ") for line in case["stdout"].splitlines()]
     found = [told(words) for words in lines if words[0] in ("refused", "verdict")]
     counts = [sum(words[0] == name for words in lines) for name in ("solution", "pass")]
-    return [*found[0], str(min(counts[0], 2)), str(min(counts[1], 3))]
+    bound = ["bound"] * any(words[0] == "bound" for words in lines)
+    return [*found[0], str(min(counts[0], 2)), str(min(counts[1], 3)), *bound]
 
 
 def chosen(cases, most):
@@ -115,12 +120,11 @@ def write(name, cases):
 def main(folder):
     out = [write(name, of_vectors(folder, name, table, most)) for name, table, most in TABLES]
     out.append(write("small", RUNS))
-    out.append(write("orders", ORDERS))
+    out.append(write("orders", ORDERS + RULES))
     out.append(write("models", of_models()))
     out.append(write("guide", guide_runs.cases()))
     out.append(hostile_runs.write(f"{CRATE}/data/hostile.txt", hostile_runs.plain()))
-    with open(f"{CRATE}/stdout", "w", encoding="utf-8") as file:
-        file.writelines(out)
+    stored.write_front("".join(out))
 
 
 main(asked(__doc__, 1, 1, "folder")[0])

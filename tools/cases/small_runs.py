@@ -740,6 +740,11 @@ verdict optimal 14
 """
 
 
+# The node that pass 2 drops has the floor 15, and that of pass 1 the floor 13.
+TOUR_GAP_OUT = TOUR_OUT.split("pass 3")[0] + "verdict optimal 14\n"
+TOUR_BOUND_OUT = TOUR_OUT.split("solution 14")[0] + "pass 2 share 2 visited 1 dropped 0\nbound 13\nverdict stopped 5\n"
+
+
 def told(*lines):
     return "".join(f"{line}\n" for line in lines)
 
@@ -786,7 +791,13 @@ RULES = [
     (
         "a tour with time windows",
         [("domain", TOUR), ("problem", TOUR_OF_FOUR)],
-        [(ON, TOUR_OUT, 0), (words("solve d p --budget 24"), TOUR_OUT, 0)],
+        [
+            (ON, TOUR_OUT, 0),
+            (words("solve d p --budget 24"), TOUR_OUT, 0),
+            (words("solve d p --gap off"), TOUR_OUT, 0),
+            (words("solve d p --gap on"), TOUR_GAP_OUT, 0),
+            (words("solve d p --gap on --budget 5"), TOUR_BOUND_OUT, 11),
+        ],
         [
             *((words(f"solve d p --workers {workers}"), *OPTIMAL_TOUR) for workers in (1, 2, 7, 64)),
             *((words(f"solve d p --budget 24 --workers {workers}"), *OPTIMAL_TOUR) for workers in (1, 2, 3, 64)),

@@ -3,13 +3,14 @@
 
 VECTORS is a folder with yaml_profile.json and expressions.json: lists of texts, each with its tree or expression, or
 with its refusal, worked out by programs that share no code with the readers. Block scalars stand in block_texts.py, also where the
-table refuses them. The lines of files are worked out here."""
+table refuses them; texts that each hold one rule of the profile stand in profile_texts.py. The lines of files are worked out here."""
 
 import json
 
 from asked import asked
 from block_texts import READ, REFUSED
 from case_lines import entry, escaped, unescaped_bytes
+from profile_texts import TEXTS
 
 CRATE = "crates/cases_texts"
 
@@ -99,6 +100,7 @@ def main(folder):
     yaml = [("yaml", text, blocks.pop(text.encode(), answer)) for text, answer in read(folder, "yaml_profile", "tree", tree)]
     yaml.append(("yaml", b"a: \xff\n", "refused 1:4 10 NotUtf8"))
     yaml += [("yaml", *it) for it in blocks.items()]
+    yaml += [("yaml", unescaped_bytes(text), answer) for text, answer in TEXTS]
     cases = {
         "lines": [("lines", it, lines_of(it)) for it in FILES],
         "yaml": yaml,

@@ -1,11 +1,11 @@
 #!/usr/bin/env python3
-"""Runs the cases of crates/cases_runs and crates/cases_hostile through a built program, and shows where it prints something else than
-their files stdout:
+"""Runs the cases of crates/cases_runs through a built program, and shows where it prints something else than
+its file stdout:
 
     python3 tools/cases/through.py PROGRAM [FILE ..]
 
-from the top of the repository; FILE is a name in data/ without its ending, all of them where none is given. The crates themselves
-run them in memory, in the gate; this needs only a program, and no build. Texts that are filled when a case runs, cut at each byte
+from the top of the repository; FILE is a name in data/ without its ending, all of them where none is given. The crate itself
+runs them in memory, in the gate; this needs only a program, and no build. Texts that are filled when a case runs, cut at each byte
 or given noise are made here too; for cuts and noise the program is run thousands of times. The status is 0 where all agree."""
 
 import os
@@ -18,7 +18,7 @@ import made_texts
 from asked import asked
 from case_lines import unescaped_bytes
 
-CRATES = [Path("crates/cases_runs"), Path("crates/cases_hostile")]
+CRATE = Path("crates/cases_runs")
 TEXTS = {"domain": "d", "problem": "p", "list": "l"}
 
 
@@ -90,7 +90,7 @@ class Runs:
 
 
 def printed(program, path):
-    """What a crate prints for a file of cases: a piece for each case."""
+    """What the crate prints for a file of cases: a piece for each case."""
     pieces = []
     with tempfile.TemporaryDirectory() as folder:
         runs = Runs(program, folder)
@@ -104,12 +104,12 @@ def printed(program, path):
 
 def wanted():
     """What must be printed, by the first line of a case."""
-    texts = ("\n" + (crate / "stdout").read_text(encoding="utf-8") for crate in CRATES)
-    return [f"== {piece}".removesuffix("\n") + "\n" for text in texts for piece in text.split("\n== ")[1:]]
+    text = "\n" + (CRATE / "stdout").read_text(encoding="utf-8")
+    return [f"== {piece}".removesuffix("\n") + "\n" for piece in text.split("\n== ")[1:]]
 
 
 def main(program, names):
-    paths = [path for crate in CRATES for path in sorted((crate / "data").glob("*.txt")) if not names or path.stem in names]
+    paths = [path for path in sorted((CRATE / "data").glob("*.txt")) if not names or path.stem in names]
     answers = wanted()
     cases = bad = 0
     for path in paths:

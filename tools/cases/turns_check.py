@@ -12,8 +12,8 @@ import sys
 from collections import deque
 
 from asked import asked
-from model_problems import PROBLEMS
 from model_search import DEFAULT_BUDGET, Search
+from planning_problems import PROBLEMS
 from models_check import Differences, files_of, run_program
 
 SMALL_BUDGET = 7

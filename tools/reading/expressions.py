@@ -13,6 +13,8 @@ WHOLE = re.compile(r"[+-]?[0-9]+\Z")
 BEGINS_NUMBER = re.compile(r"[+-]?[0-9]")
 CONTROL = re.compile("[\x00-\x1f\x7f-\x9f]")
 TOKEN = re.compile(rb"[()|]|[^()| \t\r\n]+")
+CELL = re.compile(r"(\w+)\[")
+BLANK = re.compile("[\u00a0\u2000-\u200b\u202f\u3000\ufeff]")
 
 NUM_OPS = {"+": None, "*": None, "max": None, "min": None, "-": 2, "/": 2, "%": 2, "if": 3, "sum": None}
 SET_OPS = {"union": None, "intersection": None, "difference": 2, "~": 1, "add": 2, "remove": 2, "if": 3}
@@ -24,6 +26,12 @@ OPERATORS = {**NUM_OPS, **SET_OPS, **COND_OPS}
 CONTINUOUS = ("ceil", "floor", "round", "trunc", "sqrt", "log", "pow")
 RESERVED = {*OPERATORS, *CONTINUOUS, "cost", "true", "false"}
 KINDS = {"num": "a number", "set": "a set", "cond": "a condition"}
+# How other languages call some operators.
+ELSEWHERE = {
+    "in": "is_in", "member": "is_in", "contains": "is_in", "subset": "is_subset", "empty": "is_empty", "<>": "!=", "/=": "!=", "==": "=", "&&": "and",
+    "&": "and", "!": "not", "=<": "<=", "=>": ">=", "mod": "%", "rem": "%", "div": "/", "\u2212": "-", "\u2013": "-", "\u00d7": "*", "\u2264": "<=",
+    "\u2265": ">=", "\u2260": "!=", "len": "|S|", "size": "|S|", "card": "|S|", "setminus": "difference", "minus": "difference", "intersect": "intersection",
+}
 
 
 class Expr:
@@ -169,11 +177,15 @@ class Scope:
         elif head and word in self.variables:
             why = f"`{word}` is a variable, and only operators and tables stand at the head of a list"
         elif head:
-            why = f"`{word}` is no operator and no table{near(word, [*OPERATORS, *self.tables])} The tables here: {listed(self.tables)}"
+            close = f"; did you mean `{ELSEWHERE[word]}`?" if word in ELSEWHERE else near(word, [*OPERATORS, *self.tables])
+            why = f"`{word}` is no operator and no table{close} The tables here: {listed(self.tables)}"
         elif any(word == o.name for o in self.objects):
             why = f"`{word}` is an object type, and no value. Known here: {listed(self.known())}"
         else:
-            why = f"`{word}` is no name in force{near(word, self.known())} Known here: {listed(self.known())}"
+            cell = CELL.match(word)
+            close = f"; a cell is written ({cell.group(1)} ..)." if cell and cell.group(1) in self.tables else near(word, self.known())
+            blank = " There is a character in it that looks like a blank and is none." if BLANK.search(word) else ""
+            why = f"`{word}` is no name in force{close}{blank} Known here: {listed(self.known())}"
         return self.refuse(30, form, why)
 
     def wrong(self, form, wanted, found):

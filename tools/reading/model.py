@@ -51,7 +51,9 @@ def keyed(node, kind):
             refuse(52, key, f"`{name}` is left out")
         if name not in known:
             shown = f"`{name}`" if name is not None else "a list"
-            refuse(41, key, f"{shown} is no key of a {kind}{near(name or '', known)} Its keys are: {listed(known)}")
+            other = {"domain": "problem", "problem": "domain"}.get(kind)
+            close = f"; it is one of the {other}." if other and name in KEYS[other][0] else near(name or "", known)
+            refuse(41, key, f"{shown} is no key of a {kind}{close} Its keys are: {listed(known)}")
         entries[name] = value
     for name in needed:
         if name not in entries:
@@ -494,30 +496,38 @@ def load(domain, problem):
     return Loader(*trees(domain, problem)).load()
 
 
-def read_list(model, data):
-    """The steps of a list, one on each line, or its first refusal."""
+def lines_of(data):
+    """The lines of the third file, or its first byte that is no UTF-8: they end with a line feed, with a carriage return before it, or
+    with the file."""
     bad = yaml_text.first_bad_byte(data)
     if bad < len(data):
         line = data.count(b"\n", 0, bad)
         raise Refused(10, line + 1, bad - (data.rfind(b"\n", 0, bad) + 1) + 1).of("list")
-    rows = data.split(b"\n")
-    if rows[-1] == b"":
-        rows.pop()
+    rows = data.decode("utf-8").split("\n")
+    last = rows.pop()
+    return [row.removesuffix("\r") for row in rows] + [last] * (last != "")
+
+
+def step_of(model, text):
+    """The step that a line names. A refusal is 71 where a transition's name begins the line, and else 70; its place is the caller's."""
+    step = model.by_text.get(text)
+    if step is not None:
+        return step
+    named = [t for t in model.transitions if text == t.name or text.startswith(t.name + " ")]
+    if named:
+        t = named[0]
+        raise Refused(71, 0, 1, None, f"`{t.name}` takes {len(t.params)} argument{'s' * (len(t.params) != 1)}, each a member that is there, with one space before each")
+    known = [t.name for t in model.transitions]
+    raise Refused(70, 0, 1, None, f"`{text}` names no transition{near(text.split(' ')[0], known)} The transitions are: {listed(known)}")
+
+
+def read_list(model, data):
+    """The steps of a list, one on each line, or its first refusal."""
     steps = []
-    for k, row in enumerate(rows, 1):
-        if k < len(rows) or data.endswith(b"\n"):
-            row = row.removesuffix(b"\r")
-        text = row.decode("utf-8")
-        if not text.strip(" \t"):
-            continue
-        step = model.by_text.get(text)
-        if step is None:
-            names = [t.name for t in model.transitions if text == t.name or text.startswith(t.name + " ")]
-            if names:
-                t = next(t for t in model.transitions if t.name == names[0])
-                why = f"`{t.name}` takes {len(t.params)} argument{'s' * (len(t.params) != 1)}, each a member that is there, with one space before each"
-                raise Refused(71, k, 1, None, why).of("list")
-            known = [t.name for t in model.transitions]
-            raise Refused(70, k, 1, None, f"`{text}` names no transition{near(text.split(' ')[0], known)} The transitions are: {listed(known)}").of("list")
-        steps.append(step)
+    for k, text in enumerate(lines_of(data), 1):
+        if text.strip(" \t"):
+            try:
+                steps.append(step_of(model, text))
+            except Refused as bad:
+                raise Refused(bad.number, k, 1, None, bad.why).of("list") from None
     return steps

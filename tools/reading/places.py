@@ -5,7 +5,7 @@ NAMES = {
     20: "BadToken", 21: "Unbalanced", 22: "Empty", 23: "Rest", 24: "TooNested", 30: "UnknownName", 31: "WrongKind",
     32: "WrongCount", 33: "CostPlace", 34: "Continuous", 35: "TooMany", 40: "MissingKey", 41: "UnknownKey", 42: "BadNumber",
     43: "TwiceName", 44: "BadIndex", 45: "BadTarget", 46: "MixedCost", 47: "CostForm", 48: "NoBase", 49: "TooMany",
-    50: "WrongShape", 51: "BadName", 52: "LeftOut", 70: "UnknownStep", 71: "BadArguments",
+    50: "WrongShape", 51: "BadName", 52: "LeftOut", 70: "UnknownStep", 71: "BadArguments", 72: "BadCertificate",
 }
 
 

@@ -2,6 +2,7 @@
 
 import argparse
 import os
+import re
 import subprocess
 import sys
 
@@ -84,7 +85,11 @@ def steps_of(data):
 
 def list_of(m, path):
     """The steps of a file with a list, or with what `solve` printed."""
-    data = bytes_of(path)
+    return list_in(m, bytes_of(path))
+
+
+def list_in(m, data):
+    """The same of a text."""
     try:
         return model.read_list(m, data)
     except Refused:
@@ -92,6 +97,17 @@ def list_of(m, path):
         if steps is None:
             raise
         return model.read_list(m, steps)
+
+
+def bound_in(data):
+    """The bound that a stopped run printed last; None where there is none."""
+    found = re.findall(rb"^bound (-?[0-9]+)\nverdict stopped ", data, re.M)
+    return int(found[-1]) if found else None
+
+
+def gap(best, bound):
+    """How far a bound is from the best cost so far, in percent of that cost."""
+    return f"a gap of {100 * abs(best - bound) / abs(best):.1f} %" if best else f"a gap of {abs(bound)}"
 
 
 def run_program(program, words):

@@ -190,6 +190,8 @@ class Play:
 
     def __init__(self, model):
         self.model, self.values = model, Values(model)
+        self.forced = [step for step in model.steps if step.transition.forced]
+        self.in_turn = self.forced + [step for step in model.steps if not step.transition.forced]
 
     def value(self, part, state, args, spot):
         try:
@@ -204,6 +206,14 @@ class Play:
         if a is None or b is None:
             return b if a is None else a
         return {"+": a + b, "max": max(a, b), "min": min(a, b)}[self.model.operator]
+
+    def word(self, cost):
+        """The number by which a cost so far is compared: the lesser one is better. That of no cost is between or beyond them."""
+        if cost is not None:
+            return 2**63 + (cost if self.model.minimize else -cost)
+        if self.model.operator == "+":
+            return 2**63
+        return 0 if self.model.minimize == (self.model.operator == "max") else 2**64 - 2
 
     def ranged(self, value, spot, node, why):
         if value is not None and abs(value) > LARGEST:
@@ -247,12 +257,25 @@ class Play:
 
     def forced_before(self, step, state):
         """The first forced step that is tested before this one and is enabled; or None."""
-        for other in self.model.steps:
-            if not other.transition.forced or (step and step.transition.forced and other.number >= step.number):
-                continue
+        for other in self.forced:
+            if step and step.transition.forced and other.number >= step.number:
+                break
             if self.disabling(other, state) is None:
                 return other
         return None
+
+    def steps_from(self, state):
+        """The steps that are considered and enabled. One with a fault in a precondition is not enabled; behind a forced one that is enabled,
+        or that has a fault, none is considered."""
+        for step in self.in_turn:
+            try:
+                enabled = self.disabling(step, state) is None
+            except Fault:
+                enabled = None
+            if enabled:
+                yield step
+            if enabled is not False and step.transition.forced:
+                return
 
     def after(self, step, state, cost):
         """The weight, the cost so far and the state after a step that is enabled."""

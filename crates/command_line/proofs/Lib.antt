@@ -1,3 +1,4 @@
 pub mod Numerals
 pub mod Simple
 pub mod Faults
+pub mod Searches

@@ -10,6 +10,7 @@ use Rattle.model_gen.specs.declared.kinds.GenKind.{GenKind}
 use Rattle.model_gen.specs.Kinds.{kind_named, least_size, most_size}
 use Rattle.command_line.specs.Commands.{value_in, faults_in, solve, replay, show, generate}
 use Rattle.command_line.specs.declared.jobs.Job.{Job}
+use Rattle.command_line.specs.declared.reading.Asked.{Asked}
 use Rattle.command_line.specs.declared.jobs.Job.TheVariants.{Solve, Replay, Show, Gen}
 
 -- ---- numbers
@@ -30,9 +31,10 @@ number_or otherwise least most (Some text) = number_in least most text
 
 -- ---- options
 
-abbrev pub on_or_off : Option (List ℕ) → Option Bool
-on_or_off None = Some true
-on_or_off (Some text) = if bytes_eq text (codes "on") then Some true else (if bytes_eq text (codes "off") then Some false else None)
+-- whether an option is on, which is so where it is not given
+abbrev pub on_or_off : (otherwise : Bool) → Option (List ℕ) → Option Bool
+on_or_off otherwise None = Some otherwise
+on_or_off otherwise (Some text) = if bytes_eq text (codes "on") then Some true else (if bytes_eq text (codes "off") then Some false else None)
 
 abbrev pub layer_or_all : Option (List ℕ) → Option Keep
 layer_or_all None = Some keeps.Layer
@@ -42,7 +44,11 @@ layer_or_all (Some text) = if bytes_eq text (codes "layer") then Some keeps.Laye
 abbrev pub options_of : (workers budget prune keep : Option (List ℕ)) → Option Options
 options_of workers budget prune keep =
     option_and_then (λ w. option_and_then (λ b. option_and_then (λ p. option_map (λ k. record { workers = w; budget = b; prune = p; keep = k })
-    (layer_or_all keep)) (on_or_off prune)) (number_or 10000000 1 1099511627776 budget)) (number_or 1 1 64 workers)
+    (layer_or_all keep)) (on_or_off true prune)) (number_or 10000000 1 1099511627776 budget)) (number_or 1 1 64 workers)
+
+-- a bound is asked for where `on` is given
+abbrev pub asked_of : Option Options → (gap : Option (List ℕ)) → Option Asked
+asked_of options gap = option_and_then (λ o. option_map (λ g. record { options = o; gap = g }) (on_or_off false gap)) options
 
 -- ---- jobs
 
@@ -51,10 +57,10 @@ abbrev pub unless_fault : Kinds → Option Job → Option Job
 unless_fault [] job = job
 unless_fault (kind ∷ kinds) job = None
 
-abbrev pub solve_job : (domain problem workers budget prune keep : Option (List ℕ)) → Option Job
-solve_job (Some domain) (Some problem) workers budget prune keep = option_map (λ options. Solve domain problem options) (options_of workers budget prune keep)
-solve_job (Some domain) None workers budget prune keep = None
-solve_job None problem workers budget prune keep = None
+abbrev pub solve_job : (domain problem workers budget prune keep gap : Option (List ℕ)) → Option Job
+solve_job (Some domain) (Some problem) workers budget prune keep gap = option_map (λ asked. Solve domain problem asked.options asked.gap) (asked_of (options_of workers budget prune keep) gap)
+solve_job (Some domain) None workers budget prune keep gap = None
+solve_job None problem workers budget prune keep gap = None
 
 abbrev pub replay_job : (domain problem list : Option (List ℕ)) → Option Job
 replay_job (Some domain) (Some problem) (Some list) = Some (Replay domain problem list)
@@ -83,7 +89,7 @@ unfoldable pub solve_words : List (List ℕ) → Option Job
 solve_words ws =
     unless_fault (faults_in solve ws)
     (solve_job (value_in solve ws (codes "domain")) (value_in solve ws (codes "problem")) (value_in solve ws (codes "workers"))
-    (value_in solve ws (codes "budget")) (value_in solve ws (codes "prune")) (value_in solve ws (codes "keep")))
+    (value_in solve ws (codes "budget")) (value_in solve ws (codes "prune")) (value_in solve ws (codes "keep")) (value_in solve ws (codes "gap")))
 
 unfoldable pub replay_words : List (List ℕ) → Option Job
 replay_words ws =

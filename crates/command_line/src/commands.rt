@@ -45,7 +45,8 @@ pub(crate) fn solve<'a>(alloc: Global) -> Result<Command<'a>, AllocError>
             .arg(option(alloc, "workers"))?
             .arg(option(alloc, "budget"))?
             .arg(option(alloc, "prune"))?
-            .arg(option(alloc, "keep"))?,
+            .arg(option(alloc, "keep"))?
+            .arg(option(alloc, "gap"))?,
     )
 }
 

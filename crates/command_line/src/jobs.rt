@@ -16,6 +16,8 @@ pub enum Job {
         domain: Text,
         problem: Text,
         options: Options,
+        /// Whether a bound of the best cost is asked for.
+        gap: bool,
     },
     /// Say whether a list of steps is a legal one of a model, and what it costs.
     Replay {

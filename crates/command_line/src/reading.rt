@@ -2,7 +2,7 @@
 
 ghost use Rattle.std.specs.Prelude.{◌≡◌, None, Some, codes, map, option_map, string_bytes, IfOk, IsErrOf};
 ghost use Rattle.clap.specs.Words.{first_value, found_of};
-ghost use Rattle.command_line.specs.Jobs.{on_or_off, layer_or_all, options_of, solve_words, replay_words, show_words, gen_words, gen_job, by_command, job_of};
+ghost use Rattle.command_line.specs.Jobs.{asked_of, on_or_off, layer_or_all, options_of, solve_words, replay_words, show_words, gen_words, gen_job, by_command, job_of};
 
 use crate::commands::{found, generate, replay, show, solve};
 use crate::jobs::{Job, WordsEnd};
@@ -21,18 +21,26 @@ const MOST_VISITS: u64 = 1_099_511_627_776;
 /// How many visits are made where the words say nothing of them.
 const VISITS: u64 = 10_000_000;
 
+/// What the options of a search ask for.
+#[derive(Clone, Copy)]
+struct Asked {
+    options: Options,
+    gap: bool,
+}
+
 fn owned(alloc: Global, text: &str) -> Result<Text, AllocError>
     ensures { IfOk result (λ t. t ≡ text.now) }
 {
     Ok(Text::of(String::from_str(alloc, text)?))
 }
 
-/// Whether pruning is on: it is, where the words say nothing of it.
-fn on_or_off(word: Option<&str>) -> Option<bool>
-    ensures { result ≡ on_or_off (option_map (λ t. t.now) word.entry) }
+/// Whether an option is on; where the words say nothing of it, it is as otherwise.
+fn on_or_off(otherwise: bool, word: Option<&str>) -> Option<bool>
+    ensures { result ≡ on_or_off otherwise (option_map (λ t. t.now) word.entry) }
 {
     match word {
-        None | Some("on") => Some(true),
+        None => Some(otherwise),
+        Some("on") => Some(true),
         Some("off") => Some(false),
         Some(_) => None,
     }
@@ -59,7 +67,7 @@ fn options_of(
 {
     let workers = number_or(1, 1, MOST_WORKERS, workers)?;
     let budget = number_or(VISITS, 1, MOST_VISITS, budget)?;
-    let prune = on_or_off(prune)?;
+    let prune = on_or_off(true, prune)?;
     let keep = layer_or_all(keep)?;
     Some(Options {
         workers: workers as u32,
@@ -79,6 +87,15 @@ fn found_options(matches: &ArgMatches<'_>) -> Option<Options>
     options_of(workers, budget, prune, matches.get_str("keep"))
 }
 
+/// What was found in the words of a search.
+fn found_asked(matches: &ArgMatches<'_>) -> Option<Asked>
+    ensures { result ≡ asked_of (options_of (first_value (found_of matches.now) (codes "workers")) (first_value (found_of matches.now) (codes "budget")) (first_value (found_of matches.now) (codes "prune")) (first_value (found_of matches.now) (codes "keep"))) (first_value (found_of matches.now) (codes "gap")) }
+{
+    let options = found_options(matches)?;
+    let gap = on_or_off(false, matches.get_str("gap"))?;
+    Some(Asked { options, gap })
+}
+
 #[tactic(auto, using(crate::proofs::Faults::faulty, crate::proofs::Faults::free), unfolding(crate::specs::Jobs::solve_words))]
 fn solve_words(alloc: Global, words: &Vec<String>) -> Result<Job, WordsEnd>
     ensures job { IfOk result (λ job. solve_words (map string_bytes words.now.items) ≡ Some job) }
@@ -89,13 +106,14 @@ fn solve_words(alloc: Global, words: &Vec<String>) -> Result<Job, WordsEnd>
     else {
         return Err(WordsEnd::Usage);
     };
-    let Some(options) = found_options(&matches) else {
+    let Some(asked) = found_asked(&matches) else {
         return Err(WordsEnd::Usage);
     };
     Ok(Job::Solve {
         domain: owned(alloc, domain)?,
         problem: owned(alloc, problem)?,
-        options,
+        options: asked.options,
+        gap: asked.gap,
     })
 }
 

@@ -16,12 +16,14 @@ use Rattle.dp_outside.specs.Outside.{Takes, TakesFront}
 use Rattle.dp_steps.specs.Faults.{MeetsIn}
 use Rattle.dp_steps.specs.Lists.{Solution}
 use Rattle.dp_steps.specs.States.{Base, Forbidden, Inner}
+use Rattle.run_ends.specs.Claims.{claim_with, solved_by}
+use Rattle.solve_passes.proofs.Concluding.{claimed, unclaimed}
 use Rattle.solve_passes.specs.Ongoing.{Concluded, IsTold}
-use Rattle.solve_passes.specs.Records.{Record, Ending, Ended, OutOfMemory, KeepsWord, RightEnding, ending_status, ending_text, found_text, record_text}
+use Rattle.solve_passes.specs.Records.{Record, Ending, Ended, OutOfMemory, KeepsWord, RightBound, RightEnding, claim_of, ending_status, ending_text, found_text, record_text}
 use Rattle.solve_passes.specs.declared.progress.Printing.{Printing}
 use Rattle.solve_passes.specs.declared.progress.Printing.TheVariants.{All, VerdictAlone}
-use Rattle.solve_passes.specs.declared.status.Status.{Status}
-use Rattle.solve_passes.specs.declared.status.Status.TheVariants as statuses
+use Rattle.run_ends.specs.declared.status.Status.{Status}
+use Rattle.run_ends.specs.declared.status.Status.TheVariants as statuses
 use Rattle.solve_report.proofs.Written.{TakesFront-append, TakesFront-longer}
 use Rattle.solve_report.specs.Lines.{solution_text}
 use Rattle.state_layout.specs.declared.node.Node.{Node}
@@ -90,11 +92,15 @@ none_legal m (g ∷ steps) cost forbidden s = forbidden_not_inner m m.target for
 
 -- ---- a base target
 
-text_at_target : (printing : Printing) (m : Model) (found : Found) (end : Ending) → record_text printing m (record { at_target = Some found; passes = []; ending = end }) ≡ found_text printing m (Some found) ++ ending_text m end
+text_at_target : (printing : Printing) (m : Model) (found : Found) (end : Ending) → record_text printing m (record { at_target = Some found; passes = []; bound = None; ending = end }) ≡ found_text printing m (Some found) ++ ending_text m end
 text_at_target All m found end = ap (λ (t : List ℕ). t ++ ending_text m end) (append-nil (solution_text m found))
 text_at_target VerdictAlone m found end = refl
 
-module _ (m : Model) (options : Options) (printing : Printing) (before after : Option (List ℕ)) (found : Found) (cost : ℤ)
+-- with no pass there is no bound
+no_bound : (m : Model) (options : Options) (gap : Bool) (target : Option Found) (end : Ending) → RightBound m options gap (record { at_target = target; passes = []; bound = None; ending = end }) None
+no_bound m options gap target end needs = omega (arith, needs.2)
+
+module _ (m : Model) (options : Options) (gap : Bool) (printing : Printing) (before after : Option (List ℕ)) (found : Found) (cost : ℤ)
     (at_target : Base m m.target cost) (in_range : InRange cost) (same : found.cost ≡ cost) (short : found.steps ≡ []) where
   base : Base m m.target found.cost
   base = subst (Base m m.target) (sym same) at_target
@@ -103,13 +109,14 @@ module _ (m : Model) (options : Options) (printing : Printing) (before after : O
   within = subst InRange (sym same) in_range
 
   abbrev run_of : Ending → Record
-  run_of end = record { at_target = Some found; passes = []; ending = end }
+  run_of end = record { at_target = Some found; passes = []; bound = None; ending = end }
 
   -- the run is over, with a right ending
-  ended : (status : Status) (end : Ending) → RightEnding m options (run_of end) end → KeepsWord m options end →
-      ((status ≡ ending_status end) × Takes before after (found_text printing m (Some found) ++ ending_text m end)) ⊎ ((status ≡ statuses.WriteFault) × TakesFront before after (found_text printing m (Some found) ++ ending_text m end)) →
-      Concluded m options printing before after status
-  ended status end right word printed = record {
+  ended : (status : Status) (last : Option Found) (end : Ending) → RightEnding m options gap (run_of end) end → KeepsWord m options None end →
+      ((status ≡ ending_status end) × Takes before after (found_text printing m (Some found) ++ ending_text m end) × (claim_with status last ≡ claim_of (run_of end)))
+      ⊎ ((status ≡ statuses.WriteFault) × TakesFront before after (found_text printing m (Some found) ++ ending_text m end) × (claim_with status last ≡ None)) →
+      Concluded m options gap printing before after (solved_by status last)
+  ended status last end right word printed = record {
     run = run_of end;
     right = record {
       numbered = tt;
@@ -119,53 +126,73 @@ module _ (m : Model) (options : Options) (printing : Printing) (before after : O
       legal = (no_steps m found.steps found.cost base within short, tt);
       improving = tt;
       base_target = (refl, (found.cost, base));
+      bound = no_bound m options gap (Some found) end;
       ending = right;
     };
     word = word;
-    printed = subst (λ (t : List ℕ). ((status ≡ ending_status end) × Takes before after t) ⊎ ((status ≡ statuses.WriteFault) × TakesFront before after t)) (sym (text_at_target printing m found end)) printed;
+    printed = subst (λ (t : List ℕ). ((status ≡ ending_status end) × Takes before after t × (claim_with status last ≡ claim_of (run_of end))) ⊎ ((status ≡ statuses.WriteFault) × TakesFront before after t × (claim_with status last ≡ None)))
+        (sym (text_at_target printing m found end)) printed;
   }
 
   -- a write of the solution failed
-  pub failed_solution : TakesFront before after (found_text printing m (Some found)) → Concluded m options printing before after statuses.WriteFault
-  failed_solution front = ended statuses.WriteFault OutOfMemory tt tt (inr (refl, TakesFront-longer before after (found_text printing m (Some found)) (ending_text m OutOfMemory) front))
+  pub failed_solution : TakesFront before after (found_text printing m (Some found)) → Concluded m options gap printing before after (solved_by statuses.WriteFault None)
+  failed_solution front = ended statuses.WriteFault None OutOfMemory tt tt (inr (refl, TakesFront-longer before after (found_text printing m (Some found)) (ending_text m OutOfMemory) front, refl))
 
   -- the solution was printed, and then that it is optimal
-  pub optimal : (mid : Option (List ℕ)) (status : Status) → Takes before mid (found_text printing m (Some found)) → IsTold m mid after status (Ended (verdicts.Optimal found.cost)) → Concluded m options printing before after status
-  optimal mid status told printed = ended status (Ended (verdicts.Optimal found.cost))
-      ((refl, inr (refl, (found.cost, base))), λ _ inner. base_not_inner m m.target found.cost base inner)
+  pub optimal : (mid : Option (List ℕ)) (status : Status) → Takes before mid (found_text printing m (Some found)) → IsTold printing m mid after status None (Ended (verdicts.Optimal found.cost)) → Concluded m options gap printing before after (solved_by status (Some found))
+  optimal mid status told printed = ended status (Some found) (Ended (verdicts.Optimal found.cost)) right
       (λ trusted steps other s better. none_better m found.cost steps other base s better)
       (elim printed [
-        | inl h ↦ inl (h.0, Takes-more before mid after (found_text printing m (Some found)) (ending_text m (Ended (verdicts.Optimal found.cost))) told h.1)
-        | inr h ↦ inr (h.0, TakesFront-append before mid after (found_text printing m (Some found)) (ending_text m (Ended (verdicts.Optimal found.cost))) told h.1)
+        | inl h ↦ inl (
+          h.0,
+          Takes-more before mid after (found_text printing m (Some found)) (ending_text m (Ended (verdicts.Optimal found.cost))) told h.1,
+          ap (λ (s : Status). claim_with s (Some found)) h.0,
+        )
+        | inr h ↦ inr (
+          h.0,
+          TakesFront-append before mid after (found_text printing m (Some found)) (ending_text m (Ended (verdicts.Optimal found.cost))) told h.1,
+          unclaimed status (Some found) h.0,
+        )
       ])
+    where
+      right : RightEnding m options gap (run_of (Ended (verdicts.Optimal found.cost))) (Ended (verdicts.Optimal found.cost))
+      right = ((refl, inr (inr (refl, (found.cost, base)))), λ _ inner. base_not_inner m m.target found.cost base inner)
 
 -- ---- a run without a pass and without a solution
 
-bare_text : (printing : Printing) (m : Model) (end : Ending) → record_text printing m (record { at_target = None; passes = []; ending = end }) ≡ ending_text m end
+bare_text : (printing : Printing) (m : Model) (end : Ending) → record_text printing m (record { at_target = None; passes = []; bound = None; ending = end }) ≡ ending_text m end
 bare_text All m end = refl
 bare_text VerdictAlone m end = refl
 
-module _ (m : Model) (options : Options) (printing : Printing) (before after : Option (List ℕ)) (status : Status) where
-  bare : (end : Ending) → RightEnding m options (record { at_target = None; passes = []; ending = end }) end → KeepsWord m options end → IsTold m before after status end → Concluded m options printing before after status
+module _ (m : Model) (options : Options) (gap : Bool) (printing : Printing) (before after : Option (List ℕ)) (status : Status) where
+  abbrev bare_run : Ending → Record
+  bare_run end = record { at_target = None; passes = []; bound = None; ending = end }
+
+  bare : (end : Ending) → RightEnding m options gap (bare_run end) end → KeepsWord m options None end → IsTold printing m before after status None end → Concluded m options gap printing before after (solved_by status None)
   bare end right word told = record {
-    run = record { at_target = None; passes = []; ending = end };
-    right = record { numbered = tt; dropping = tt; within_budget = omega arith; reached = tt; legal = tt; improving = tt; base_target = tt; ending = right };
+    run = bare_run end;
+    right = record { numbered = tt; dropping = tt; within_budget = omega arith; reached = tt; legal = tt; improving = tt; base_target = tt; bound = no_bound m options gap None end; ending = right };
     word = word;
-    printed = subst (λ (t : List ℕ). ((status ≡ ending_status end) × Takes before after t) ⊎ ((status ≡ statuses.WriteFault) × TakesFront before after t)) (sym (bare_text printing m end)) told;
+    printed = subst (λ (t : List ℕ). ((status ≡ ending_status end) × Takes before after t × (claim_with status None ≡ claim_of (bare_run end))) ⊎ ((status ≡ statuses.WriteFault) × TakesFront before after t × (claim_with status None ≡ None)))
+        (sym (bare_text printing m end))
+        (elim told [
+          | inl h ↦ inl (h.0, h.1, ap (λ (s : Status). claim_with s None) h.0 ∙ claimed m options gap (bare_run end) None end right)
+          | inr h ↦ inr (h.0, h.1, unclaimed status None h.0)
+        ]);
   }
 
   -- the target is not allowed
-  pub forbidden_target : Forbidden m m.target → IsTold m before after status (Ended verdicts.Infeasible) → Concluded m options printing before after status
+  pub forbidden_target : Forbidden m m.target → IsTold printing m before after status None (Ended verdicts.Infeasible) → Concluded m options gap printing before after (solved_by status None)
   forbidden_target forbidden told = bare (Ended verdicts.Infeasible) ((refl, inr (refl, forbidden)), λ _ inner. forbidden_not_inner m m.target forbidden inner) (λ trusted steps cost s. none_legal m steps cost forbidden s) told
 
   -- the target meets a fault
-  pub fault_target : (met : Met) (verdict : Verdict) (spot : Spot) (kind : FaultKind) → MeetsIn m options.prune None m.target met.spot met.kind → verdict ≡ verdicts.Fault (record { steps = []; spot = spot; kind = kind }) → spot ≡ met.spot → kind ≡ met.kind → IsTold m before after status (Ended verdict) →
-      Concluded m options printing before after status
+  pub fault_target : (met : Met) (verdict : Verdict) (spot : Spot) (kind : FaultKind) → MeetsIn m options.prune None m.target met.spot met.kind → verdict ≡ verdicts.Fault (record { steps = []; spot = spot; kind = kind }) → spot ≡ met.spot → kind ≡ met.kind → IsTold printing m before after status None (Ended verdict) →
+      Concluded m options gap printing before after (solved_by status None)
   fault_target met verdict spot kind meets is same_spot same_kind told =
       let fault : Spot → FaultKind → Verdict = λ s k. verdicts.Fault (record { steps = []; spot = s; kind = k }) in
       let same : verdict ≡ fault met.spot met.kind = is ∙ ap (λ (s : Spot). fault s kind) same_spot ∙ ap (fault met.spot) same_kind in
-      bare (Ended (fault met.spot met.kind)) ((m.target, None, (refl, refl), meets), λ _ none. none) tt (subst (λ (v : Verdict). IsTold m before after status (Ended v)) same told)
+      bare (Ended (fault met.spot met.kind)) ((m.target, None, (refl, refl), meets), λ _ none. none) tt (subst (λ (v : Verdict). IsTold printing m before after status None (Ended v)) same told)
 
   -- memory ran out before the first pass
-  pub no_memory : IsTold m before after status OutOfMemory → Concluded m options printing before after status
+  pub no_memory : IsTold printing m before after status None OutOfMemory → Concluded m options gap printing before after (solved_by status None)
   no_memory told = bare OutOfMemory tt tt told

@@ -19,6 +19,9 @@ pow_less a b h = elim (cases_lt a b) [ inl less ↦ less | inr more ↦ absurd (
 pub pow_next : (k : ℕ) → 2 ^ (k + 1) ≡ 2 ^ k * 2
 pow_next k = ap (λ (i : ℕ). 2 ^ i) (omega arith) ∙ pow-suc 2 k
 
+pub pow_some : (k : ℕ) → 1 ≤ 2 ^ k
+pow_some k = pow_mono {i = 0} {j = k} (omega arith)
+
 pub pow_small : (k : ℕ) → k ≤ 56 → 2 ^ k ≤ 72057594037927936
 pow_small k few = pow_mono {i = k} {j = 56} few
 

@@ -28,7 +28,7 @@ in_shards records (suc count) i n within h =
           has_right (dropped_of records count) (all_dropped (record_of records count).rows) n (subst (λ (k : ℕ). Has (all_dropped (record_of records k).rows) n) last h)
     ]
 
-has_no : {A : Type 0} (xs : List A) (x : A) → length xs ≡ 0 → Has xs x → ⊥
+pub has_no : {A : Type 0} (xs : List A) (x : A) → length xs ≡ 0 → Has xs x → ⊥
 has_no [] x short h = has_none x h
 has_no (y ∷ xs) x short h = omega (arith, short)
 

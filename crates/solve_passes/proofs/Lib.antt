@@ -2,6 +2,8 @@ pub mod Passing
 pub mod Counting
 pub mod Words
 pub mod Drops
-pub mod AtTarget
+pub mod Gaps
+pub mod AfterPass
 pub mod Concluding
+pub mod AtTarget
 pub mod Going

@@ -1,5 +1,5 @@
 -- A record grows by a pass, and is right where a run ends.
-use Rattle.std.proofs.Common.{◌≡◌, ℕ, ◌+◌, ◌-◌, ◌^◌, ◌<◌, ◌≤◌, Bool, List, [], ◌∷◌, ◌++◌, length, refl, sym, ap, ◌∙◌, subst, Option, Some, None, ℤ, arith, length-append, append_assoc}
+use Rattle.std.proofs.Common.{◌≡◌, ℕ, ◌+◌, ◌-◌, ◌^◌, ◌<◌, ◌≤◌, Bool, true, false, inl, List, [], ◌∷◌, ◌++◌, length, refl, sym, ap, ◌∙◌, subst, Option, Some, None, ℤ, arith, length-append, append_assoc}
 use Rattle.std.specs.Prelude.{IfSome}
 use Rattle.std.specs.List.{AllByRecursion}
 use Rattle.std.specs.Option.{option_map, option_to_list}
@@ -14,8 +14,8 @@ use Rattle.dp_model.specs.declared.answers.Options.{Options}
 use Rattle.dp_model.specs.declared.whole.Model.{Model}
 use Rattle.dp_outside.specs.Outside.{Takes}
 use Rattle.dp_steps.specs.Lists.{Solution}
-use Rattle.solve_passes.specs.Ongoing.{History, Passes, solutions_of, held_after, pass_of}
-use Rattle.solve_passes.specs.Records.{Pass, Ending, NumberedFrom, AllButLastDropped, LastDroppedNone, Improving, Right, RightEnding, last_cost, visits, pass_text, passes_text, ending_text, found_text, record_text, solution_lines}
+use Rattle.solve_passes.specs.Ongoing.{History, IsBoundOf, Passes, solutions_of, held_after, pass_of}
+use Rattle.solve_passes.specs.Records.{Pass, Ending, NumberedFrom, AllButLastDropped, LastDroppedNone, Improving, Right, RightBound, RightEnding, last_cost, last_solution, visits, bound_text, pass_text, passes_text, ending_text, found_text, record_text, solution_lines}
 use Rattle.solve_passes.specs.declared.progress.Printing.{Printing}
 use Rattle.solve_passes.specs.declared.progress.Printing.TheVariants.{All, VerdictAlone}
 use Rattle.solve_passes.specs.declared.progress.Progress.{Progress}
@@ -47,7 +47,7 @@ reached_more : (m : Model) (keep : Keep) (ps : List Pass) (p : Pass) → AllByRe
 reached_more m keep [] p h r = (r, tt)
 reached_more m keep (q ∷ ps) p h r = (h.0, reached_more m keep ps p h.1 r)
 
-solutions_more : (ps : List Pass) (p : Pass) → solutions_of (ps ++ p ∷ []) ≡ solutions_of ps ++ option_to_list p.found
+pub solutions_more : (ps : List Pass) (p : Pass) → solutions_of (ps ++ p ∷ []) ≡ solutions_of ps ++ option_to_list p.found
 solutions_more ps p = flat_map-append (λ (q : Pass). option_to_list q.found) ps (p ∷ []) ∙ ap (λ (xs : List Found). solutions_of ps ++ xs) (append-nil (option_to_list p.found))
 
 -- ---- solutions
@@ -56,7 +56,7 @@ solutions_more ps p = flat_map-append (λ (q : Pass). option_to_list q.found) ps
 record Held (m : Model) (held : Option Found) (fs : List Found) : Type 0 where
   legal : AllByRecursion (λ (f : Found). Solution m f.steps f.cost) fs
   improving : Improving m.minimize fs
-  last : last_cost fs ≡ option_map (λ (f : Found). f.cost) held
+  last : last_solution fs ≡ held
 
 legal_more : (m : Model) (fs : List Found) (f : Found) → AllByRecursion (λ (f : Found). Solution m f.steps f.cost) fs → Solution m f.steps f.cost → AllByRecursion (λ (f : Found). Solution m f.steps f.cost) (fs ++ f ∷ [])
 legal_more m [] f h s = (s, tt)
@@ -67,19 +67,20 @@ improving_more minimize [] f h b = tt
 improving_more minimize (g ∷ []) f h b = (b, tt)
 improving_more minimize (g ∷ e ∷ fs) f h b = (h.0, improving_more minimize (e ∷ fs) f h.1 b)
 
-last_more : (fs : List Found) (f : Found) → last_cost (fs ++ f ∷ []) ≡ Some f.cost
+last_more : (fs : List Found) (f : Found) → last_solution (fs ++ f ∷ []) ≡ Some f
 last_more [] f = refl
 last_more (g ∷ []) f = refl
 last_more (g ∷ e ∷ fs) f = last_more (e ∷ fs) f
 
-pub nothing_last : (fs : List Found) → last_cost fs ≡ None → fs ≡ []
+pub nothing_last : (fs : List Found) → last_solution fs ≡ None → fs ≡ []
 nothing_last [] h = refl
 nothing_last (g ∷ []) h = cc
 nothing_last (g ∷ e ∷ fs) h = cc (nothing_last (e ∷ fs) h)
 
-better_than_held : (minimize : Bool) (held : Option Found) (f : Found) → IfSome held (λ h. IsBetter minimize f.cost h.cost) → IfSome (option_map (λ (g : Found). g.cost) held) (λ c. IsBetter minimize f.cost c)
-better_than_held minimize None f h = tt
-better_than_held minimize (Some g) f h = h
+-- a solution that is better than the last one
+better_than_last : (minimize : Bool) (last held : Option Found) (f : Found) → last ≡ held → IfSome held (λ h. IsBetter minimize f.cost h.cost) → IfSome (option_map (λ (g : Found). g.cost) last) (λ c. IsBetter minimize f.cost c)
+better_than_last minimize None held f same h = tt
+better_than_last minimize (Some g) held f same h = subst (λ (o : Option Found). IfSome o (λ h. IsBetter minimize f.cost h.cost)) (sym same) h
 
 -- a solution that is new is legal, and better than what is held
 abbrev pub IsNew : Model → (held new : Option Found) → Type 0
@@ -89,7 +90,7 @@ held_more : (m : Model) (held : Option Found) (fs : List Found) (new : Option Fo
 held_more m held fs None h new = subst (Held m held) (sym (append-nil fs)) h
 held_more m held fs (Some f) h new = record {
   legal = legal_more m fs f h.legal new.0;
-  improving = improving_more m.minimize fs f h.improving (subst (λ (o : Option ℤ). IfSome o (λ c. IsBetter m.minimize f.cost c)) (sym h.last) (better_than_held m.minimize held f new.1));
+  improving = improving_more m.minimize fs f h.improving (better_than_last m.minimize (last_solution fs) held f h.last new.1);
   last = last_more fs f;
 }
 
@@ -108,21 +109,32 @@ passes_more m keep held count visited ps p h number share reached new =
       reached = reached_more m keep ps p h.reached reached;
       legal = subst (AllByRecursion (λ (f : Found). Solution m f.steps f.cost)) is x.legal;
       improving = subst (Improving m.minimize) is x.improving;
-      last = ap last_cost (sym is) ∙ x.last;
+      last = ap last_solution (sym is) ∙ x.last;
     }
 
 -- before any pass
-pub begins : (printing : Printing) (m : Model) (keep : Keep) (before : Option (List ℕ)) → History m keep printing before before None 0 0
-begins printing m keep before = record { passes = []; told = nothing_told printing; known = record { counted = refl; numbered = tt; spent = refl; reached = tt; legal = tt; improving = tt; last = refl }; dropping = tt }
+pub begins : (printing : Printing) (m : Model) (options : Options) (gap : Bool) (before : Option (List ℕ)) → History m options gap printing before before None 0 0 None
+begins printing m options gap before = record {
+  passes = [];
+  told = nothing_told printing;
+  known = record { counted = refl; numbered = tt; spent = refl; reached = tt; legal = tt; improving = tt; last = refl };
+  dropping = tt;
+  proved = none_proved gap;
+}
   where
+    none_proved : (g : Bool) → IsBoundOf m options g 0 [] None
+    none_proved true = inl refl
+    none_proved false = refl
+
     nothing_told : (p : Printing) → Takes before before (passes_text p m [])
     nothing_told All = Takes-nothing before
     nothing_told VerdictAlone = Takes-nothing before
 
 -- a record of passes and an ending that fits them
-pub right_record : (m : Model) (options : Options) (held : Option Found) (count visited : ℕ) (ps : List Pass) (end : Ending) → Passes m options.keep held count visited ps → AllButLastDropped ps → visited ≤ options.budget → RightEnding m options (record { at_target = None; passes = ps; ending = end }) end →
-    Right m options (record { at_target = None; passes = ps; ending = end })
-right_record m options held count visited ps end h dropping within ending = record {
+pub right_record : (m : Model) (options : Options) (gap : Bool) (held : Option Found) (count visited : ℕ) (ps : List Pass) (bound : Option ℤ) (end : Ending) → Passes m options.keep held count visited ps → AllButLastDropped ps → visited ≤ options.budget →
+    RightBound m options gap (record { at_target = None; passes = ps; bound = bound; ending = end }) bound → RightEnding m options gap (record { at_target = None; passes = ps; bound = bound; ending = end }) end →
+    Right m options gap (record { at_target = None; passes = ps; bound = bound; ending = end })
+right_record m options gap held count visited ps bound end h dropping within bounded ending = record {
   numbered = h.numbered;
   dropping = dropping;
   within_budget = subst (λ (n : ℕ). n ≤ options.budget) (sym h.spent) within;
@@ -130,6 +142,7 @@ right_record m options held count visited ps end h dropping within ending = reco
   legal = h.legal;
   improving = h.improving;
   base_target = tt;
+  bound = bounded;
   ending = ending;
 }
 
@@ -151,6 +164,6 @@ text_of_pass All m progress found visited dropped = sym (append_assoc (solution_
 text_of_pass VerdictAlone m progress found visited dropped = refl
 
 -- the text of a record whose target is not base
-pub text_of_record : (printing : Printing) (m : Model) (ps : List Pass) (end : Ending) → record_text printing m (record { at_target = None; passes = ps; ending = end }) ≡ passes_text printing m ps ++ ending_text m end
-text_of_record All m ps end = refl
-text_of_record VerdictAlone m ps end = refl
+pub text_of_record : (printing : Printing) (m : Model) (ps : List Pass) (bound : Option ℤ) (end : Ending) → record_text printing m (record { at_target = None; passes = ps; bound = bound; ending = end }) ≡ passes_text printing m ps ++ (bound_text bound printing ++ ending_text m end)
+text_of_record All m ps bound end = refl
+text_of_record VerdictAlone m ps bound end = refl

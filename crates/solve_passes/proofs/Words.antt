@@ -108,6 +108,6 @@ none_better : (p : Pass) (best : ℕ) (held other : ℤ) → pos best ≡ word_o
 none_better p best held other is above better = not_above best best (word_of p other) (word_of p held) refl is above (better_word p.model.minimize p.model.join other held better)
 
 -- where no legal list has a word below the best word, the verdict on what is held is true
-pub keeps_word : (p : Pass) (options : Options) (best : ℕ) (held : Option Found) → IsWordOf p.model best held → (IsTrusted p.model options → NoneBelow p (pos best)) → KeepsWord p.model options (Ended (verdict_of held))
+pub keeps_word : (p : Pass) (options : Options) (best : ℕ) (held : Option Found) → IsWordOf p.model best held → (IsTrusted p.model options → NoneBelow p (pos best)) → KeepsWord p.model options None (Ended (verdict_of held))
 keeps_word p options best None word none = λ trusted steps cost s. none_legal p best cost word s.in_range (none trusted steps cost s)
 keeps_word p options best (Some f) word none = λ trusted steps other s better. none_better p best f.cost other word (none trusted steps other s) better

@@ -1,11 +1,12 @@
 -- What a run has printed so far, how far it has come, and what it came to.
-use Rattle.std.specs.Prelude.{◌≡◌, ℕ, ◌+◌, ◌*◌, ◌^◌, ◌<◌, ◌≤◌, ◌⊎◌, List, [], ◌∷◌, length, Option, Some, None, IfSome, pos}
+use Rattle.std.specs.Prelude.{◌≡◌, ℕ, ◌+◌, ◌*◌, ◌^◌, ◌<◌, ◌≤◌, ◌⊎◌, Bool, true, false, List, [], ◌∷◌, ◌++◌, length, Option, Some, None, IfSome, ℤ, pos, ◌≤ℤ◌}
 use Rattle.std.specs.List.{flat_map, AllByRecursion}
 use Rattle.std.specs.Option.{option_map, option_to_list}
 use Rattle.dp_model.specs.declared.answers.Keep.{Keep}
 use Rattle.board_words.specs.Rules.{no_word, IsWhole}
 use Rattle.board_words.specs.Seats.{BoardFacts, SeatFacts, IsSeatOf}
 use Rattle.board_words.specs.Steps.{best_known}
+use Rattle.cost_laws.specs.Orders.{InWideRange}
 use Rattle.dp_claims.specs.Enough.{AreReachedAtMost, IsAtMostReached, IsWidthAtMost}
 use Rattle.dp_model.specs.Costs.{IsBetter, order_word}
 use Rattle.dp_model.specs.declared.answers.Cause.{Cause}
@@ -17,14 +18,18 @@ use Rattle.dp_model.specs.declared.answers.Verdict.TheVariants as verdicts
 use Rattle.dp_model.specs.declared.whole.Model.{Model}
 use Rattle.dp_outside.specs.Outside.{Takes, TakesFront}
 use Rattle.dp_steps.specs.Lists.{Solution}
+use Rattle.gap_laws.specs.Gaps.{IsRunBound}
 use Rattle.pass_ends.specs.declared.answers.PassEnd.{PassEnd}
 use Rattle.pass_ends.specs.declared.answers.PassEnd.TheVariants as ends
-use Rattle.solve_passes.specs.Records.{Pass, Ending, Ended, OutOfMemory, Record, NumberedFrom, Improving, Right, KeepsWord, last_cost, visits, passes_text, ending_text, record_text, ending_status}
+use Rattle.solve_passes.specs.Records.{Pass, Ending, Ended, OutOfMemory, Record, NumberedFrom, Improving, Right, KeepsWord, claim_of, costs, last_solution, visits, bound_text, passes_text, ending_text, record_text, ending_status}
 use Rattle.solve_passes.specs.declared.progress.Printing.{Printing}
 use Rattle.solve_passes.specs.declared.progress.Progress.{Progress}
 use Rattle.solve_passes.specs.declared.progress.Tally.{Tally}
-use Rattle.solve_passes.specs.declared.status.Status.{Status}
-use Rattle.solve_passes.specs.declared.status.Status.TheVariants as statuses
+use Rattle.run_ends.specs.declared.solved.Solved.{Solved}
+use Rattle.run_ends.specs.declared.status.Status.{Status}
+use Rattle.run_ends.specs.declared.status.Status.TheVariants as statuses
+use Rattle.width_loop.specs.Gaps.{bound_after}
+use Rattle.width_loop.specs.declared.gap.GapSummary.{GapSummary}
 
 -- ---- the passes so far
 
@@ -40,17 +45,23 @@ pub record Passes (m : Model) (keep : Keep) (held : Option Found) (count visited
   pub reached : AllByRecursion (λ (p : Pass). IsAtMostReached m keep p.visited) ps
   pub legal : AllByRecursion (λ (f : Found). Solution m f.steps f.cost) (solutions_of ps)
   pub improving : Improving m.minimize (solutions_of ps)
-  pub last : last_cost (solutions_of ps) ≡ option_map (λ (f : Found). f.cost) held
+  pub last : last_solution (solutions_of ps) ≡ held
+
+-- the bound that so many passes with these solutions have proved, where the gap is asked for
+abbrev pub IsBoundOf : Model → Options → (gap : Bool) → (count : ℕ) → List Found → Option ℤ → Type 0
+IsBoundOf m options true count found bound = IsRunBound m options.prune options.keep count (costs found) bound
+IsBoundOf m options false count found bound = bound ≡ None
 
 -- the sink took the text of the passes so far, each of which dropped a node
-pub record History (m : Model) (keep : Keep) (printing : Printing) (before after : Option (List ℕ)) (held : Option Found) (count visited : ℕ) : Type 0 where
+pub record History (m : Model) (options : Options) (gap : Bool) (printing : Printing) (before after : Option (List ℕ)) (held : Option Found) (count visited : ℕ) (bound : Option ℤ) : Type 0 where
   pub passes : List Pass
   pub told : Takes before after (passes_text printing m passes)
-  pub known : Passes m keep held count visited passes
+  pub known : Passes m options.keep held count visited passes
   pub dropping : AllByRecursion (λ (p : Pass). 0 < p.dropped) passes
+  pub proved : IsBoundOf m options gap count (solutions_of passes) bound
 
-abbrev pub HistoryOf : Model → Keep → Printing → Option (List ℕ) → Option (List ℕ) → Progress → Type 0
-HistoryOf m keep printing before after progress = History m keep printing before after progress.held progress.passes progress.visited
+abbrev pub HistoryOf : Model → Options → (gap : Bool) → Printing → Option (List ℕ) → Option (List ℕ) → Progress → Type 0
+HistoryOf m options gap printing before after progress = History m options gap printing before after progress.held progress.passes progress.visited progress.bound
 
 -- ---- how far a run has come
 
@@ -58,6 +69,10 @@ HistoryOf m keep printing before after progress = History m keep printing before
 abbrev pub IsWordOf : Model → ℕ → Option Found → Type 0
 IsWordOf m best None = best ≡ no_word
 IsWordOf m best (Some f) = pos best ≡ order_word m.minimize m.join (Some f.cost)
+
+-- the cost of a solution has an order word
+abbrev pub HasWord : Option Found → Type 0
+HasWord held = IfSome held (λ f. InWideRange f.cost)
 
 -- The shares doubled from 1 on. The whole seat drew as many numbers as there were visits, none of them late, and raised no halt;
 -- each pass drew no more than can be reached, and dropped nodes, so that its share was less than the width.
@@ -71,6 +86,8 @@ pub record IsOngoing (m : Model) (options : Options) (board : BoardFacts) (progr
   pub drawn : seat.view.drawn ≡ progress.visited
   pub within : progress.visited ≤ options.budget
   pub best : IsWordOf m (best_known seat.view) progress.held
+  pub has_word : HasWord progress.held
+  pub wide_bound : IfSome progress.bound InWideRange
   pub few_drawn : (r : ℕ) → AreReachedAtMost m options.keep r → progress.visited ≤ progress.passes * r
   pub narrow : (w : ℕ) → IsWidthAtMost m options.keep w → 0 < progress.passes → 2 ^ progress.passes < 2 * w
 
@@ -87,7 +104,8 @@ held_after held (Some f) = Some f
 
 -- the progress after a pass, before the share is doubled
 abbrev pub progress_after : Progress → Option Found → ℕ → Progress
-progress_after progress found visited = record { passes = progress.passes + 1; schedule = progress.schedule; visited = progress.visited + visited; held = held_after progress.held found }
+progress_after progress found visited =
+    record { passes = progress.passes + 1; schedule = progress.schedule; visited = progress.visited + visited; held = held_after progress.held found; bound = progress.bound }
 
 -- the best solution of a pass, where it is strictly better than what is held
 abbrev pub IsImproved : Model → (held best found : Option Found) → Type 0
@@ -96,18 +114,42 @@ IsImproved m held best (Some f) = (best ≡ Some f) × IfSome held (λ h. IsBett
 
 -- ---- what follows a pass
 
+-- floors are looked at where the gap is asked for
+abbrev pub floor_for : (gap : Bool) → Option ℤ → Option ℤ
+floor_for true floor = floor
+floor_for false floor = None
+
 -- what the shards of a pass did, and why it was halted, if it was
-abbrev pub tally_in : PassEnd → Tally
-tally_in (ends.Closed visited dropped floor best) = record { visited = visited; dropped = dropped; best = best }
-tally_in (ends.Halted cause visited dropped best) = record { visited = visited; dropped = dropped; best = best }
+abbrev pub tally_in : (gap : Bool) → PassEnd → Tally
+tally_in gap (ends.Closed visited dropped floor best) = record { visited = visited; dropped = dropped; least_floor = floor_for gap floor; best = best }
+tally_in gap (ends.Halted cause visited dropped best) = record { visited = visited; dropped = dropped; least_floor = None; best = best }
 
 abbrev pub halt_in : PassEnd → Option Cause
 halt_in (ends.Closed visited dropped floor best) = None
 halt_in (ends.Halted cause visited dropped best) = Some cause
 
--- the progress before the next pass
-abbrev pub doubled : Progress → Progress
-doubled progress = record progress { schedule = record { share = progress.schedule.share * 2 } }
+-- the cost of the solution that is held
+abbrev pub held_cost : Option Found → Option ℤ
+held_cost held = option_map (λ (f : Found). f.cost) held
+
+-- a closed pass, as the schedule sees it
+abbrev pub summary_of : (dropped : ℕ) → (floor : Option ℤ) → (held : Option Found) → GapSummary
+summary_of dropped floor held = record { dropped = dropped; least_floor = floor; best = held_cost held }
+
+-- the progress before the next pass, after one that dropped so many nodes with this best floor
+abbrev pub going_on : Model → (dropped : ℕ) → (floor : Option ℤ) → Progress → Progress
+going_on m dropped floor progress =
+    record progress { schedule = record { share = progress.schedule.share * 2 }; bound = bound_after m.minimize progress.bound (summary_of dropped floor progress.held) }
+
+-- the solution that is held is no worse than the best floor of the dropped nodes
+abbrev pub MeetsFloor : Model → (floor : Option ℤ) → (held : Option Found) → Type 0
+MeetsFloor m None held = ⊥
+MeetsFloor m (Some floor) None = ⊥
+MeetsFloor m (Some floor) (Some f) = order_word m.minimize m.join (Some f.cost) ≤ℤ order_word m.minimize m.join (Some floor)
+
+-- no list that was lost is better than what is held: no node was dropped, or what is held meets the floors of the dropped nodes
+abbrev pub LosesNothing : Model → (dropped : ℕ) → (floor : Option ℤ) → (held : Option Found) → Type 0
+LosesNothing m dropped floor held = (dropped ≡ 0) ⊎ ((0 < dropped) × MeetsFloor m floor held)
 
 -- the verdict of a search that lost nothing
 abbrev pub verdict_of : Option Found → Verdict
@@ -120,19 +162,28 @@ halt_ending visited causes.Budget = Ended (verdicts.Stopped visited)
 halt_ending visited (causes.Fault fault) = Ended (verdicts.Fault fault)
 halt_ending visited causes.Memory = OutOfMemory
 
+-- the bound that is printed: where the budget is spent
+abbrev pub printed_bound : (halt : Option Cause) → Option ℤ → Option ℤ
+printed_bound None bound = None
+printed_bound (Some causes.Budget) bound = bound
+printed_bound (Some (causes.Fault fault)) bound = None
+printed_bound (Some causes.Memory) bound = None
+
 -- a run goes on after a pass that was closed and dropped nodes
 abbrev pub GoesOn : Tally → (halt : Option Cause) → Type 0
 GoesOn tally None = 0 < tally.dropped
 GoesOn tally (Some cause) = ⊥
 
--- a run that has come so far ends so after a pass that was halted, or closed without a dropped node
-abbrev pub IsLast : Tally → (halt : Option Cause) → Progress → Ending → Type 0
-IsLast tally None progress ending = (tally.dropped ≡ 0) × (ending ≡ Ended (verdict_of progress.held))
-IsLast tally (Some cause) progress ending = ending ≡ halt_ending progress.visited cause
+-- a run that has come so far ends so after a pass that was halted, or closed and lost nothing
+abbrev pub IsLast : Model → Tally → (halt : Option Cause) → Progress → Ending → Type 0
+IsLast m tally None progress ending = LosesNothing m tally.dropped tally.least_floor progress.held × (ending ≡ Ended (verdict_of progress.held))
+IsLast m tally (Some cause) progress ending = ending ≡ halt_ending progress.visited cause
 
--- the text of an ending was printed, or a write failed, and a front of it was
-abbrev pub IsTold : Model → (before after : Option (List ℕ)) → Status → Ending → Type 0
-IsTold m before after status ending = ((status ≡ ending_status ending) × Takes before after (ending_text m ending)) ⊎ ((status ≡ statuses.WriteFault) × TakesFront before after (ending_text m ending))
+-- the text of an ending was printed, behind that of a bound, or a write failed, and a front of both was
+abbrev pub IsTold : Printing → Model → (before after : Option (List ℕ)) → Status → (bound : Option ℤ) → Ending → Type 0
+IsTold printing m before after status bound ending =
+    ((status ≡ ending_status ending) × Takes before after (bound_text bound printing ++ ending_text m ending))
+    ⊎ ((status ≡ statuses.WriteFault) × TakesFront before after (bound_text bound printing ++ ending_text m ending))
 
 -- the printed lines of a pass, with the better solution that it found
 abbrev pub lines_of : Printing → Model → Progress → Tally → (found : Option Found) → List ℕ
@@ -140,16 +191,20 @@ lines_of printing m progress tally found = passes_text printing m (pass_of progr
 
 -- What follows a pass: its lines are printed, and then the run goes on, or it ends and this is printed too. Or a write failed.
 abbrev pub IsFollowed : Printing → Model → (before after : Option (List ℕ)) → (old new : Progress) → Tally → (halt : Option Cause) → (found : Option Found) → Option Status → Type 0
-IsFollowed printing m before after old new tally halt found None = GoesOn tally halt × (new ≡ doubled (progress_after old found tally.visited)) × Takes before after (lines_of printing m old tally found)
+IsFollowed printing m before after old new tally halt found None =
+    GoesOn tally halt × (new ≡ going_on m tally.dropped tally.least_floor (progress_after old found tally.visited)) × Takes before after (lines_of printing m old tally found)
 IsFollowed printing m before after old new tally halt found (Some status) =
-    ((mid : Option (List ℕ)) × (ending : Ending) × Takes before mid (lines_of printing m old tally found) × IsLast tally halt (progress_after old found tally.visited) ending × IsTold m mid after status ending)
+    ((mid : Option (List ℕ)) × (ending : Ending) × Takes before mid (lines_of printing m old tally found) × IsLast m tally halt (progress_after old found tally.visited) ending
+    × IsTold printing m mid after status (printed_bound halt old.bound) ending × (new.held ≡ held_after old.held found))
     ⊎ ((status ≡ statuses.WriteFault) × TakesFront before after (lines_of printing m old tally found))
 
 -- ---- the end
 
--- A record that is right was printed, or a write failed, and a front of it was.
-pub record Concluded (m : Model) (options : Options) (printing : Printing) (before after : Option (List ℕ)) (status : Status) : Type 0 where
+-- A record that is right was printed, and what it claims is answered; or a write failed, a front of it was printed, and nothing is
+-- claimed.
+pub record Concluded (m : Model) (options : Options) (gap : Bool) (printing : Printing) (before after : Option (List ℕ)) (solved : Solved) : Type 0 where
   pub run : Record
-  pub right : Right m options run
-  pub word : KeepsWord m options run.ending
-  pub printed : ((status ≡ ending_status run.ending) × Takes before after (record_text printing m run)) ⊎ ((status ≡ statuses.WriteFault) × TakesFront before after (record_text printing m run))
+  pub right : Right m options gap run
+  pub word : KeepsWord m options run.bound run.ending
+  pub printed : ((solved.status ≡ ending_status run.ending) × Takes before after (record_text printing m run) × (solved.claim ≡ claim_of run))
+      ⊎ ((solved.status ≡ statuses.WriteFault) × TakesFront before after (record_text printing m run) × (solved.claim ≡ None))

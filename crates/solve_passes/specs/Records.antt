@@ -1,15 +1,19 @@
--- What a run of a search does once a model is loaded, as a record: its passes with the better solutions found in them, and how
--- it ended; the text and the status of such a record; and which records are right for a model.
-use Rattle.std.specs.Prelude.{◌≡◌, ℕ, ◌+◌, ◌-◌, ◌^◌, ◌<◌, ◌≤◌, Bool, false, ◌⊎◌, List, [], ◌∷◌, ◌++◌, Option, Some, None, IfSome, option_to_list, ℤ, codes}
+-- What a run of a search does once a model is loaded, as a record: its passes with the better solutions found in them, a bound,
+-- and how it ended; the text, the status and the claim of such a record; and which records are right for a model.
+use Rattle.std.specs.Prelude.{◌≡◌, ℕ, ◌+◌, ◌-◌, ◌^◌, ◌<◌, ◌≤◌, Bool, true, false, ◌⊎◌, List, [], ◌∷◌, ◌++◌, length, map, Option, Some, None, IfSome, option_map, option_to_list, ℤ, codes}
 use Rattle.std.specs.List.{flat_map, sum_by, AllByRecursion}
 use Rattle.dp_model.specs.Costs.{IsBetter}
 use Rattle.dp_base.specs.Bytes.{line}
-use Rattle.solve_report.specs.Lines.{solution_text, pass_line, verdict_text}
-use Rattle.dp_claims.specs.Enough.{IsAtMostReached, IsBelowEnough}
+use Rattle.solve_report.specs.Lines.{solution_text, pass_line, bound_line, verdict_text}
+use Rattle.dp_claims.specs.Enough.{Has, IsAtMostReached, IsBelowEnough}
 use Rattle.dp_claims.specs.Honest.{Honest}
+use Rattle.dp_steps.specs.Bounds.{has_floors}
 use Rattle.dp_steps.specs.Faults.{Meets}
 use Rattle.dp_steps.specs.States.{Base, Inner, Forbidden}
 use Rattle.dp_steps.specs.Lists.{Solution}
+use Rattle.gap_laws.specs.Gaps.{IsReachedFloor, NoneBetter}
+use Rattle.dp_model.specs.declared.answers.Claim.{Claim}
+use Rattle.dp_model.specs.declared.answers.Claim.TheVariants as claims
 use Rattle.dp_model.specs.declared.answers.Found.{Found}
 use Rattle.dp_model.specs.declared.answers.Verdict.{Verdict}
 use Rattle.dp_model.specs.declared.answers.Verdict.TheVariants as verdicts
@@ -17,8 +21,10 @@ use Rattle.dp_model.specs.declared.answers.Options.{Options}
 use Rattle.dp_model.specs.declared.whole.Model.{Model}
 use Rattle.solve_passes.specs.declared.progress.Printing.{Printing}
 use Rattle.solve_passes.specs.declared.progress.Printing.TheVariants.{All, VerdictAlone}
-use Rattle.solve_passes.specs.declared.status.Status.{Status}
-use Rattle.solve_passes.specs.declared.status.Status.TheVariants as statuses
+use Rattle.run_ends.specs.Claims.{optimal_claim}
+use Rattle.run_ends.specs.Statuses.{verdict_status}
+use Rattle.run_ends.specs.declared.status.Status.{Status}
+use Rattle.run_ends.specs.declared.status.Status.TheVariants as statuses
 
 -- a pass, with the better solution that is printed before it, if one is
 pub record Pass : Type 0 where
@@ -33,10 +39,11 @@ pub data Ending : Type 0 where
   Ended : (verdict : Verdict) → Ending
   OutOfMemory : Ending
 
--- `at_target` is the solution without steps that is printed before any pass, where the target is base.
+-- `at_target` is the solution without steps that is printed before any pass, where the target is base. The bound is a cost.
 pub record Record : Type 0 where
   pub at_target : Option Found
   pub passes : List Pass
+  pub bound : Option ℤ
   pub ending : Ending
 
 -- ---- its text
@@ -61,18 +68,16 @@ abbrev pub passes_text : Printing → Model → List Pass → List ℕ
 passes_text All m ps = flat_map (pass_text m) ps
 passes_text VerdictAlone m ps = []
 
+abbrev pub bound_text : Option ℤ → Printing → List ℕ
+bound_text None printing = []
+bound_text (Some b) All = bound_line b
+bound_text (Some b) VerdictAlone = []
+
+-- the line of the bound stands before the ending
 abbrev pub record_text : Printing → Model → Record → List ℕ
-record_text printing m r = found_text printing m r.at_target ++ passes_text printing m r.passes ++ ending_text m r.ending
+record_text printing m r = found_text printing m r.at_target ++ passes_text printing m r.passes ++ (bound_text r.bound printing ++ ending_text m r.ending)
 
 -- ---- its status
-
-abbrev pub verdict_status : Verdict → Status
-verdict_status (verdicts.Optimal c) = statuses.Success
-verdict_status verdicts.Infeasible = statuses.Negative
-verdict_status (verdicts.Stopped v) = statuses.Stopped
-verdict_status (verdicts.Fault f) = statuses.Fault
-verdict_status (verdicts.Legal c) = statuses.Success
-verdict_status (verdicts.Illegal n r) = statuses.Negative
 
 abbrev pub ending_status : Ending → Status
 ending_status (Ended v) = verdict_status v
@@ -110,24 +115,34 @@ Improving minimize [] = Unit {0}
 Improving minimize (s ∷ []) = Unit {0}
 Improving minimize (s ∷ t ∷ ss) = IsBetter minimize t.cost s.cost × Improving minimize (t ∷ ss)
 
+abbrev pub last_solution : List Found → Option Found
+last_solution [] = None
+last_solution (s ∷ []) = Some s
+last_solution (s ∷ t ∷ ss) = last_solution (t ∷ ss)
+
 -- the cost of the last solution
 abbrev pub last_cost : List Found → Option ℤ
-last_cost [] = None
-last_cost (s ∷ []) = Some s.cost
-last_cost (s ∷ t ∷ ss) = last_cost (t ∷ ss)
+last_cost ss = option_map (λ (s : Found). s.cost) (last_solution ss)
+
+abbrev pub costs : List Found → List ℤ
+costs ss = map (λ (s : Found). s.cost) ss
 
 abbrev pub IsBaseTarget : Model → Type 0
 IsBaseTarget m = (cost : ℤ) × Base m m.target cost
 
+-- the gap is asked for, pruning is on, and the model has a dual bound
+abbrev pub UsesFloors : Model → Options → (gap : Bool) → Type 0
+UsesFloors m options gap = (gap ≡ true) × (has_floors m options.prune ≡ true)
+
 -- What a verdict says of the record that it ends. A run is stopped only where its visits reached the budget, and the budget is
 -- below what is enough; a fault is met by its list.
-abbrev pub RightVerdict : Model → Options → Record → Verdict → Type 0
-RightVerdict m options r (verdicts.Optimal c) = (last_cost (solutions r) ≡ Some c) × (LastDroppedNone r.passes ⊎ ((r.passes ≡ []) × IsBaseTarget m))
-RightVerdict m options r verdicts.Infeasible = (solutions r ≡ []) × (LastDroppedNone r.passes ⊎ ((r.passes ≡ []) × Forbidden m m.target))
-RightVerdict m options r (verdicts.Stopped v) = (v ≡ options.budget) × (v ≡ visits r.passes) × IsBelowEnough m options.keep options.budget
-RightVerdict m options r (verdicts.Fault f) = Meets m options.prune f.steps f.spot f.kind
-RightVerdict m options r (verdicts.Legal c) = ⊥
-RightVerdict m options r (verdicts.Illegal n reason) = ⊥
+abbrev pub RightVerdict : Model → Options → (gap : Bool) → Record → Verdict → Type 0
+RightVerdict m options gap r (verdicts.Optimal c) = (last_cost (solutions r) ≡ Some c) × (LastDroppedNone r.passes ⊎ (UsesFloors m options gap ⊎ ((r.passes ≡ []) × IsBaseTarget m)))
+RightVerdict m options gap r verdicts.Infeasible = (solutions r ≡ []) × (LastDroppedNone r.passes ⊎ ((r.passes ≡ []) × Forbidden m m.target))
+RightVerdict m options gap r (verdicts.Stopped v) = (v ≡ options.budget) × (v ≡ visits r.passes) × IsBelowEnough m options.keep options.budget
+RightVerdict m options gap r (verdicts.Fault f) = Meets m options.prune f.steps f.spot f.kind
+RightVerdict m options gap r (verdicts.Legal c) = ⊥
+RightVerdict m options gap r (verdicts.Illegal n reason) = ⊥
 
 -- there is no pass only where the target is not an inner state, or the verdict is a fault
 abbrev pub NeedsPass : Model → Verdict → Type 0
@@ -138,13 +153,23 @@ NeedsPass m (verdicts.Stopped v) = Inner m m.target
 NeedsPass m (verdicts.Legal c) = Inner m m.target
 NeedsPass m (verdicts.Illegal n reason) = Inner m m.target
 
-abbrev pub RightEnding : Model → Options → Record → Ending → Type 0
-RightEnding m options r (Ended v) = RightVerdict m options r v × (r.passes ≡ [] → NeedsPass m v → ⊥)
-RightEnding m options r OutOfMemory = Unit {0}
+abbrev pub RightEnding : Model → Options → (gap : Bool) → Record → Ending → Type 0
+RightEnding m options gap r (Ended v) = RightVerdict m options gap r v × (r.passes ≡ [] → NeedsPass m v → ⊥)
+RightEnding m options gap r OutOfMemory = Unit {0}
+
+-- `stopped`, after at least two passes, where floors are used
+abbrev pub NeedsBound : Model → Options → (gap : Bool) → Record → Type 0
+NeedsBound m options gap r = ((visits : ℕ) × (r.ending ≡ Ended (verdicts.Stopped visits))) × UsesFloors m options gap × (2 ≤ length r.passes)
+
+-- There is a bound exactly there. It is the cost of a printed solution, or the floor of an inner state that a path leads to, for
+-- that path's cost so far.
+abbrev pub RightBound : Model → Options → (gap : Bool) → Record → Option ℤ → Type 0
+RightBound m options gap r None = NeedsBound m options gap r → ⊥
+RightBound m options gap r (Some b) = NeedsBound m options gap r × (Has (costs (solutions r)) b ⊎ IsReachedFloor m b)
 
 -- A record that is right for a model and options. Each pass visits no more nodes than there are pairs of a length and an inner
 -- state that a path of this length leads to.
-pub record Right (m : Model) (options : Options) (r : Record) : Type 0 where
+pub record Right (m : Model) (options : Options) (gap : Bool) (r : Record) : Type 0 where
   pub numbered : NumberedFrom 1 r.passes
   pub dropping : AllButLastDropped r.passes
   pub within_budget : visits r.passes ≤ options.budget
@@ -152,7 +177,8 @@ pub record Right (m : Model) (options : Options) (r : Record) : Type 0 where
   pub legal : AllByRecursion (λ (s : Found). Solution m s.steps s.cost) (solutions r)
   pub improving : Improving m.minimize (solutions r)
   pub base_target : IfSome r.at_target (λ s. (r.passes ≡ []) × IsBaseTarget m)
-  pub ending : RightEnding m options r r.ending
+  pub bound : RightBound m options gap r r.bound
+  pub ending : RightEnding m options gap r r.ending
 
 -- ---- what a verdict says of all legal lists
 
@@ -160,12 +186,25 @@ pub record Right (m : Model) (options : Options) (r : Record) : Type 0 where
 abbrev pub IsTrusted : Model → Options → Type 0
 IsTrusted m options = (options.prune ≡ false) ⊎ Honest m options.keep
 
--- `optimal`: none is better; `infeasible`: there is none
-abbrev pub KeepsWord : Model → Options → Ending → Type 0
-KeepsWord m options (Ended (verdicts.Optimal cost)) = IsTrusted m options → (steps : List ℕ) (other : ℤ) → Solution m steps other → IsBetter m.minimize other cost → ⊥
-KeepsWord m options (Ended verdicts.Infeasible) = IsTrusted m options → (steps : List ℕ) (cost : ℤ) → Solution m steps cost → ⊥
-KeepsWord m options (Ended (verdicts.Stopped visits)) = Unit {0}
-KeepsWord m options (Ended (verdicts.Fault fault)) = Unit {0}
-KeepsWord m options (Ended (verdicts.Legal cost)) = Unit {0}
-KeepsWord m options (Ended (verdicts.Illegal done reason)) = Unit {0}
-KeepsWord m options OutOfMemory = Unit {0}
+-- `optimal`: none is better; `infeasible`: there is none; `stopped` after a bound: none is better than the bound
+abbrev pub KeepsWord : Model → Options → (bound : Option ℤ) → Ending → Type 0
+KeepsWord m options bound (Ended (verdicts.Optimal cost)) = IsTrusted m options → (steps : List ℕ) (other : ℤ) → Solution m steps other → IsBetter m.minimize other cost → ⊥
+KeepsWord m options bound (Ended verdicts.Infeasible) = IsTrusted m options → (steps : List ℕ) (cost : ℤ) → Solution m steps cost → ⊥
+KeepsWord m options bound (Ended (verdicts.Stopped visits)) = IfSome bound (λ b. IsTrusted m options → NoneBetter m b)
+KeepsWord m options bound (Ended (verdicts.Fault fault)) = Unit {0}
+KeepsWord m options bound (Ended (verdicts.Legal cost)) = Unit {0}
+KeepsWord m options bound (Ended (verdicts.Illegal done reason)) = Unit {0}
+KeepsWord m options bound OutOfMemory = Unit {0}
+
+-- what a record claims of all legal lists: its last solution after `optimal`, and after `infeasible` that there is none
+abbrev pub claim_after : (last : Option Found) → Ending → Option Claim
+claim_after last (Ended (verdicts.Optimal cost)) = optimal_claim last
+claim_after last (Ended verdicts.Infeasible) = Some claims.Infeasible
+claim_after last (Ended (verdicts.Stopped visits)) = None
+claim_after last (Ended (verdicts.Fault fault)) = None
+claim_after last (Ended (verdicts.Legal cost)) = None
+claim_after last (Ended (verdicts.Illegal done reason)) = None
+claim_after last OutOfMemory = None
+
+abbrev pub claim_of : Record → Option Claim
+claim_of r = claim_after (last_solution (solutions r)) r.ending

@@ -5,12 +5,12 @@ ghost use Rattle.dp_model.specs.declared.answers.Found.{Found};
 ghost use Rattle.dp_model.specs.Costs.{IsBetter};
 ghost use Rattle.dp_model.specs.declared.whole.Model.{Model};
 ghost use Rattle.solve_report.specs.Puts.{Puts};
-ghost use Rattle.solve_passes.specs.Records.{found_text, passes_text};
+ghost use Rattle.solve_passes.specs.Records.{bound_text, found_text, passes_text};
 ghost use Rattle.solve_passes.specs.Ongoing.{IsImproved, pass_of, progress_after};
 
 use dp_model::{Found, Model};
 use dp_outside::{Failed, Sink};
-use solve_report::{put_pass, put_solution};
+use solve_report::{put_bound, put_pass, put_solution};
 use width_loop::Schedule;
 
 /// What is printed of a run: its solutions, passes and verdict, or its verdict alone.
@@ -20,13 +20,16 @@ pub enum Printing {
     VerdictAlone,
 }
 
-/// How far a run has come: the passes made, the share of the next one, the visits of all passes, and the best solution.
+/// How far a run has come: the passes made, the share of the next one, the visits of all passes, the best solution, and the
+/// bound that the passes have proved.
 #[derive(Debug, Drop)]
 pub struct Progress {
     pub passes: u32,
     pub schedule: Schedule,
     pub visited: u64,
     pub held: Option<Found>,
+    /// `None` where the gap is not asked for, or no pass has proved one.
+    pub bound: Option<i64>,
 }
 
 /// What the shards of a pass did: how many nodes they visited and dropped, and the best solution that they hold.
@@ -34,6 +37,8 @@ pub struct Progress {
 pub struct Tally {
     pub visited: u64,
     pub dropped: u64,
+    /// The best floor of the dropped nodes; `None` where the gap is not asked for.
+    pub least_floor: Option<i64>,
     pub best: Option<Found>,
 }
 
@@ -71,6 +76,21 @@ pub(crate) fn put_found<S: Sink>(
 {
     match (printing, found) {
         (Printing::All, Some(found)) => put_solution(out, model, found),
+        _ => Ok(()),
+    }
+}
+
+/// Prints the line of a bound, if there is one and not the verdict alone is printed.
+pub(crate) fn put_bound_line<S: Sink>(
+    out: &mut S,
+    printing: Printing,
+    bound: Option<i64>,
+) -> Result<(), Failed>
+    ensures { Puts (S.taken out.old) (S.taken out.new) (S.faults out.old) (S.faults out.new)
+        (bound_text bound printing) result }
+{
+    match (printing, bound) {
+        (Printing::All, Some(bound)) => put_bound(out, bound),
         _ => Ok(()),
     }
 }
@@ -135,6 +155,7 @@ pub(crate) fn add_pass<S: Sink>(
     let Tally {
         visited,
         dropped,
+        least_floor: _,
         best,
     } = tally;
     let found = improved(model, &progress.held, best);

@@ -1,33 +1,36 @@
 //! A run of a search, whole.
 
-ghost use Rattle.std.specs.Prelude.{◌≡◌, ◌+◌, ◌^◌, ◌≤◌, ◌<◌, [], ℕ, List, Option, Some, None, IfSome, IfNone, option_map};
+ghost use Rattle.std.specs.Prelude.{◌≡◌, ◌+◌, ◌^◌, ◌≤◌, ◌<◌, [], ℕ, List, Option, Some, None, IfSome, IfNone, Bool};
 ghost use Rattle.dp_outside.specs.Outside.{Rose};
 ghost use Rattle.dp_steps.specs.States.{Base, Inner};
+ghost use Rattle.cost_laws.specs.Orders.{InWideRange};
 ghost use Rattle.dp_model.specs.Costs.{InRange};
 ghost use Rattle.dp_model.specs.declared.answers.Found.{Found};
 ghost use Rattle.dp_model.specs.declared.answers.Options.{Options};
 ghost use Rattle.pass_ends.specs.Passes.{AreOptions};
+ghost use Rattle.run_ends.specs.Claims.{solved_by as solved};
+ghost use Rattle.solve_passes.specs.Ongoing as floors;
 ghost use Rattle.solve_passes.specs.Records.{Ended};
-ghost use Rattle.solve_passes.specs.Ongoing.{Concluded, HistoryOf, IsFollowed, IsImproved, IsOngoing, IsTold, doubled, halt_ending, halt_in, tally_in, verdict_of};
+ghost use Rattle.solve_passes.specs.Ongoing.{Concluded, HasWord, HistoryOf, IsFollowed, IsImproved, IsOngoing, IsTold, LosesNothing, going_on, halt_ending, halt_in, held_cost, printed_bound, tally_in, verdict_of};
 
-use crate::endings::{conclude, run_out};
-use crate::progress::{Printing, Progress, Tally, add_pass, put_found};
-use crate::status::Status;
+use crate::progress::{Printing, Progress, Tally, add_pass, put_bound_line, put_found};
+use crate::turns::turn_after;
 use board_words::{Board, BoardSeat};
 use cost_laws::NO_INCUMBENT;
 use dp_model::{Cause, FaultAt, FaultKind, Found, Model, Options, Seq, Spot, Verdict};
 use dp_outside::{Gate, Sink};
 use pass_ends::PassEnd;
 use pass_run::{run_pass, start_at};
+use run_ends::{Solved, Status, conclude, run_out, solved_by};
 use std::alloc::Global;
 use std::sync::Wait;
 use std::thread::Threads;
 use successors::{ExpandEnd, Start};
-use width_loop::{PassSummary, Schedule, Turn};
+use width_loop::{GapSummary, Schedule, Turn};
 
 /// The cost of the solution that is held.
 fn cost_of(held: &Option<Found>) -> Option<i64>
-    ensures { result ≡ option_map (λ f. f.cost) held.now }
+    ensures { result ≡ held_cost held.now }
 {
     match held {
         Some(found) => Some(found.cost),
@@ -39,51 +42,95 @@ fn cost_of(held: &Option<Found>) -> Option<i64>
 fn after_closed<S: Sink>(
     out: &mut S,
     model: &Model,
+    printing: Printing,
     progress: &mut Progress,
     dropped: u64,
+    least_floor: Option<i64>,
 ) -> Option<Status>
-    requires { progress.old.schedule.share < 4611686018427387904 }
-    ensures goes_on { IfNone result ((0 < dropped) × (progress.new ≡ doubled progress.old) × (S.taken out.new ≡ S.taken out.old)) }
-    ensures ends { IfSome result (λ status. (dropped ≡ 0) × IsTold model.now (S.taken out.old) (S.taken out.new) status (Ended (verdict_of progress.old.held))) }
+    requires share { progress.old.schedule.share < 4611686018427387904 }
+    requires floor { IfSome least_floor InWideRange }
+    requires held { HasWord progress.old.held }
+    requires bound { IfSome progress.old.bound InWideRange }
+    ensures goes_on { IfNone result ((0 < dropped) × (progress.new ≡ going_on model.now dropped least_floor progress.old) × (S.taken out.new ≡ S.taken out.old)) }
+    ensures ends { IfSome result (λ status. LosesNothing model.now dropped least_floor progress.old.held
+        × IsTold printing model.now (S.taken out.old) (S.taken out.new) status None (Ended (verdict_of progress.old.held)) × (progress.new.held ≡ progress.old.held)) }
     ensures failed { result ≡ Some Status.WriteFault → Rose (S.faults out.old) (S.faults out.new) }
     ensures count { S.faults out.old ≤ S.faults out.new }
 {
     let best = cost_of(&progress.held);
-    match progress.schedule.next(Some(&PassSummary { dropped, best })) {
+    let summary = GapSummary {
+        dropped,
+        least_floor,
+        best,
+    };
+    match turn_after(model, progress, &summary) {
         Turn::Go(_) => None,
         Turn::Optimal(cost) => Some(conclude(out, model, &Verdict::Optimal(cost))),
         Turn::Infeasible => Some(conclude(out, model, &Verdict::Infeasible)),
     }
 }
 
-/// Ends a run of so many visits whose last pass was halted.
-fn after_halt<S: Sink>(out: &mut S, model: &Model, visited: u64, cause: Cause) -> Status
-    ensures told { IsTold model.now (S.taken out.old) (S.taken out.new) result (halt_ending visited cause) }
+/// Ends a run whose visits reached the budget, with the bound that its passes have proved.
+fn stop<S: Sink>(
+    out: &mut S,
+    model: &Model,
+    printing: Printing,
+    visited: u64,
+    bound: Option<i64>,
+) -> Status
+    ensures told { IsTold printing model.now (S.taken out.old) (S.taken out.new) result bound (Ended (Verdict.Stopped visited)) }
+    ensures failed { result ≡ Status.WriteFault → Rose (S.faults out.old) (S.faults out.new) }
+    ensures count { S.faults out.old ≤ S.faults out.new }
+{
+    if put_bound_line(out, printing, bound).is_err() {
+        return Status::WriteFault;
+    }
+    conclude(out, model, &Verdict::Stopped(visited))
+}
+
+/// Ends a run of so many visits, whose last pass was halted.
+fn after_halt<S: Sink>(
+    out: &mut S,
+    model: &Model,
+    printing: Printing,
+    visited: u64,
+    bound: Option<i64>,
+    cause: Cause,
+) -> Status
+    ensures told { IsTold printing model.now (S.taken out.old) (S.taken out.new) result (printed_bound (Some cause) bound) (halt_ending visited cause) }
     ensures failed { result ≡ Status.WriteFault → Rose (S.faults out.old) (S.faults out.new) }
     ensures count { S.faults out.old ≤ S.faults out.new }
 {
     match cause {
-        Cause::Budget => conclude(out, model, &Verdict::Stopped(visited)),
+        Cause::Budget => stop(out, model, printing, visited, bound),
         Cause::Fault(fault) => conclude(out, model, &Verdict::Fault(fault)),
         Cause::Memory => run_out(out),
     }
 }
 
+/// The best floor of the dropped nodes, where the gap is asked for.
+fn floor_for(gap: bool, least_floor: Option<i64>) -> Option<i64>
+    ensures { result ≡ floors.floor_for gap least_floor }
+{
+    if gap { least_floor } else { None }
+}
+
 /// What the shards of a pass did, and why it was halted, if it was.
-fn parts_of(end: PassEnd) -> (Tally, Option<Cause>)
-    ensures tally { result.0 ≡ tally_in end }
+fn parts_of(end: PassEnd, gap: bool) -> (Tally, Option<Cause>)
+    ensures tally { result.0 ≡ tally_in gap end }
     ensures halt { result.1 ≡ halt_in end }
 {
     match end {
         PassEnd::Closed {
             visited,
             dropped,
-            least_floor: _,
+            least_floor,
             best,
         } => (
             Tally {
                 visited,
                 dropped,
+                least_floor: floor_for(gap, least_floor),
                 best,
             },
             None,
@@ -97,6 +144,7 @@ fn parts_of(end: PassEnd) -> (Tally, Option<Cause>)
             Tally {
                 visited,
                 dropped,
+                least_floor: None,
                 best,
             },
             Some(cause),
@@ -104,8 +152,8 @@ fn parts_of(end: PassEnd) -> (Tally, Option<Cause>)
     }
 }
 
-/// Prints a pass, and how the run ended if the pass was the last: it was halted, or dropped no node. Answers the status if the
-/// run is over.
+/// Prints a pass, and how the run ended if the pass was the last: it was halted, or lost nothing. Answers the status if the run
+/// is over.
 fn after_pass<S: Sink>(
     out: &mut S,
     model: &Model,
@@ -117,18 +165,30 @@ fn after_pass<S: Sink>(
     requires few { progress.old.passes ≤ 56 }
     requires fits { progress.old.visited + tally.visited ≤ 2 ^ 41 }
     requires share { progress.old.schedule.share < 4611686018427387904 }
+    requires held { HasWord progress.old.held }
+    requires bound { IfSome progress.old.bound InWideRange }
+    requires best { HasWord tally.best }
+    requires floor { IfSome tally.least_floor InWideRange }
     ensures followed { (found : Option Found) × IsImproved model.now progress.old.held tally.best found
         × IsFollowed printing model.now (S.taken out.old) (S.taken out.new) progress.old progress.new tally halt found result }
     ensures failed { result ≡ Some Status.WriteFault → Rose (S.faults out.old) (S.faults out.new) }
     ensures count { S.faults out.old ≤ S.faults out.new }
 {
     let dropped = tally.dropped;
+    let least_floor = tally.least_floor;
     if add_pass(out, model, printing, progress, tally).is_err() {
         return Some(Status::WriteFault);
     }
     match halt {
-        Some(cause) => Some(after_halt(out, model, progress.visited, cause)),
-        None => after_closed(out, model, progress, dropped),
+        Some(cause) => Some(after_halt(
+            out,
+            model,
+            printing,
+            progress.visited,
+            progress.bound,
+            cause,
+        )),
+        None => after_closed(out, model, printing, progress, dropped, least_floor),
     }
 }
 
@@ -139,6 +199,7 @@ fn make_pass<R: Threads + Wait + Sync, S: Sink, G: Gate>(
     out: &mut S,
     model: &Model,
     options: &Options,
+    gap: bool,
     printing: Printing,
     progress: &mut Progress,
     board: &Board,
@@ -149,34 +210,35 @@ fn make_pass<R: Threads + Wait + Sync, S: Sink, G: Gate>(
     requires options { AreOptions options.now }
     requires ongoing { IsOngoing model.now options.now board.now progress.old seat.old }
     ensures goes_on { IfNone result (IsOngoing model.now options.now board.now progress.new seat.new × (progress.old.passes < progress.new.passes)) }
-    ensures history { IfNone result ((before : Option (List ℕ)) → HistoryOf model.now options.now.keep printing before (S.taken out.old) progress.old → HistoryOf model.now options.now.keep printing before (S.taken out.new) progress.new) }
-    ensures ends { IfSome result (λ status. (before : Option (List ℕ)) → HistoryOf model.now options.now.keep printing before (S.taken out.old) progress.old → Concluded model.now options.now printing before (S.taken out.new) status) }
+    ensures history { IfNone result ((before : Option (List ℕ)) → HistoryOf model.now options.now gap printing before (S.taken out.old) progress.old → HistoryOf model.now options.now gap printing before (S.taken out.new) progress.new) }
+    ensures ends { IfSome result (λ status. (before : Option (List ℕ)) → HistoryOf model.now options.now gap printing before (S.taken out.old) progress.old → Concluded model.now options.now gap printing before (S.taken out.new) (solved status progress.new.held)) }
     ensures failed { result ≡ Some Status.WriteFault → Rose (S.faults out.old) (S.faults out.new) }
     ensures count { S.faults out.old ≤ S.faults out.new }
 {
     let share = progress.schedule.share;
     let end = run_pass(rt, alloc, model, options, share, board, seat, gate);
-    let (tally, halt) = parts_of(end);
+    let (tally, halt) = parts_of(end, gap);
     after_pass(out, model, printing, progress, tally, halt)
 }
 
-/// Makes passes until one of them ends the run. Answers the status.
+/// Makes passes until one of them ends the run.
 fn make_passes<R: Threads + Wait + Sync, S: Sink, G: Gate>(
     rt: &R,
     alloc: Global,
     out: &mut S,
     model: &Model,
     options: &Options,
+    gap: bool,
     printing: Printing,
     board: &Board,
     seat: &mut BoardSeat,
     gate: &G,
-) -> Status
+) -> Solved
     requires inner { Inner model.now model.now.target }
     requires options { AreOptions options.now }
-    requires begun { IsOngoing model.now options.now board.now (record { passes = 0; schedule = record { share = 1 }; visited = 0; held = None }) seat.old }
-    ensures concluded { Concluded model.now options.now printing (S.taken out.old) (S.taken out.new) result }
-    ensures failed { result ≡ Status.WriteFault → Rose (S.faults out.old) (S.faults out.new) }
+    requires begun { IsOngoing model.now options.now board.now (record { passes = 0; schedule = record { share = 1 }; visited = 0; held = None; bound = None }) seat.old }
+    ensures concluded { Concluded model.now options.now gap printing (S.taken out.old) (S.taken out.new) result }
+    ensures failed { result.status ≡ Status.WriteFault → Rose (S.faults out.old) (S.faults out.new) }
     ensures count { S.faults out.old ≤ S.faults out.new }
 {
     let mut progress = Progress {
@@ -184,6 +246,7 @@ fn make_passes<R: Threads + Wait + Sync, S: Sink, G: Gate>(
         schedule: Schedule::new(),
         visited: 0,
         held: None,
+        bound: None,
     };
     'passes: loop {
         if let Some(status) = make_pass(
@@ -192,53 +255,56 @@ fn make_passes<R: Threads + Wait + Sync, S: Sink, G: Gate>(
             out,
             model,
             options,
+            gap,
             printing,
             &mut progress,
             board,
             seat,
             gate,
         ) {
-            return status;
+            let Progress { held, .. } = progress;
+            return solved_by(status, held);
         }
     }
 }
 
-/// Searches a model whose target is an inner state. Answers the status.
+/// Searches a model whose target is an inner state.
 fn search<R: Threads + Wait + Sync, S: Sink, G: Gate>(
     rt: &R,
     alloc: Global,
     out: &mut S,
     model: &Model,
     options: &Options,
+    gap: bool,
     printing: Printing,
     gate: &G,
-) -> Status
+) -> Solved
     requires inner { Inner model.now model.now.target }
     requires options { AreOptions options.now }
-    ensures concluded { Concluded model.now options.now printing (S.taken out.old) (S.taken out.new) result }
-    ensures failed { result ≡ Status.WriteFault → Rose (S.faults out.old) (S.faults out.new) }
+    ensures concluded { Concluded model.now options.now gap printing (S.taken out.old) (S.taken out.new) result }
+    ensures failed { result.status ≡ Status.WriteFault → Rose (S.faults out.old) (S.faults out.new) }
     ensures count { S.faults out.old ≤ S.faults out.new }
 {
     match Board::new(alloc, NO_INCUMBENT, options.budget()) {
         Ok((board, mut seat)) => make_passes(
-            rt, alloc, out, model, options, printing, &board, &mut seat, gate,
+            rt, alloc, out, model, options, gap, printing, &board, &mut seat, gate,
         ),
-        Err(_) => run_out(out),
+        Err(_) => solved_by(run_out(out), None),
     }
 }
 
-/// Prints the solution without steps, and that it is optimal. Answers the status.
+/// Prints the solution without steps, and that it is optimal.
 fn conclude_at_target<S: Sink>(
     alloc: Global,
     out: &mut S,
     model: &Model,
     printing: Printing,
     cost: i64,
-) -> Status
+) -> Solved
     requires base { Base model.now model.now.target cost }
     requires range { InRange cost }
-    ensures concluded { (options : Options) → Concluded model.now options printing (S.taken out.old) (S.taken out.new) result }
-    ensures failed { result ≡ Status.WriteFault → Rose (S.faults out.old) (S.faults out.new) }
+    ensures concluded { (options : Options) (gap : Bool) → Concluded model.now options gap printing (S.taken out.old) (S.taken out.new) result }
+    ensures failed { result.status ≡ Status.WriteFault → Rose (S.faults out.old) (S.faults out.new) }
     ensures count { S.faults out.old ≤ S.faults out.new }
 {
     let found = Some(Found {
@@ -246,9 +312,9 @@ fn conclude_at_target<S: Sink>(
         steps: Seq::of(Vec::new(alloc)),
     });
     if put_found(out, model, printing, &found).is_err() {
-        return Status::WriteFault;
+        return solved_by(Status::WriteFault, None);
     }
-    conclude(out, model, &Verdict::Optimal(cost))
+    solved_by(conclude(out, model, &Verdict::Optimal(cost)), found)
 }
 
 /// The verdict that the target meets a fault.
@@ -262,28 +328,32 @@ fn fault_at_target(alloc: Global, spot: Spot, kind: FaultKind) -> Verdict
     })
 }
 
-/// Solves a model: prints the record of the run, or of it the verdict alone, and answers the status.
+/// Solves a model: prints the record of the run, or of it the verdict alone, and answers the status, and what the run claims of all
+/// legal lists. With `gap`, a run that is stopped prints a bound where its passes have proved one, and a run may end as optimal by
+/// the floors of dropped nodes.
 pub fn solve<R: Threads + Wait + Sync, S: Sink, G: Gate>(
     rt: &R,
     alloc: Global,
     out: &mut S,
     model: &Model,
     options: &Options,
+    gap: bool,
     printing: Printing,
     gate: &G,
-) -> Status
+) -> Solved
     requires { AreOptions options.now }
-    ensures concluded { Concluded model.now options.now printing (S.taken out.old) (S.taken out.new) result }
-    ensures failed { result ≡ Status.WriteFault → Rose (S.faults out.old) (S.faults out.new) }
+    ensures concluded { Concluded model.now options.now gap printing (S.taken out.old) (S.taken out.new) result }
+    ensures failed { result.status ≡ Status.WriteFault → Rose (S.faults out.old) (S.faults out.new) }
     ensures count { S.faults out.old ≤ S.faults out.new }
 {
     match start_at(alloc, model, options.prune()) {
-        Ok(Start::Open(_)) => search(rt, alloc, out, model, options, printing, gate),
+        Ok(Start::Open(_)) => search(rt, alloc, out, model, options, gap, printing, gate),
         Ok(Start::Base(cost)) => conclude_at_target(alloc, out, model, printing, cost),
-        Ok(Start::NotAllowed) => conclude(out, model, &Verdict::Infeasible),
+        Ok(Start::NotAllowed) => solved_by(conclude(out, model, &Verdict::Infeasible), None),
         Err(ExpandEnd::Fault { spot, kind, .. }) => {
-            conclude(out, model, &fault_at_target(alloc, spot, kind))
+            let fault = fault_at_target(alloc, spot, kind);
+            solved_by(conclude(out, model, &fault), None)
         }
-        Err(ExpandEnd::Memory) => run_out(out),
+        Err(ExpandEnd::Memory) => solved_by(run_out(out), None),
     }
 }

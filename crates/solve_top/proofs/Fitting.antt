@@ -1,11 +1,12 @@
 -- What words ask for lies in its range.
-use Rattle.std.proofs.Common.{◌≡◌, ℕ, ◌≤◌, ◌^◌, ◌&&◌, ◌⊎◌, inl, inr, true, false, Bool, cond, List, [], ◌∷◌, Option, Some, None, refl, sym, subst, ◌∙◌, nat_le, arith}
+use Rattle.std.proofs.Common.{◌≡◌, ℕ, ◌≤◌, ◌&&◌, ◌⊎◌, inl, inr, true, false, Bool, cond, List, [], ◌∷◌, Option, Some, None, refl, sym, subst, nat_le, arith}
 use Rattle.std.specs.Prelude.{codes, option_and_then, option_map}
 use Rattle.std.specs.Str.{bytes_eq}
 use Rattle.std.specs.Str.Parse.{digits_value}
 use Rattle.std.proofs.lemmas.Bool.Decides.{nat_tests}
 use Rattle.clap.specs.Words.{Kinds}
 use Rattle.command_line.specs.Commands.{value_in, faults_in, solve, replay, show, generate}
+use Rattle.command_line.proofs.Searches.{is_search}
 use Rattle.command_line.specs.Jobs.{is_number, number_in, number_or, on_or_off, layer_or_all, options_of, unless_fault, solve_job, replay_job, show_job, sized_job, gen_job, solve_words, replay_words, show_words, gen_words, by_command, job_of}
 use Rattle.command_line.specs.declared.jobs.Job.{Job}
 use Rattle.command_line.specs.declared.jobs.Job.TheVariants as jobs
@@ -72,12 +73,12 @@ are_options w b p keep h k = record { some_workers = h.low; few_workers = h.high
 
 options_fit : (workers budget prune keep : Option (List ℕ)) (options : Options) → options_of workers budget prune keep ≡ Some options → AreOptions options
 options_fit workers budget prune keep options e =
-    let with_workers = λ (w : ℕ). option_and_then (λ (b : ℕ). option_and_then (λ (p : Bool). option_map (λ (k : Keep). record { workers = w; budget = b; prune = p; keep = k }) (layer_or_all keep)) (on_or_off prune)) (number_or 10000000 1 1099511627776 budget) in
+    let with_workers = λ (w : ℕ). option_and_then (λ (b : ℕ). option_and_then (λ (p : Bool). option_map (λ (k : Keep). record { workers = w; budget = b; prune = p; keep = k }) (layer_or_all keep)) (on_or_off true prune)) (number_or 10000000 1 1099511627776 budget) in
     let w = then_some with_workers (number_or 1 1 64 workers) options e in
-    let with_budget = λ (b : ℕ). option_and_then (λ (p : Bool). option_map (λ (k : Keep). record { workers = w.0; budget = b; prune = p; keep = k }) (layer_or_all keep)) (on_or_off prune) in
+    let with_budget = λ (b : ℕ). option_and_then (λ (p : Bool). option_map (λ (k : Keep). record { workers = w.0; budget = b; prune = p; keep = k }) (layer_or_all keep)) (on_or_off true prune) in
     let b = then_some with_budget (number_or 10000000 1 1099511627776 budget) options w.2 in
     let with_prune = λ (p : Bool). option_map (λ (k : Keep). record { workers = w.0; budget = b.0; prune = p; keep = k }) (layer_or_all keep) in
-    let p = then_some with_prune (on_or_off prune) options b.2 in
+    let p = then_some with_prune (on_or_off true prune) options b.2 in
     let whole : Keep → Options = λ (k : Keep). record { workers = w.0; budget = b.0; prune = p.0; keep = k } in
     let k = map_some whole (layer_or_all keep) options p.2 in
     subst AreOptions k.2 (are_options w.0 b.0 p.0 k.0 (workers_bounds workers w.0 w.1) (budget_bounds budget b.0 b.1))
@@ -91,13 +92,10 @@ free_job : (kinds : Kinds) (told : Option Job) (job : Job) → unless_fault kind
 free_job [] told job e = e
 free_job (kind ∷ kinds) told job e = absurd cc
 
-solve_fits : (domain problem workers budget prune keep : Option (List ℕ)) (job : Job) → solve_job domain problem workers budget prune keep ≡ Some job → JobFits job
-solve_fits (Some domain) (Some problem) workers budget prune keep job e =
-    let whole : Options → Job = λ (options : Options). jobs.Solve domain problem options in
-    let o = map_some whole (options_of workers budget prune keep) job e in
-    subst JobFits o.2 (options_fit workers budget prune keep o.0 o.1)
-solve_fits (Some domain) None workers budget prune keep job e = absurd cc
-solve_fits None problem workers budget prune keep job e = absurd cc
+solve_fits : (domain problem workers budget prune keep gap : Option (List ℕ)) (job : Job) → solve_job domain problem workers budget prune keep gap ≡ Some job → JobFits job
+solve_fits domain problem workers budget prune keep gap job e =
+    let s = is_search domain problem workers budget prune keep gap job e in
+    subst JobFits (sym s.is) (options_fit workers budget prune keep s.given s.are)
 
 replay_fits : (domain problem list : Option (List ℕ)) (job : Job) → replay_job domain problem list ≡ Some job → JobFits job
 replay_fits (Some domain) (Some problem) (Some list) job e = subst JobFits (some_one (jobs.Replay domain problem list) job e) tt
@@ -131,7 +129,7 @@ gen_fits None size seed workers job e = absurd cc
 
 solve_words_fit : (ws : List (List ℕ)) (job : Job) → solve_words ws ≡ Some job → JobFits job
 unfolding solve_words
-solve_words_fit ws job e = solve_fits (value_in solve ws (codes "domain")) (value_in solve ws (codes "problem")) (value_in solve ws (codes "workers")) (value_in solve ws (codes "budget")) (value_in solve ws (codes "prune")) (value_in solve ws (codes "keep")) job (free_job (faults_in solve ws) (solve_job (value_in solve ws (codes "domain")) (value_in solve ws (codes "problem")) (value_in solve ws (codes "workers")) (value_in solve ws (codes "budget")) (value_in solve ws (codes "prune")) (value_in solve ws (codes "keep"))) job e)
+solve_words_fit ws job e = solve_fits (value_in solve ws (codes "domain")) (value_in solve ws (codes "problem")) (value_in solve ws (codes "workers")) (value_in solve ws (codes "budget")) (value_in solve ws (codes "prune")) (value_in solve ws (codes "keep")) (value_in solve ws (codes "gap")) job (free_job (faults_in solve ws) (solve_job (value_in solve ws (codes "domain")) (value_in solve ws (codes "problem")) (value_in solve ws (codes "workers")) (value_in solve ws (codes "budget")) (value_in solve ws (codes "prune")) (value_in solve ws (codes "keep")) (value_in solve ws (codes "gap"))) job e)
 
 replay_words_fit : (ws : List (List ℕ)) (job : Job) → replay_words ws ≡ Some job → JobFits job
 unfolding replay_words

@@ -1,5 +1,5 @@
 -- What comes of a generated model.
-use Rattle.std.proofs.Common.{◌≡◌, ◌≤◌, ℕ, List, [], ◌++◌, Option, Some, None, ◌⊎◌, inl, inr, refl, sym, subst, append_assoc, arith}
+use Rattle.std.proofs.Common.{◌≡◌, ◌≤◌, ℕ, List, [], ◌++◌, Option, Some, None, false, ◌⊎◌, inl, inr, refl, sym, subst, append_assoc, arith}
 use Rattle.dp_outside.specs.Outside.{Takes, TakesFront}
 use Rattle.dp_outside.proofs.Steps.{Takes-more}
 use Rattle.solve_report.proofs.Written.{TakesFront-append, TakesFront-longer}
@@ -8,11 +8,13 @@ use Rattle.dp_model.specs.declared.whole.Model.{Model}
 use Rattle.command_line.specs.declared.jobs.Job.TheVariants as jobs
 use Rattle.model_gen.specs.Texts.{domain_text, problem_text}
 use Rattle.model_gen.specs.declared.kinds.GenKind.{GenKind}
+use Rattle.run_ends.specs.declared.solved.Solved.{Solved}
+use Rattle.solve_top.proofs.Programs.{as_printed}
 use Rattle.solve_passes.specs.Ongoing.{Concluded}
 use Rattle.solve_passes.specs.Records.{Record, OutOfMemory, Right, ending_status, record_text}
 use Rattle.solve_passes.specs.declared.progress.Printing.TheVariants.{VerdictAlone}
-use Rattle.solve_passes.specs.declared.status.Status.{Status}
-use Rattle.solve_passes.specs.declared.status.Status.TheVariants as statuses
+use Rattle.run_ends.specs.declared.status.Status.{Status}
+use Rattle.run_ends.specs.declared.status.Status.TheVariants as statuses
 use Rattle.solve_top.specs.Jobs.{gen_options}
 use Rattle.solve_top.specs.Outcomes.{NoGenerated, Generated, Does, Printed, SolvesGenerated, gen_line, ground_line, no_model_text}
 use Rattle.solve_top.specs.Runs.{RefusedBy, outcome_of}
@@ -32,19 +34,29 @@ behind first second third front back wanted status took (inr h) = inr (h.0, Take
 -- ---- the model was loaded
 
 -- its ground transitions, and then a run
-pub ground_then : (m : Model) (workers : ℕ) (first second third : Option (List ℕ)) (status : Status) → Takes first second (ground_line m) → Concluded m (gen_options workers) VerdictAlone second third status → SolvesGenerated m workers first third status
-ground_then m workers first second third status took c =
-    (c.run, c.right, c.word, behind first second third (ground_line m) (record_text VerdictAlone m c.run) (ending_status c.run.ending) status took c.printed)
+pub ground_then : (m : Model) (workers : ℕ) (first second third : Option (List ℕ)) (solved : Solved) → Takes first second (ground_line m) → Concluded m (gen_options workers) false VerdictAlone second third solved → SolvesGenerated m workers first third solved.status
+ground_then m workers first second third solved took c =
+    (c.run, c.right, c.word, behind first second third (ground_line m) (record_text VerdictAlone m c.run) (ending_status c.run.ending) solved.status took (as_printed c))
 
 -- a run that ended at once for want of memory
 abbrev no_run : Record
-no_run = record { at_target = None; passes = []; ending = OutOfMemory }
+no_run = record { at_target = None; passes = []; bound = None; ending = OutOfMemory }
 
 none_within : (n : ℕ) → 0 ≤ n
 none_within n = omega arith
 
-right_no_run : (m : Model) (options : Options) → Right m options no_run
-right_no_run m options = record { numbered = tt; dropping = tt; within_budget = none_within options.budget; reached = tt; legal = tt; improving = tt; base_target = tt; ending = tt }
+right_no_run : (m : Model) (options : Options) → Right m options false no_run
+right_no_run m options = record {
+  numbered = tt;
+  dropping = tt;
+  within_budget = none_within options.budget;
+  reached = tt;
+  legal = tt;
+  improving = tt;
+  base_target = tt;
+  bound = λ needs. omega (arith, needs.2);
+  ending = tt;
+}
 
 -- the line of its ground transitions could not be written
 pub ground_failed : (m : Model) (workers : ℕ) (before after : Option (List ℕ)) → TakesFront before after (ground_line m) → SolvesGenerated m workers before after statuses.WriteFault

@@ -1,8 +1,7 @@
 -- What a run of the program came to.
-use Rattle.std.proofs.Common.{◌≡◌, ℕ, ◌≤◌, true, false, List, [], ◌∷◌, length, Option, Some, None, ◌⊎◌, inl, inr, refl, sym, ◌∙◌, subst, arith}
+use Rattle.std.proofs.Common.{◌≡◌, ℕ, ◌≤◌, Bool, List, [], ◌∷◌, length, Option, Some, None, ◌⊎◌, inl, inr, refl, sym, ◌∙◌, subst, arith}
 use Rattle.std.specs.Prelude.{IfSome, IfOk, IfErr, Result, Ok, Err}
 use Rattle.std.specs.Result.{IsErrAnd}
-use Rattle.std.proofs.lemmas.Bool.{cases_Bool}
 use Rattle.command_line.specs.declared.jobs.Job.{Job}
 use Rattle.command_line.specs.declared.jobs.Job.TheVariants as jobs
 use Rattle.dp_model.specs.declared.answers.Options.{Options}
@@ -11,12 +10,14 @@ use Rattle.dp_model.specs.declared.whole.Model.{Model}
 use Rattle.replay_list.specs.Replays.{replayed}
 use Rattle.solve_top.specs.Files.{IsText, IsShort, IsLong, AreTexts, OfTexts}
 use Rattle.solve_passes.specs.Ongoing.{Concluded}
-use Rattle.solve_passes.specs.Records.{Ending, Ended, OutOfMemory, ending_status}
-use Rattle.solve_passes.specs.Statuses.{code_of}
+use Rattle.solve_passes.specs.Records.{Ending, Ended, OutOfMemory, ending_status, record_text}
+use Rattle.run_ends.specs.declared.solved.Solved.{Solved}
+use Rattle.dp_outside.specs.Outside.{Takes, TakesFront}
+use Rattle.run_ends.specs.Statuses.{code_of}
 use Rattle.solve_passes.specs.declared.progress.Printing.{Printing}
 use Rattle.solve_passes.specs.declared.progress.Printing.TheVariants.{All}
-use Rattle.solve_passes.specs.declared.status.Status.{Status}
-use Rattle.solve_passes.specs.declared.status.Status.TheVariants as statuses
+use Rattle.run_ends.specs.declared.status.Status.{Status}
+use Rattle.run_ends.specs.declared.status.Status.TheVariants as statuses
 use Rattle.solve_top.specs.Jobs.{Asks, names_of}
 use Rattle.solve_top.specs.Outcomes.{NoMemory, Solving, Replayed, Shown, ComesOf, Does, Printed}
 use Rattle.solve_top.specs.Runs.{outcome_of, RefusedBy, IsUnread, GiveNothing}
@@ -24,10 +25,15 @@ use Rattle.solve_top.specs.Texts.{Means, IsRefused, MeanModel, MeanSteps, AreRef
 use Rattle.solve_top.specs.declared.causes.NoModel.{NoModel}
 use Rattle.solve_top.specs.declared.causes.NoModel.TheVariants as causes
 
+-- what a search printed, without its claim
+pub as_printed : {m : Model} {options : Options} {gap : Bool} {printing : Printing} {before after : Option (List ℕ)} {solved : Solved} (c : Concluded m options gap printing before after solved) →
+    ((solved.status ≡ ending_status c.run.ending) × Takes before after (record_text printing m c.run)) ⊎ ((solved.status ≡ statuses.WriteFault) × TakesFront before after (record_text printing m c.run))
+as_printed c = elim c.printed [ inl h ↦ inl (h.0, h.1) | inr h ↦ inr (h.0, h.1) ]
+
 -- a model that was loaded was searched
-pub searched : (files : List ℕ → Option (List ℕ)) (domain problem : List ℕ) (options : Options) (m : Model) (before after : Option (List ℕ)) (status : Status) →
-    OfTexts files (domain ∷ problem ∷ []) (λ texts. MeanModel texts m) → Concluded m options All before after status → Does (jobs.Solve domain problem options) files before after status
-searched files domain problem options m before after status texts c = λ words asks. (Solving m options c.run, (domain, problem, asks, texts, c.right, c.word), c.printed)
+pub searched : (files : List ℕ → Option (List ℕ)) (domain problem : List ℕ) (options : Options) (gap : Bool) (m : Model) (before after : Option (List ℕ)) (solved : Solved) →
+    OfTexts files (domain ∷ problem ∷ []) (λ texts. MeanModel texts m) → Concluded m options gap All before after solved → Does (jobs.Solve domain problem options gap) files before after solved.status
+searched files domain problem options gap m before after solved texts c = λ words asks. (Solving m options gap c.run, (domain, problem, asks, texts, c.right, c.word), as_printed c)
 
 -- a list was replayed, or memory ran out
 pub was_replayed : (files : List ℕ → Option (List ℕ)) (domain problem list : List ℕ) (m : Model) (steps : List ℕ) (before after : Option (List ℕ)) (status : Status) →
@@ -61,8 +67,8 @@ not_read_fault (Ended (verdicts.Illegal n r)) h = absurd cc
 not_read_fault OutOfMemory h = absurd cc
 
 -- no search ends with the status of a read fault
-pub no_read_fault : (m : Model) (options : Options) (printing : Printing) (before after : Option (List ℕ)) (status : Status) → Concluded m options printing before after status → status ≡ statuses.ReadFault → ⊥
-no_read_fault m options printing before after status c h = elim c.printed [ inl p ↦ not_read_fault c.run.ending (sym p.0 ∙ h) | inr p ↦ let e : statuses.WriteFault ≡ statuses.ReadFault = sym p.0 ∙ h in absurd cc ]
+pub no_read_fault : (m : Model) (options : Options) (gap : Bool) (printing : Printing) (before after : Option (List ℕ)) (solved : Solved) → Concluded m options gap printing before after solved → solved.status ≡ statuses.ReadFault → ⊥
+no_read_fault m options gap printing before after solved c h = elim c.printed [ inl p ↦ not_read_fault c.run.ending (sym p.0 ∙ h) | inr p ↦ let e : statuses.WriteFault ≡ statuses.ReadFault = sym p.0 ∙ h in absurd cc ]
 
 -- a status is known by its number
 

@@ -1,5 +1,5 @@
 -- A search of a model that meets no fault, with a budget that is enough, is settled.
-use Rattle.std.proofs.Common.{◌≡◌, ℕ, ◌+◌, ◌*◌, ◌≤◌, ◌<◌, ◌⊎◌, inl, inr, List, [], ◌∷◌, Option, Some, None, refl, sym, subst, ◌∙◌, ap, length, arith}
+use Rattle.std.proofs.Common.{◌≡◌, ℕ, ◌+◌, ◌*◌, ◌≤◌, inl, inr, Bool, false, List, [], ◌∷◌, Option, Some, None, refl, sym, subst, ◌∙◌, ap, length, arith}
 use Rattle.std.specs.Prelude.{IfSome}
 use Rattle.dp_claims.specs.Enough.{IsEnough}
 use Rattle.dp_model.specs.declared.answers.Keep.{Keep}
@@ -15,14 +15,13 @@ use Rattle.dypdl_nodes.specs.Reads.{Refusal}
 use Rattle.model_gen.specs.Texts.{domain_text, problem_text}
 use Rattle.model_gen.specs.declared.kinds.GenKind.{GenKind}
 use Rattle.pass_ledger.proofs.Finite.{finite}
-use Rattle.solve_passes.specs.Records.{Record, Ending, Ended, OutOfMemory, Right, RightEnding, RightVerdict, ending_status}
-use Rattle.solve_passes.specs.Statuses.{code_of}
-use Rattle.solve_passes.specs.declared.status.Status.{Status}
-use Rattle.solve_passes.specs.declared.status.Status.TheVariants as statuses
+use Rattle.solve_passes.specs.Records.{Record, Ending, Ended, OutOfMemory, RightEnding, RightVerdict, ending_status}
+use Rattle.run_ends.specs.Statuses.{code_of}
+use Rattle.run_ends.specs.declared.status.Status.{Status}
 use Rattle.solve_top.specs.Answers.{CanEnd, IsSettled, IsSmall, SettlesFiles, SettlesGenerated, SettlesSmall}
 use Rattle.solve_top.specs.Files.{IsShort, IsLong, IsText, AreTexts, AtFile, OfTexts}
 use Rattle.solve_top.specs.Jobs.{Asks, gen_options, names_of}
-use Rattle.solve_top.specs.Outcomes.{Outcome, NoMeaning, ReadFault, TooLong, Refused, NoMemory, Solving, Replayed, Shown, NoGenerated, Generated, ComesOf, Printed, outcome_status, no_model_status}
+use Rattle.solve_top.specs.Outcomes.{Outcome, NoMeaning, ReadFault, TooLong, Refused, NoMemory, Solving, Replayed, Shown, NoGenerated, Generated, ComesOf, Printed, outcome_status}
 use Rattle.solve_top.specs.Texts.{Means, MeanModel, AreRefused, IsRefused}
 use Rattle.solve_top.proofs.OneMeaning.{one_meaning, meant_or_refused}
 
@@ -48,17 +47,17 @@ write_fault = inr (inr (inr (inr refl)))
 
 -- ---- a right record of such a model
 
-ends_verdict : (m : Model) (options : Options) (r : Record) (v : Verdict) → RightVerdict m options r v → CanEnd m options → IsSettled (code_of (ending_status (Ended v)))
-ends_verdict m options r (verdicts.Optimal c) right can = success
-ends_verdict m options r verdicts.Infeasible right can = negative
-ends_verdict m options r (verdicts.Stopped v) right can = absurd (right.2 can.enough)
-ends_verdict m options r (verdicts.Fault f) right can = absurd (can.no_fault f.steps f.spot f.kind right)
-ends_verdict m options r (verdicts.Legal c) right can = absurd right
-ends_verdict m options r (verdicts.Illegal n reason) right can = absurd right
+ends_verdict : (m : Model) (options : Options) (gap : Bool) (r : Record) (v : Verdict) → RightVerdict m options gap r v → CanEnd m options → IsSettled (code_of (ending_status (Ended v)))
+ends_verdict m options gap r (verdicts.Optimal c) right can = success
+ends_verdict m options gap r verdicts.Infeasible right can = negative
+ends_verdict m options gap r (verdicts.Stopped v) right can = absurd (right.2 can.enough)
+ends_verdict m options gap r (verdicts.Fault f) right can = absurd (can.no_fault f.steps f.spot f.kind right)
+ends_verdict m options gap r (verdicts.Legal c) right can = absurd right
+ends_verdict m options gap r (verdicts.Illegal n reason) right can = absurd right
 
-ends_well : (m : Model) (options : Options) (r : Record) (e : Ending) → RightEnding m options r e → CanEnd m options → IsSettled (code_of (ending_status e))
-ends_well m options r (Ended v) right can = ends_verdict m options r v right.0 can
-ends_well m options r OutOfMemory right can = memory
+ends_well : (m : Model) (options : Options) (gap : Bool) (r : Record) (e : Ending) → RightEnding m options gap r e → CanEnd m options → IsSettled (code_of (ending_status e))
+ends_well m options gap r (Ended v) right can = ends_verdict m options gap r v right.0 can
+ends_well m options gap r OutOfMemory right can = memory
 
 -- ---- what cannot come where a job is asked for
 
@@ -84,8 +83,8 @@ told_as (Some t) bytes text e is = let same : t ≡ bytes = cc in is ∙ same
 
 -- ---- a search of files
 
-module _ (words : List (List ℕ)) (files : List ℕ → Option (List ℕ)) (domain problem first second : List ℕ) (options : Options) (m : Model)
-    (asks : Asks words (jobs.Solve domain problem options))
+module _ (words : List (List ℕ)) (files : List ℕ → Option (List ℕ)) (domain problem first second : List ℕ) (options : Options) (gap : Bool) (m : Model)
+    (asks : Asks words (jobs.Solve domain problem options gap))
     (told : files domain ≡ Some first) (short : IsShort first)
     (told' : files problem ≡ Some second) (short' : IsShort second)
     (means : Means first second m)
@@ -113,36 +112,36 @@ module _ (words : List (List ℕ)) (files : List ℕ → Option (List ℕ)) (dom
       one_meaning first second other m (subst (λ (t : List ℕ). Means first t other) also (subst (λ (t : List ℕ). Means t b other) same h)) means
 
   named : (job : Job) → Asks words job → names_of job ≡ domain ∷ problem ∷ []
-  named job also = ap names_of (same_job words job (jobs.Solve domain problem options) also asks)
+  named job also = ap names_of (same_job words job (jobs.Solve domain problem options gap) also asks)
 
   settles_as : (outcome : Outcome) → ComesOf words files outcome → IsSettled (code_of (outcome_status outcome))
-  settles_as NoMeaning h = absurd (none_asked words (jobs.Solve domain problem options) asks h)
+  settles_as NoMeaning h = absurd (none_asked words (jobs.Solve domain problem options gap) asks h)
   settles_as (ReadFault file) h = read_fault
   settles_as (TooLong file) h = absurd (not_too_long file (subst (λ (names : List (List ℕ)). AtFile files 1 names file (λ t. IfSome t IsLong)) (named h.0 h.1) h.2))
   settles_as (Refused r) h =
       let of_texts : OfTexts files (domain ∷ problem ∷ []) (λ texts. AreRefused texts r) = subst (λ (names : List (List ℕ)). OfTexts files names (λ texts. AreRefused texts r)) (named h.0 h.1) h.2 in
       absurd (not_refused r of_texts.0 of_texts.1 of_texts.2)
   settles_as NoMemory h = memory
-  settles_as (Solving other also run) h =
-      let same : jobs.Solve h.0 h.1 also ≡ jobs.Solve domain problem options = same_job words (jobs.Solve h.0 h.1 also) (jobs.Solve domain problem options) h.2 asks in
+  settles_as (Solving other also over run) h =
+      let same : jobs.Solve h.0 h.1 also over ≡ jobs.Solve domain problem options gap = same_job words (jobs.Solve h.0 h.1 also over) (jobs.Solve domain problem options gap) h.2 asks in
       let d : h.0 ≡ domain = cc in
       let p : h.1 ≡ problem = cc in
       let o : also ≡ options = cc in
       let of_texts : OfTexts files (domain ∷ problem ∷ []) (λ texts. MeanModel texts other) =
       subst (λ (name : List ℕ). OfTexts files (domain ∷ name ∷ []) (λ texts. MeanModel texts other)) p (subst (λ (name : List ℕ). OfTexts files (name ∷ h.1 ∷ []) (λ texts. MeanModel texts other)) d h.3) in
       let is = the_model other of_texts.0 of_texts.1 of_texts.2 in
-      ends_well other also run run.ending h.4.ending (subst (λ (x : Options). CanEnd other x) (sym o) (subst (λ (x : Model). CanEnd x options) (sym is) can))
+      ends_well other also over run run.ending h.4.ending (subst (λ (x : Options). CanEnd other x) (sym o) (subst (λ (x : Model). CanEnd x options) (sym is) can))
   settles_as (Replayed other steps tells) h =
-      let same : jobs.Replay h.0 h.1 h.2 ≡ jobs.Solve domain problem options = same_job words (jobs.Replay h.0 h.1 h.2) (jobs.Solve domain problem options) h.3 asks in
+      let same : jobs.Replay h.0 h.1 h.2 ≡ jobs.Solve domain problem options gap = same_job words (jobs.Replay h.0 h.1 h.2) (jobs.Solve domain problem options gap) h.3 asks in
       absurd cc
   settles_as (Shown other) h =
-      let same : jobs.Show h.0 h.1 ≡ jobs.Solve domain problem options = same_job words (jobs.Show h.0 h.1) (jobs.Solve domain problem options) h.2 asks in
+      let same : jobs.Show h.0 h.1 ≡ jobs.Solve domain problem options gap = same_job words (jobs.Show h.0 h.1) (jobs.Solve domain problem options gap) h.2 asks in
       absurd cc
   settles_as (NoGenerated kind size seed refusal) h =
-      let same : jobs.Gen kind size seed h.0 ≡ jobs.Solve domain problem options = same_job words (jobs.Gen kind size seed h.0) (jobs.Solve domain problem options) h.1 asks in
+      let same : jobs.Gen kind size seed h.0 ≡ jobs.Solve domain problem options gap = same_job words (jobs.Gen kind size seed h.0) (jobs.Solve domain problem options gap) h.1 asks in
       absurd cc
   settles_as (Generated kind size seed other also run) h =
-      let same : jobs.Gen kind size seed h.0 ≡ jobs.Solve domain problem options = same_job words (jobs.Gen kind size seed h.0) (jobs.Solve domain problem options) h.1 asks in
+      let same : jobs.Gen kind size seed h.0 ≡ jobs.Solve domain problem options gap = same_job words (jobs.Gen kind size seed h.0) (jobs.Solve domain problem options gap) h.1 asks in
       absurd cc
 
 printed_code : (before after : Option (List ℕ)) (outcome : Outcome) (status : Status) → Printed before after outcome status → IsSettled (code_of (outcome_status outcome)) → IsSettled (code_of status)
@@ -151,8 +150,8 @@ printed_code before after outcome status (inr h) settled = subst (λ (s : Status
 
 pub settles_files : (words : List (List ℕ)) (files : List ℕ → Option (List ℕ)) (before after : Option (List ℕ)) (outcome : Outcome) (status : Status) → ComesOf words files outcome → Printed before after outcome status → SettlesFiles words files (code_of status)
 settles_files words files before after outcome status comes printed =
-    λ domain problem first second options m asks told short told' short' means can.
-    printed_code before after outcome status printed (settles_as words files domain problem first second options m asks told short told' short' means can outcome comes)
+    λ domain problem first second options gap m asks told short told' short' means can.
+    printed_code before after outcome status printed (settles_as words files domain problem first second options gap m asks told short told' short' means can outcome comes)
 
 -- ---- a search of a small model
 
@@ -169,8 +168,8 @@ can_end m options small = record {
 
 pub settles_small : (words : List (List ℕ)) (files : List ℕ → Option (List ℕ)) (before after : Option (List ℕ)) (outcome : Outcome) (status : Status) → ComesOf words files outcome → Printed before after outcome status → SettlesSmall words files (code_of status)
 settles_small words files before after outcome status comes printed =
-    λ domain problem first second options m asks told short told' short' means small.
-    settles_files words files before after outcome status comes printed domain problem first second options m asks told short told' short' means (can_end m options small)
+    λ domain problem first second options gap m asks told short told' short' means small.
+    settles_files words files before after outcome status comes printed domain problem first second options gap m asks told short told' short' means (can_end m options small)
 
 -- ---- a search of a generated model
 
@@ -196,8 +195,8 @@ module _ (words : List (List ℕ)) (files : List ℕ → Option (List ℕ)) (kin
   settles_generated_as (TooLong file) h = absurd (not_long file (names_of h.0) (no_files h.0 h.1) h.2)
   settles_generated_as (Refused r) h = absurd (no_texts r (names_of h.0) h.2.0 (no_files h.0 h.1) h.2.1 h.2.2)
   settles_generated_as NoMemory h = memory
-  settles_generated_as (Solving other also run) h =
-      let same : jobs.Solve h.0 h.1 also ≡ jobs.Gen kind size seed workers = same_job words (jobs.Solve h.0 h.1 also) (jobs.Gen kind size seed workers) h.2 asks in
+  settles_generated_as (Solving other also over run) h =
+      let same : jobs.Solve h.0 h.1 also over ≡ jobs.Gen kind size seed workers = same_job words (jobs.Solve h.0 h.1 also over) (jobs.Gen kind size seed workers) h.2 asks in
       absurd cc
   settles_generated_as (Replayed other steps tells) h =
       let same : jobs.Replay h.0 h.1 h.2 ≡ jobs.Gen kind size seed workers = same_job words (jobs.Replay h.0 h.1 h.2) (jobs.Gen kind size seed workers) h.3 asks in
@@ -224,7 +223,7 @@ module _ (words : List (List ℕ)) (files : List ℕ → Option (List ℕ)) (kin
       subst (λ (x : GenKind). Means (domain_text x) (problem_text x size seed) other) a (subst (λ (x : ℕ). Means (domain_text k) (problem_text k x seed) other) b (subst (λ (x : ℕ). Means (domain_text k) (problem_text k n x) other) c h.3)) in
       let is = one_meaning (domain_text kind) (problem_text kind size seed) other m means_other means in
       let o : also ≡ gen_options workers = h.2 ∙ ap gen_options w in
-      ends_well other also run run.ending h.4.ending (subst (λ (x : Options). CanEnd other x) (sym o) (subst (λ (x : Model). CanEnd x (gen_options workers)) (sym is) can))
+      ends_well other also false run run.ending h.4.ending (subst (λ (x : Options). CanEnd other x) (sym o) (subst (λ (x : Model). CanEnd x (gen_options workers)) (sym is) can))
 
 pub settles_generated : (words : List (List ℕ)) (files : List ℕ → Option (List ℕ)) (before after : Option (List ℕ)) (outcome : Outcome) (status : Status) → ComesOf words files outcome → Printed before after outcome status → SettlesGenerated words (code_of status)
 settles_generated words files before after outcome status comes printed =

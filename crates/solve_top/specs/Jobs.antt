@@ -18,7 +18,7 @@ AskNothing words = job_of words ≡ None
 
 -- the names of the files that a job reads, in the order in which they are read: the domain, the problem, and the list
 abbrev pub names_of : Job → List (List ℕ)
-names_of (Solve domain problem options) = domain ∷ problem ∷ []
+names_of (Solve domain problem options gap) = domain ∷ problem ∷ []
 names_of (Replay domain problem list) = domain ∷ problem ∷ list ∷ []
 names_of (Show domain problem) = domain ∷ problem ∷ []
 names_of (Gen kind size seed workers) = []
@@ -29,7 +29,7 @@ gen_options workers = record { workers = workers; budget = 10000000; prune = tru
 
 -- what is asked for lies in its range
 abbrev pub JobFits : Job → Type 0
-JobFits (Solve domain problem options) = AreOptions options
+JobFits (Solve domain problem options gap) = AreOptions options
 JobFits (Replay domain problem list) = Unit {0}
 JobFits (Show domain problem) = Unit {0}
 JobFits (Gen kind size seed workers) = (least_size kind ≤ size) × (size ≤ most_size kind) × AreOptions (gen_options workers)

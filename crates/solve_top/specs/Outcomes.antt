@@ -1,12 +1,13 @@
 -- What a run of the program may come to: the text that it prints, its status, and when it may come.
-use Rattle.std.specs.Prelude.{◌≡◌, ℕ, ◌⊎◌, List, [], ◌∷◌, ◌++◌, length, take, Option, Some, None, codes, decimal}
+use Rattle.std.specs.Prelude.{◌≡◌, ℕ, ◌⊎◌, Bool, false, List, [], ◌∷◌, ◌++◌, length, take, Option, Some, None, codes, decimal}
 use Rattle.dp_outside.specs.Outside.{Takes, TakesFront}
 use Rattle.dp_model.specs.declared.answers.Options.{Options}
 use Rattle.dp_model.specs.declared.whole.Model.{Model}
-use Rattle.solve_passes.specs.Records.{Record, Right, KeepsWord, record_text, ending_status, verdict_status}
+use Rattle.run_ends.specs.Statuses.{verdict_status}
+use Rattle.solve_passes.specs.Records.{Record, Right, KeepsWord, record_text, ending_status}
 use Rattle.solve_passes.specs.declared.progress.Printing.TheVariants.{All, VerdictAlone}
-use Rattle.solve_passes.specs.declared.status.Status.{Status}
-use Rattle.solve_passes.specs.declared.status.Status.TheVariants as statuses
+use Rattle.run_ends.specs.declared.status.Status.{Status}
+use Rattle.run_ends.specs.declared.status.Status.TheVariants as statuses
 use Rattle.dp_base.specs.Bytes.{line}
 use Rattle.solve_report.specs.Lines.{file_name, refusal_text, verdict_text, show_text}
 use Rattle.dp_model.specs.declared.answers.Verdict.{Verdict}
@@ -35,8 +36,8 @@ pub data Outcome : Type 0 where
   Refused : (refusal : Refusal) → Outcome
   -- memory ran out before a model was loaded
   NoMemory : Outcome
-  -- the model was searched
-  Solving : (model : Model) (options : Options) (run : Record) → Outcome
+  -- the model was searched, with the gap asked for or not
+  Solving : (model : Model) (options : Options) (gap : Bool) (run : Record) → Outcome
   -- a list of steps of the model was replayed
   Replayed : (model : Model) (steps : List ℕ) (told : Told) → Outcome
   -- it was said what was understood of the model
@@ -80,7 +81,7 @@ outcome_text (ReadFault file) = line (codes "read fault " ++ file_name file)
 outcome_text (TooLong file) = line (codes "too long " ++ file_name file)
 outcome_text (Refused r) = refusal_text r.place r.offset r.number
 outcome_text NoMemory = line (codes "memory")
-outcome_text (Solving model options run) = record_text All model run
+outcome_text (Solving model options gap run) = record_text All model run
 outcome_text (Replayed model steps told) = verdict_text model (replay_verdict steps told)
 outcome_text (Shown model) = show_text model
 outcome_text (NoGenerated kind size seed refusal) = gen_line kind size seed ++ no_model_text refusal
@@ -92,7 +93,7 @@ outcome_status (ReadFault file) = statuses.ReadFault
 outcome_status (TooLong file) = statuses.TooLong
 outcome_status (Refused r) = statuses.Refused
 outcome_status NoMemory = statuses.Memory
-outcome_status (Solving model options run) = ending_status run.ending
+outcome_status (Solving model options gap run) = ending_status run.ending
 outcome_status (Replayed model steps told) = verdict_status (replay_verdict steps told)
 outcome_status (Shown model) = statuses.Success
 outcome_status (NoGenerated kind size seed refusal) = no_model_status refusal
@@ -111,9 +112,9 @@ ComesOf words files (ReadFault file) = (job : Job) × Asks words job × IsReache
 ComesOf words files (TooLong file) = (job : Job) × Asks words job × IsFirstLong files (names_of job) file
 ComesOf words files (Refused r) = (job : Job) × Asks words job × OfTexts files (names_of job) (λ texts. AreRefused texts r)
 ComesOf words files NoMemory = Unit {0}
-ComesOf words files (Solving model options run) =
-    (domain : List ℕ) × (problem : List ℕ) × Asks words (jobs.Solve domain problem options)
-    × OfTexts files (domain ∷ problem ∷ []) (λ texts. MeanModel texts model) × Right model options run × KeepsWord model options run.ending
+ComesOf words files (Solving model options gap run) =
+    (domain : List ℕ) × (problem : List ℕ) × Asks words (jobs.Solve domain problem options gap)
+    × OfTexts files (domain ∷ problem ∷ []) (λ texts. MeanModel texts model) × Right model options gap run × KeepsWord model options run.bound run.ending
 ComesOf words files (Replayed model steps told) =
     (domain : List ℕ) × (problem : List ℕ) × (list : List ℕ) × Asks words (jobs.Replay domain problem list)
     × OfTexts files (domain ∷ problem ∷ list ∷ []) (λ texts. MeanSteps texts model steps) × (told ≡ replayed model steps)
@@ -122,7 +123,7 @@ ComesOf words files (Shown model) =
 ComesOf words files (NoGenerated kind size seed refusal) = (workers : ℕ) × Asks words (jobs.Gen kind size seed workers) × IsRefusedOf kind size seed refusal
 ComesOf words files (Generated kind size seed model options run) =
     (workers : ℕ) × Asks words (jobs.Gen kind size seed workers) × (options ≡ gen_options workers)
-    × Means (domain_text kind) (problem_text kind size seed) model × Right model options run × KeepsWord model options run.ending
+    × Means (domain_text kind) (problem_text kind size seed) model × Right model options false run × KeepsWord model options run.bound run.ending
 
 -- The sink took the outcome's text and the status is the outcome's; or a write failed, the status is that, and the sink took a front of the text.
 abbrev pub Printed : Option (List ℕ) → Option (List ℕ) → Outcome → Status → Type 0
@@ -137,5 +138,5 @@ Does job files before after status = (words : List (List ℕ)) → Asks words jo
 -- and a front of them was.
 abbrev pub SolvesGenerated : Model → (workers : ℕ) → Option (List ℕ) → Option (List ℕ) → Status → Type 0
 SolvesGenerated m workers before after status =
-    (run : Record) × Right m (gen_options workers) run × KeepsWord m (gen_options workers) run.ending
+    (run : Record) × Right m (gen_options workers) false run × KeepsWord m (gen_options workers) run.bound run.ending
     × (((status ≡ ending_status run.ending) × Takes before after (ground_line m ++ record_text VerdictAlone m run)) ⊎ ((status ≡ statuses.WriteFault) × TakesFront before after (ground_line m ++ record_text VerdictAlone m run)))

@@ -8,8 +8,8 @@ ghost use Rattle.command_line.specs.declared.jobs.Job.TheVariants as jobs;
 ghost use Rattle.model_gen.specs.Kinds.{least_size, most_size};
 ghost use Rattle.pass_ends.specs.Passes.{AreOptions};
 ghost use Rattle.replay_list.specs.Replays.{replayed};
-ghost use Rattle.solve_passes.specs.Statuses.{code_of};
-ghost use Rattle.solve_passes.specs.declared.status.Status.{Status};
+ghost use Rattle.run_ends.specs.Statuses.{code_of};
+ghost use Rattle.run_ends.specs.declared.status.Status.{Status};
 ghost use Rattle.solve_report.specs.Lines.{file_name as name_of_file};
 ghost use Rattle.solve_report.specs.Puts.{Puts};
 ghost use Rattle.solve_top.specs.Answers.{SettlesFiles, SettlesGenerated, SettlesSmall};
@@ -91,14 +91,18 @@ fn solve_files<R: Threads + Wait + Sync, F: Shelf, S: Sink, G: Gate>(
     domain: &Text,
     problem: &Text,
     options: &Options,
+    gap: bool,
 ) -> Status
     requires { AreOptions options.now }
-    ensures printed { Does (jobs.Solve domain.now problem.now options.now) (F.bytes_under shelf.old) (S.taken out.old) (S.taken out.new) result }
+    ensures printed { Does (jobs.Solve domain.now problem.now options.now gap) (F.bytes_under shelf.old) (S.taken out.old) (S.taken out.new) result }
     ensures read_fault { result ≡ Status.ReadFault → Rose (F.faults shelf.old) (F.faults shelf.new) }
     ensures write_fault { result ≡ Status.WriteFault → Rose (S.faults out.old) (S.faults out.new) }
 {
     match load(alloc, shelf, domain, problem) {
-        Ok(model) => solve(rt, alloc, out, &model, options, Printing::All, gate),
+        Ok(model) => {
+            let solved = solve(rt, alloc, out, &model, options, gap, Printing::All, gate);
+            solved.status
+        }
         Err(cause) => put_cause(out, &cause),
     }
 }
@@ -212,15 +216,17 @@ fn solve_generated<R: Threads + Wait + Sync, S: Sink, G: Gate>(
         prune: true,
         keep: Keep::Layer,
     };
-    solve(
+    let solved = solve(
         rt,
         alloc,
         out,
         model,
         &options,
+        false,
         Printing::VerdictAlone,
         gate,
-    )
+    );
+    solved.status
 }
 
 /// Generates a model and searches it.
@@ -269,7 +275,8 @@ fn perform_job<R: Threads + Wait + Sync, F: Shelf, S: Sink, G: Gate>(
             domain,
             problem,
             options,
-        } => solve_files(rt, alloc, shelf, out, gate, domain, problem, options),
+            gap,
+        } => solve_files(rt, alloc, shelf, out, gate, domain, problem, options, *gap),
         Job::Replay {
             domain,
             problem,

@@ -6,7 +6,7 @@ use Rattle.solve_passes.specs.Ongoing.{HistoryOf, IsOngoing}
 abbrev pub invariant-passes : goal.invariant-passes
 invariant-passes g l = record {
   ongoing : IsOngoing l.model l.options l.board l.progress l.seat;
-  history : HistoryOf l.model l.options.keep l.printing (g.S.Sink.taken l.fn.out) (g.S.Sink.taken l.out) l.progress;
+  history : HistoryOf l.model l.options l.gap l.printing (g.S.Sink.taken l.fn.out) (g.S.Sink.taken l.out) l.progress;
   count : g.S.Sink.faults l.fn.out ≤ g.S.Sink.faults l.out;
 }
 

@@ -1,5 +1,4 @@
-use Rattle.std.proofs.Common.{map, string_bytes, sym, subst}
-use Rattle.solve_top.specs.Answers.{SettlesFiles, SettlesGenerated}
+use Rattle.std.proofs.Common.{map, string_bytes}
 use Rattle.solve_top.proofs.Settling.{settles_files, settles_small, settles_generated}
 use Rattle.solve_top.proofs.program.run.Goals as goal
 

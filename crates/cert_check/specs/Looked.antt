@@ -1,0 +1,62 @@
+-- What a looker is of, and what nodes stand for.
+use Rattle.std.specs.Prelude.{Bool, true, false, ℤ, int_le, ◌≡◌, ℕ, List, [], length, map, get_or, slice_get, Option, Some, None, Result, Ok, Err}
+use Rattle.std.specs.List.{flat_map, range_with_len}
+use Rattle.dp_base.specs.Results.{◌>>=◌}
+use Rattle.dp_model.specs.declared.whole.Model.{Model}
+use Rattle.state_layout.specs.Conditions.{IsNodeOf}
+use Rattle.state_layout.specs.declared.node.Node.{Node}
+use Rattle.dom_store.specs.declared.past_node.PastNode.{PastNode}
+use Rattle.replay_list.specs.declared.replayed.Reached.{Reached}
+use Rattle.dp_model.specs.declared.answers.Keep.{Keep}
+use Rattle.dp_model.specs.declared.answers.Keep.TheVariants.{Layer, All}
+use Rattle.cert_types.specs.declared.cert.Cert.{Cert}
+use Rattle.cert_types.specs.declared.nodes.CertStep.{CertStep}
+use Rattle.cert_laws.specs.Shown.{layer_of}
+use Rattle.cert_laws.specs.Checks.{if_stands, node_at, start, stepped}
+use Rattle.cert_laws.specs.declared.answers.CertReason.{CertReason}
+use Rattle.cert_laws.specs.declared.answers.CertReason.TheVariants as reasons
+use Rattle.cert_check.specs.declared.standings.Standing.{Standing}
+use Rattle.cert_check.specs.declared.standings.Standing.TheVariants.{Stands, Fails}
+
+-- the state of a node, with its cost so far
+abbrev pub reached_by : Node → Reached
+reached_by n = record { state = n.state; cost = n.cost }
+
+-- where the list of a node leads, or why its line is rejected
+abbrev pub found : Standing → Result Reached CertReason
+found (Stands n) = Ok (reached_by n)
+found (Fails reason) = Err reason
+
+-- a node that stands is one of the model
+abbrev pub StandingFits : Model → Standing → Type 0
+StandingFits m (Stands n) = IsNodeOf m n
+StandingFits m (Fails reason) = Unit {0}
+
+abbrev pub AllFit : Model → List Standing → Type 0
+AllFit m standings = (k : ℕ) (s : Standing) → slice_get standings k ≡ Some s → StandingFits m s
+
+-- where the list of a node that a step made leads, where these are those of the layer before; without a step it is the target's
+abbrev pub stood : Model → List Standing → Option CertStep → Result Reached CertReason
+stood m before None = start m
+stood m before (Some step) = found (get_or before step.parent (Fails reasons.Node)) >>= λ here. stepped m here step.dp_ground
+
+-- what covers by these
+abbrev pub pasts : List Standing → List PastNode
+pasts standings = flat_map (λ s. if_stands (found s)) standings
+
+-- where the lists of the nodes of a layer lead
+abbrev pub found_in : Model → Cert → (l : ℕ) → List (Result Reached CertReason)
+found_in m cert l = map (node_at m cert l) (range_with_len 0 (length (layer_of cert.layers l)))
+
+abbrev pub AreFound : Model → Cert → (l : ℕ) → List Standing → Type 0
+AreFound m cert l standings = map found standings ≡ found_in m cert l
+
+-- what stays of the nodes before a layer, for what they cover
+abbrev pub kept_before : Keep → List PastNode → List PastNode
+kept_before Layer nodes = []
+kept_before All nodes = nodes
+
+-- a number is no better than a cost
+abbrev pub is_no_better : (minimize : Bool) → (cost n : ℤ) → Bool
+is_no_better true cost n = int_le cost n
+is_no_better false cost n = int_le n cost

@@ -1,0 +1,262 @@
+//! The clauses at the line of a node.
+
+ghost use Rattle.std.specs.Prelude.{◌≡◌, ◌<◌, Some, IfOk, IfSome, length};
+ghost use Rattle.eval_room.specs.Needs.{ServesModel};
+ghost use Rattle.dp_model.specs.Costs.{InRange};
+ghost use Rattle.dp_model.specs.StepTexts.{ground_of};
+ghost use Rattle.dp_model.specs.declared.whole.Model.{Model as DpModel};
+ghost use Rattle.cost_laws.specs.Orders.{InWideRange, IsLawOf};
+ghost use Rattle.state_layout.specs.Conditions.{IsLayoutOf, IsNodeOf};
+ghost use Rattle.spot_eval.specs.declared.looks.Look.TheVariants as looks;
+ghost use Rattle.cert_laws.specs.Checks.{base_fails, cut_fails, is_high, looked_fails, must, node_fails_at, step_fails, steps_fail, successor_fails, taken_fails};
+ghost use Rattle.cert_check.specs.Looked.{StandingFits, found, is_no_better, reached_by};
+
+use crate::looker::Looker;
+use crate::standings::Standing;
+use cert_laws::CertReason;
+use cert_types::{Cert, CertNode};
+use cost_laws::CostLaw;
+use dom_store::{Covers, PastStore};
+use dp_model::{Claim, Found, Spot};
+use spot_eval::{Look, SpotEnd};
+use state_layout::Node;
+use std::alloc::{AllocError, Global};
+
+/// Whether a number is no better than a claimed cost.
+fn is_no_better(minimize: bool, found: &Found, n: i64) -> bool
+    ensures { result ≡ is_no_better minimize found.now.cost n }
+{
+    if minimize {
+        found.cost <= n
+    } else {
+        n <= found.cost
+    }
+}
+
+/// Whether a number is no better than what is claimed. No cost is worse than that there is no legal list.
+#[tactic(auto, using(crate::proofs::Tests::high_cost, crate::proofs::Tests::high_none))]
+fn is_above(minimize: bool, claim: &Claim, n: i64) -> bool
+    requires { InWideRange n }
+    ensures { (m : DpModel) → m.minimize ≡ minimize → result ≡ is_high m claim.now (Some n) }
+{
+    match claim {
+        Claim::Optimal(found) => is_no_better(minimize, found, n),
+        Claim::Infeasible => false,
+    }
+}
+
+/// Whether there is a number, and it is no better than what is claimed.
+pub(crate) fn is_high(minimize: bool, claim: &Claim, n: Option<i64>) -> bool
+    requires { IfSome n InWideRange }
+    ensures { (m : DpModel) → m.minimize ≡ minimize → result ≡ is_high m claim.now n }
+{
+    match n {
+        Some(n) => is_above(minimize, claim, n),
+        None => false,
+    }
+}
+
+/// The reason, where the test does not hold.
+pub(crate) fn must(holds: bool, reason: CertReason) -> Option<CertReason>
+    ensures { result ≡ must holds reason }
+{
+    if holds { None } else { Some(reason) }
+}
+
+/// Why the line of a cut node is rejected, if it is.
+fn cut_fails<L: CostLaw>(
+    looker: &Looker<'_>,
+    cert: &Cert,
+    here: &Node,
+    stack: &mut [u64],
+) -> Option<CertReason>
+    requires law { IsLawOf looker.now L.minimize L.operator }
+    requires node { IsNodeOf looker.now here.now }
+    requires room { ServesModel looker.now (length stack.old) }
+    ensures { result ≡ cut_fails looker.now cert.now (reached_by here.now) }
+{
+    match looker.floor::<L>(&here.state, cert.prune, here.cost, stack) {
+        Ok(floor) => {
+            let high = is_high(looker.model().minimize(), &cert.claim, floor);
+            must(high, CertReason::Cut)
+        }
+        Err(_) => Some(CertReason::Fault),
+    }
+}
+
+/// Why a base successor rejects a line, if it does.
+#[tactic(auto, using(cost_laws::specs::Laws::in_wide_range))]
+fn base_fails<L: CostLaw>(
+    looker: &Looker<'_>,
+    cert: &Cert,
+    cost: Option<i64>,
+    base: i64,
+) -> Option<CertReason>
+    requires law { IsLawOf looker.now L.minimize L.operator }
+    requires cost { IfSome cost InRange }
+    requires base { InRange base }
+    ensures { result ≡ base_fails looker.now cert.now cost base }
+{
+    match spot_eval::joined_at::<L>(Spot::Total, cost, base) {
+        Ok(total) => {
+            let high = is_high(looker.model().minimize(), &cert.claim, Some(total));
+            must(high, CertReason::Step)
+        }
+        Err(_) => Some(CertReason::Fault),
+    }
+}
+
+/// Why an inner successor rejects a line, if it does.
+#[tactic(auto, using(crate::proofs::Tests::past_covers))]
+fn open_fails<K: Covers>(
+    looker: &Looker<'_>,
+    cert: &Cert,
+    past: &PastStore<K>,
+    next: &Node,
+    floor: Option<i64>,
+) -> Option<CertReason>
+    requires law { IsLawOf looker.now K.minimize K.operator }
+    requires prune { K.prune ≡ cert.now.prune }
+    requires layout { IsLayoutOf looker.now past.now.layout }
+    requires next { IsNodeOf looker.now next.now }
+    requires floor { IfSome floor InWideRange }
+    ensures { result ≡ successor_fails looker.now cert.now past.now.nodes next.now.state next.now.cost (looks.Open floor) }
+{
+    let high = is_high(looker.model().minimize(), &cert.claim, floor);
+    let needless = high || past.covered(looker.layout(), next);
+    must(needless, CertReason::Step)
+}
+
+/// Why a successor rejects a line, if it does.
+fn looked_fails<L: CostLaw, K: Covers>(
+    looker: &Looker<'_>,
+    cert: &Cert,
+    past: &PastStore<K>,
+    next: &Node,
+    stack: &mut [u64],
+) -> Option<CertReason>
+    requires law { IsLawOf looker.now L.minimize L.operator }
+    requires covering { IsLawOf looker.now K.minimize K.operator }
+    requires prune { K.prune ≡ cert.now.prune }
+    requires layout { IsLayoutOf looker.now past.now.layout }
+    requires next { IsNodeOf looker.now next.now }
+    requires room { ServesModel looker.now (length stack.old) }
+    ensures { result ≡ looked_fails looker.now cert.now past.now.nodes (reached_by next.now) }
+{
+    match looker.look::<L>(&next.state, cert.prune, next.cost, stack) {
+        Ok(Look::NotAllowed) => None,
+        Ok(Look::Base(base)) => base_fails::<L>(looker, cert, next.cost, base),
+        Ok(Look::Open(floor)) => open_fails::<K>(looker, cert, past, next, floor),
+        Err(_) => Some(CertReason::Fault),
+    }
+}
+
+/// Why a step that may be taken rejects a line, if it does.
+fn taken_fails<L: CostLaw, K: Covers>(
+    looker: &Looker<'_>,
+    alloc: Global,
+    cert: &Cert,
+    past: &PastStore<K>,
+    here: &Node,
+    number: u32,
+    stack: &mut [u64],
+) -> Result<Option<CertReason>, AllocError>
+    requires law { IsLawOf looker.now L.minimize L.operator }
+    requires covering { IsLawOf looker.now K.minimize K.operator }
+    requires prune { K.prune ≡ cert.now.prune }
+    requires layout { IsLayoutOf looker.now past.now.layout }
+    requires node { IsNodeOf looker.now here.now }
+    requires room { ServesModel looker.now (length stack.old) }
+    ensures { IfOk result (λ fails. fails ≡ taken_fails looker.now cert.now past.now.nodes (reached_by here.now) number (ground_of looker.now number)) }
+{
+    let Some((transition, args)) = looker.model().step(number) else {
+        return Ok(None);
+    };
+    match looker.moved::<L>(alloc, here, number, transition, args, stack) {
+        Ok(next) => Ok(looked_fails::<L, K>(looker, cert, past, &next, stack)),
+        Err(SpotEnd::Fault(_)) => Ok(Some(CertReason::Fault)),
+        Err(SpotEnd::Memory) => Err(AllocError),
+    }
+}
+
+/// Why a transition rejects the line of an open node, if it does.
+fn step_fails<L: CostLaw, K: Covers>(
+    looker: &Looker<'_>,
+    alloc: Global,
+    cert: &Cert,
+    past: &PastStore<K>,
+    here: &Node,
+    number: u32,
+    stack: &mut [u64],
+) -> Result<Option<CertReason>, AllocError>
+    requires law { IsLawOf looker.now L.minimize L.operator }
+    requires covering { IsLawOf looker.now K.minimize K.operator }
+    requires prune { K.prune ≡ cert.now.prune }
+    requires layout { IsLayoutOf looker.now past.now.layout }
+    requires node { IsNodeOf looker.now here.now }
+    requires room { ServesModel looker.now (length stack.old) }
+    ensures { IfOk result (λ fails. fails ≡ step_fails looker.now cert.now past.now.nodes (reached_by here.now) number) }
+{
+    match looker.may_step(&here.state, number, stack) {
+        Ok(true) => taken_fails::<L, K>(looker, alloc, cert, past, here, number, stack),
+        Ok(false) => Ok(None),
+        Err(_) => Ok(None),
+    }
+}
+
+/// Why the line of an open node is rejected, if it is: by the first transition that does so.
+#[tactic(auto, using(spot_eval::proofs::Limits::few_grounds, crate::proofs::Tests::none_of, crate::proofs::Tests::first_at))]
+fn steps_fail<L: CostLaw, K: Covers>(
+    looker: &Looker<'_>,
+    alloc: Global,
+    cert: &Cert,
+    past: &PastStore<K>,
+    here: &Node,
+    stack: &mut [u64],
+) -> Result<Option<CertReason>, AllocError>
+    requires law { IsLawOf looker.now L.minimize L.operator }
+    requires covering { IsLawOf looker.now K.minimize K.operator }
+    requires prune { K.prune ≡ cert.now.prune }
+    requires layout { IsLayoutOf looker.now past.now.layout }
+    requires node { IsNodeOf looker.now here.now }
+    requires room { ServesModel looker.now (length stack.old) }
+    ensures { IfOk result (λ fails. fails ≡ steps_fail looker.now cert.now past.now.nodes (reached_by here.now)) }
+{
+    for number in 0..looker.model().ground().list().len() {
+        let fails = step_fails::<L, K>(looker, alloc, cert, past, here, number as u32, stack)?;
+        if fails.is_some() {
+            return Ok(fails);
+        }
+    }
+    Ok(None)
+}
+
+/// Why the line of a node is rejected, if it is.
+pub(crate) fn node_fails<L: CostLaw, K: Covers>(
+    looker: &Looker<'_>,
+    alloc: Global,
+    cert: &Cert,
+    past: &PastStore<K>,
+    n: CertNode,
+    standing: &Standing,
+    stack: &mut [u64],
+) -> Result<Option<CertReason>, AllocError>
+    requires law { IsLawOf looker.now L.minimize L.operator }
+    requires covering { IsLawOf looker.now K.minimize K.operator }
+    requires prune { K.prune ≡ cert.now.prune }
+    requires layout { IsLayoutOf looker.now past.now.layout }
+    requires fits { StandingFits looker.now standing.now }
+    requires room { ServesModel looker.now (length stack.old) }
+    ensures { IfOk result (λ fails. fails ≡ node_fails_at looker.now cert.now past.now.nodes n (found standing.now)) }
+{
+    match standing {
+        Standing::Fails(reason) => Ok(Some(*reason)),
+        Standing::Stands(here) => {
+            if n.cut {
+                Ok(cut_fails::<L>(looker, cert, here, stack))
+            } else {
+                steps_fail::<L, K>(looker, alloc, cert, past, here, stack)
+            }
+        }
+    }
+}

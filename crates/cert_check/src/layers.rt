@@ -1,0 +1,123 @@
+//! The layers of a certificate, one after another.
+
+ghost use Rattle.std.specs.Prelude.{◌≡◌, ◌+◌, ◌<◌, ◌++◌, ◌^◌, [], IfOk, OnOk, length};
+ghost use Rattle.eval_room.specs.Needs.{ServesModel};
+ghost use Rattle.cost_laws.specs.Orders.{IsLawOf};
+ghost use Rattle.state_layout.specs.Conditions.{IsLayoutOf};
+ghost use Rattle.cert_types.specs.Lines.{line_of_layer, lines_of_list};
+ghost use Rattle.cert_laws.specs.Shown.{layer_of};
+ghost use Rattle.cert_laws.specs.Checks.{covering, layer_told, layers_told};
+ghost use Rattle.cert_check.specs.Looked.{AllFit, AreFound, kept_before, pasts};
+
+use crate::clauses::node_fails;
+use crate::looker::Looker;
+use crate::standings::{Standing, layer_stood, remember};
+use cert_laws::Checked;
+use cert_types::{Cert, CertNode};
+use cost_laws::CostLaw;
+use dom_store::{Covers, PastStore};
+use dp_model::{Claim, Keep};
+use std::alloc::{AllocError, Global};
+
+/// The nodes of a layer. Behind the last layer there are none.
+fn nodes_of(cert: &Cert, l: usize) -> &[CertNode]
+    ensures { result.now ≡ layer_of cert.now.layers l }
+{
+    match cert.layers.list().get(l) {
+        Some(nodes) => nodes.list(),
+        None => &[],
+    }
+}
+
+/// How many lines the list of a claim has.
+fn lines_of_list(claim: &Claim) -> u32
+    requires { lines_of_list claim.now < 2 ^ 32 }
+    ensures { result ≡ lines_of_list claim.now }
+{
+    match claim {
+        Claim::Optimal(found) => 1 + found.steps.list().len() as u32,
+        Claim::Infeasible => 0,
+    }
+}
+
+/// Keeps the nodes of the next layer that stand, beside those of earlier layers where they cover too.
+fn keep_next<K: Covers>(
+    alloc: Global,
+    keep: Keep,
+    past: &mut PastStore<K>,
+    looker: &Looker<'_>,
+    next: &[Standing],
+) -> Result<(), AllocError>
+    requires layout { IsLayoutOf looker.now past.old.layout }
+    requires fits { AllFit looker.now next.now }
+    ensures nodes { OnOk result (past.new.nodes ≡ kept_before keep past.old.nodes ++ pasts next.now) }
+    ensures layout { IsLayoutOf looker.now past.new.layout }
+{
+    if keep == Keep::Layer {
+        *past = PastStore::new(alloc, looker.layout())?;
+    }
+    remember(past, looker, next)
+}
+
+/// What is told of the nodes of a layer, of which this is the first line.
+fn layer_told<L: CostLaw, K: Covers>(
+    looker: &Looker<'_>,
+    alloc: Global,
+    cert: &Cert,
+    l: usize,
+    line: u32,
+    past: &PastStore<K>,
+    standings: &[Standing],
+    stack: &mut [u64],
+) -> Result<Checked, AllocError>
+    requires law { IsLawOf looker.now L.minimize L.operator }
+    requires covering { IsLawOf looker.now K.minimize K.operator }
+    requires prune { K.prune ≡ cert.now.prune }
+    requires layout { IsLayoutOf looker.now past.now.layout }
+    requires room { ServesModel looker.now (length stack.old) }
+    requires there { l < length cert.now.layers }
+    requires line { line ≡ line_of_layer cert.now.first cert.now.claim cert.now.layers l }
+    requires found { AreFound looker.now cert.now l standings.now }
+    requires fits { AllFit looker.now standings.now }
+    requires past { past.now.nodes ≡ covering looker.now cert.now cert.now.keep (l + 1) }
+    ensures { IfOk result (λ told. told ≡ layer_told looker.now cert.now l 0 (layer_of cert.now.layers l)) }
+{
+    for (place, n) in nodes_of(cert, l).iter().enumerate() {
+        let fails = node_fails::<L, K>(looker, alloc, cert, past, *n, &standings[place], stack)?;
+        if let Some(reason) = fails {
+            let line = line + 1 + place as u32;
+            return Ok(Checked::No { line, reason });
+        }
+    }
+    Ok(Checked::Yes)
+}
+
+/// What is told of all layers.
+pub(crate) fn layers_told<L: CostLaw, K: Covers>(
+    looker: &Looker<'_>,
+    alloc: Global,
+    cert: &Cert,
+    stack: &mut [u64],
+) -> Result<Checked, AllocError>
+    requires law { IsLawOf looker.now L.minimize L.operator }
+    requires covering { IsLawOf looker.now K.minimize K.operator }
+    requires prune { K.prune ≡ cert.now.prune }
+    requires room { ServesModel looker.now (length stack.old) }
+    ensures { IfOk result (λ told. told ≡ layers_told looker.now cert.now 0 cert.now.layers) }
+{
+    let mut past = PastStore::<K>::new(alloc, looker.layout())?;
+    let mut here = layer_stood::<L>(looker, alloc, nodes_of(cert, 0), &[], stack)?;
+    remember(&mut past, looker, &here)?;
+    let mut line = cert.first + 4 + lines_of_list(&cert.claim);
+    for l in 0..cert.layers.list().len() {
+        let next = layer_stood::<L>(looker, alloc, nodes_of(cert, l + 1), &here, stack)?;
+        keep_next::<K>(alloc, cert.keep, &mut past, looker, &next)?;
+        match layer_told::<L, K>(looker, alloc, cert, l, line, &past, &here, stack)? {
+            Checked::Yes => {}
+            told => return Ok(told),
+        }
+        line += 1 + nodes_of(cert, l).len() as u32;
+        here = next;
+    }
+    Ok(Checked::Yes)
+}

@@ -1,0 +1,12 @@
+//! A certificate is checked: exactly where it shows its claim the check says yes, and else it names the first line that fails,
+//! and why. What it stands on is told in README.md.
+#![tactic(auto)]
+
+mod checking;
+mod clauses;
+mod layers;
+mod looker;
+mod standings;
+
+pub use cert_laws::{CertReason, Checked, law_checked, law_shown};
+pub use checking::check;

@@ -1,0 +1,5 @@
+pub mod Words
+pub mod Named
+pub mod Said
+pub mod Texts
+pub mod ReadBack

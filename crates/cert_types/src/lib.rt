@@ -1,0 +1,9 @@
+//! Certificates of exhausted searches: what one says, and what every one keeps. A certificate claims the verdict of a search
+//! and lists the nodes that it kept, layer by layer.
+#![tactic(auto)]
+
+mod cert;
+mod nodes;
+
+pub use cert::Cert;
+pub use nodes::{CertNode, CertStep};

@@ -1,0 +1,4 @@
+pub mod Shuttle
+pub mod Floors
+pub mod Shares
+pub mod Forced
