@@ -95,13 +95,13 @@ module _ (p : Pass) (records : List ShardRecord) (before after : View) (tally : 
   -- where memory ran out nothing is told but the numbers
   pub without_memory : (dropped : ℕ) (end : PassEnd) → end ≡ ends.Halted causes.Memory tally.visited dropped None → IsPassEnd p before after end
   without_memory dropped end is =
-      let h : IsPassEnd p before after (ends.Halted causes.Memory tally.visited dropped None) = (drew, tt, record { cause_is = tt; best_is = λ other. absurd (other refl); held_is = λ other. absurd (other refl) }) in
+      let h : IsPassEnd p before after (ends.Halted causes.Memory tally.visited dropped None) = (drew, tt, record { cause_is = tt; best_is = λ other. absurd (other refl) }) in
       subst (λ (e : PassEnd). IsPassEnd p before after e) (sym is) h
 
-  pub halts : (dropped : ℕ) (why : Cause) → IsCause p before after why → (best : Option Found) → IsLegal p.model best → IsLowered p (best_known before) best (best_known after) → IsBestOf p records best
+  pub halts : (dropped : ℕ) (why : Cause) → IsCause p before after why → (best : Option Found) → IsLegal p.model best → IsLowered p (best_known before) best (best_known after)
       → (end : PassEnd) → end ≡ ends.Halted why tally.visited dropped best → IsPassEnd p before after end
-  halts dropped why cause_is best legal lowered held end is =
-      let h : IsPassEnd p before after (ends.Halted why tally.visited dropped best) = (drew, legal, record { cause_is = cause_is; best_is = λ other. lowered; held_is = λ other. (records, left.long, left.together, held) }) in
+  halts dropped why cause_is best legal lowered end is =
+      let h : IsPassEnd p before after (ends.Halted why tally.visited dropped best) = (drew, legal, record { cause_is = cause_is; best_is = λ other. lowered }) in
       subst (λ (e : PassEnd). IsPassEnd p before after e) (sym is) h
 
   pub ends_left : (xs : List ShardEnd) → xs ≡ tally.ends.items → AreEnds p records xs tally.logs.items

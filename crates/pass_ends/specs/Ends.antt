@@ -14,7 +14,7 @@ use Rattle.dom_store.specs.Order.{IsLeastFloor}
 use Rattle.pass_ledger.specs.Counts.{visits_of, IsWider}
 use Rattle.pass_ledger.specs.Ledgers.{Ledger, Closed}
 use Rattle.pass_ledger.specs.Passes.{Pass, word_of}
-use Rattle.pass_ledger.specs.Records.{record_of, Together}
+use Rattle.pass_ledger.specs.Records.{record_of}
 use Rattle.pass_ledger.specs.declared.records.Held.{Held}
 use Rattle.pass_ledger.specs.declared.records.ShardRecord.{ShardRecord}
 use Rattle.shard_core.specs.Stands.{all_dropped}
@@ -86,7 +86,6 @@ IsCause p before after causes.Memory = Unit {0}
 pub record IsHalted (p : Pass) (before after : View) (cause : Cause) (best : Option Found) : Type 0 where
   pub cause_is : IsCause p before after cause
   pub best_is : (cause ≡ causes.Memory → ⊥) → IsLowered p (best_known before) best (best_known after)
-  pub held_is : (cause ≡ causes.Memory → ⊥) → (records : List ShardRecord) × (length records ≡ p.shards) × Together p records × IsBestOf p records best
 
 -- ---- the answer
 
