@@ -19,8 +19,8 @@ module _ {A B : Type 0} (p : Pass) (least : Bool) (join : JoinOp) (prune fewest 
   pub keep_still : (shards turned : List (Seated (Turner A B))) → KeepAll p board boxes.items shards → AllStay (plays_by least join prune fewest other) board boxes shards turned → KeepAll p board boxes.items turned
   keep_still shards turned k stay =
       let now = λ (i : ℕ) (s : Seated (Turner A B)) (at : slice_get turned i ≡ Some s).
-          let was = stay_at (plays_by least join prune fewest other) board boxes shards turned stay i s at in
-          was.2 (p, i) (record { suited = suited; me = k.numbers i was.0 was.1; keeps = k.each i was.0 was.1 }) in
+      let was = stay_at (plays_by least join prune fewest other) board boxes shards turned stay i s at in
+      was.2 (p, i) (record { suited = suited; me = k.numbers i was.0 was.1; keeps = k.each i was.0 was.1 }) in
       record {
         boxes_long = k.boxes_long;
         long = stay_long (plays_by least join prune fewest other) board boxes shards turned stay ∙ k.long;

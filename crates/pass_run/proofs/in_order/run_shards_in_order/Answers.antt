@@ -17,10 +17,14 @@ end_pass-requires-clause-begun g c =
     let some = c.requires.may.options_fit.some_workers in
     let p = pass_of c.args.model.now c.args.options.now c.args.share some in
     let suited : Suited p g.L.CostLaw.minimize g.L.CostLaw.operator g.K.Covers.prune g.K.Covers.minimize g.K.Covers.operator = record { law = c.requires.law; covering = c.requires.covering; prune_is = c.requires.prune } in
-    let b = c.in-Ok.begun in
-    (p, c.args.seat.now.view, c.requires.law, refl,
+    let b = c.in-Ok.begun in (
+      p,
+      c.args.seat.now.view,
+      c.requires.law,
+      refl,
       turned p c.args.board.now c.args.options.now.budget b.before c.args.seat.now.view c.begin_pass.new.seat b.shards.items b.boxes b.room (c.in-Ok.ensures.begun some)
-      g.L.CostLaw.minimize g.L.CostLaw.operator g.K.Covers.prune g.K.Covers.minimize g.K.Covers.operator suited c.turn_in_order-shards.result.items c.turn_in_order-shards.ensures.stay)
+          g.L.CostLaw.minimize g.L.CostLaw.operator g.K.Covers.prune g.K.Covers.minimize g.K.Covers.operator suited c.turn_in_order-shards.result.items c.turn_in_order-shards.ensures.stay,
+    )
 
 pub returns-in-Ok-clause-answer : goal.returns-in-Ok-clause-answer
 returns-in-Ok-clause-answer g c = λ some.
