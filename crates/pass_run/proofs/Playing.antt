@@ -1,10 +1,9 @@
 -- The shards of a pass as players: what they are held to, and that it is kept while they turn.
-use Rattle.std.proofs.Common.{◌≡◌, ℕ, Bool, List, length, slice_get, Some, ◌∙◌}
-use Rattle.board_words.specs.Seats.{BoardFacts, SeatFacts}
+use Rattle.std.proofs.Common.{◌≡◌, ℕ, Bool, List, slice_get, Some, ◌∙◌}
+use Rattle.board_words.specs.Seats.{BoardFacts}
 use Rattle.dp_model.specs.declared.parts.JoinOp.{JoinOp}
 use Rattle.pass_ledger.specs.Passes.{Pass}
 use Rattle.shard_core.specs.Stands.{Suited}
-use Rattle.shard_mail.specs.Ends.{MailboxFacts}
 use Rattle.shard_threads.specs.Players.{AllStay, AreHeld}
 use Rattle.shard_threads.specs.declared.seated.Seated.{Seated}
 use Rattle.shard_threads.proofs.Staying.{stay_at, stay_long}

@@ -1,4 +1,4 @@
-use Rattle.std.proofs.Common.{◌≤◌, refl, subst}
+use Rattle.std.proofs.Common.{refl}
 use Rattle.shard_core.specs.Stands.{Suited}
 use Rattle.pass_ends.specs.Passes.{pass_of}
 use Rattle.pass_run.proofs.Playing.{are_held}

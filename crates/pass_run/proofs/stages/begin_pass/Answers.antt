@@ -1,6 +1,5 @@
-use Rattle.std.proofs.Common.{◌≤◌, ap, subst, ◌∙◌, arith}
+use Rattle.std.proofs.Common.{ap, subst, ◌∙◌, arith}
 use Rattle.board_words.specs.Seats.{SeatFacts}
-use Rattle.board_words.specs.declared.seat.View.{View}
 use Rattle.shard_threads.specs.Seats.{AreSeated, with_less}
 use Rattle.pass_ends.specs.Passes.{pass_of}
 use Rattle.pass_run.proofs.Fresh.{all_begin}
