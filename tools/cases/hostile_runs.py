@@ -340,7 +340,7 @@ MEANINGLESS = [
     # other names, other cases, other ways to write an option
     "solve d p --work 1", "solve d p --workerss 1", "solve d p --Workers 1", "solve d p --WORKERS=1", "solve d p -workers 1", "solve d p -w1", "solve d p -p off",
     "solve d p ---prune off", "solve d p --=off", "solve d p --prune:off", "solve d p --no-prune", "solve d p --prune\u00e9 off", "solve d p --workers1",
-    "solve d p --gap on", "show d p --keep all", "gen path 2 0 --keep all", "show d p --prune off", "replay d p l --workers 1", "gen path 2 0 --budget 3",
+    "show d p --gap on", "solve d p --gap", "solve d p --gap maybe", "solve d p --gap on --gap on", "show d p --keep all", "gen path 2 0 --keep all", "show d p --prune off", "replay d p l --workers 1", "gen path 2 0 --budget 3",
     # other values
     "solve d p --prune OFF", "solve d p --prune On", "solve d p --prune 1", "solve d p --prune true", "solve d p --prune=off=on", "solve d p --prune \u043eff",
     "solve d p --prune off,on", "solve d p --prune='off'",
@@ -357,7 +357,7 @@ MEANINGLESS = [
     "replay d p l l", "replay -- d p", "gen -- path 2", "gen path 2 0 -- 0", "gen path 2 0 1",
     # other commands
     " ", "--", "-- solve d p", "SOLVE d p", "sol d p", "solve-d p", "help", "help solve", "-h", "--help", "-V", "--version", "solve d p --help", "solve d p -h",
-    "solve d p --version", "show -h", "gen --help", "replay --help d p l", "solve help", "--prune off solve d p", "--workers=1 solve d p", "check d p l", "\u00a0solve d p",
+    "solve d p --version", "show -h", "gen --help", "replay --help d p l", "solve help", "--prune off solve d p", "--workers=1 solve d p", "check d p", "\u00a0solve d p",
     "solved d p", "\u0455olve d p",
 ]
 

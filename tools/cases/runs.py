@@ -35,6 +35,7 @@ TABLES = [
     ("pruned", "pruned", 3),
     ("keep", "keep", 4),
     ("gap", "gap", 1),
+    ("checks", "check", 8),
     ("field", "field", None),
     ("profile", "profile2", 4),
 ]

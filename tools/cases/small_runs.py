@@ -6,7 +6,7 @@ alone. A text stays until another takes its place."""
 
 from gen import DOMAINS, printed
 
-USAGE = "usage: solve DOMAIN PROBLEM; replay DOMAIN PROBLEM LIST; show DOMAIN PROBLEM; gen KIND SIZE SEED\n"
+USAGE = "usage: solve DOMAIN PROBLEM; replay DOMAIN PROBLEM LIST; show DOMAIN PROBLEM; gen KIND SIZE SEED; check DOMAIN PROBLEM CERT\n"
 
 # One step of cost 5 for each unit up to 3.
 STAIRS = """\

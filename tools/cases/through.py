@@ -98,7 +98,9 @@ def printed(program, path):
             if key == "case":
                 pieces.append(f"== {text.decode()}\n")
             else:
-                pieces[-1] += runs.take(key, text)
+                told = runs.take(key, text)
+                if told:
+                    pieces[-1] += told
     return pieces
 
 

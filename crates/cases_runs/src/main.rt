@@ -13,7 +13,7 @@ use std::thread::{Builder, Threads};
 use std::{fs, io, thread};
 
 /// The files of cases, in the order in which they are run.
-const FILES: [&str; 15] = [
+const FILES: [&str; 16] = [
     "one_variable.txt",
     "first_form.txt",
     "refusals.txt",
@@ -22,6 +22,7 @@ const FILES: [&str; 15] = [
     "pruned.txt",
     "keep.txt",
     "gap.txt",
+    "checks.txt",
     "field.txt",
     "profile.txt",
     "small.txt",

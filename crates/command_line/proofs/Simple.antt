@@ -1,8 +1,8 @@
--- The four commands are simple ones, of which `clap` says exactly what it finds in words.
+-- The five commands are simple ones, of which `clap` says exactly what it finds in words.
 use Rattle.std.proofs.Common.{◌≡◌, ◌∙◌, ap, true, refl}
 use Rattle.clap.specs.Words.{App, is_simple, is_simple_and_free}
 use Rattle.clap.proofs.OnLiterals.{clap_on_literals}
-use Rattle.command_line.specs.Commands.{solve, replay, show, generate}
+use Rattle.command_line.specs.Commands.{solve, replay, check, show, generate}
 
 solve_is_free : is_simple_and_free solve ≡ true
 unfolding clap_on_literals solve
@@ -19,6 +19,14 @@ replay_is_free = refl
 replay_is_simple : is_simple replay ≡ true
 unfolding clap_on_literals replay
 replay_is_simple = refl
+
+check_is_free : is_simple_and_free check ≡ true
+unfolding clap_on_literals check
+check_is_free = refl
+
+check_is_simple : is_simple check ≡ true
+unfolding clap_on_literals check
+check_is_simple = refl
 
 show_is_free : is_simple_and_free show ≡ true
 unfolding clap_on_literals show
@@ -47,6 +55,12 @@ replay_free a is = ap is_simple_and_free is ∙ replay_is_free
 
 pub replay_simple : (a : App) → a ≡ replay → is_simple a ≡ true
 replay_simple a is = ap is_simple is ∙ replay_is_simple
+
+pub check_free : (a : App) → a ≡ check → is_simple_and_free a ≡ true
+check_free a is = ap is_simple_and_free is ∙ check_is_free
+
+pub check_simple : (a : App) → a ≡ check → is_simple a ≡ true
+check_simple a is = ap is_simple is ∙ check_is_simple
 
 pub show_free : (a : App) → a ≡ show → is_simple_and_free a ≡ true
 show_free a is = ap is_simple_and_free is ∙ show_is_free

@@ -1,4 +1,4 @@
--- The four commands, as their words are read: words that stand for themselves and options with a value, without help and
+-- The five commands, as their words are read: words that stand for themselves and options with a value, without help and
 -- version flags. The name of the command is the first word.
 use Rattle.std.specs.Prelude.{true, List, Option, Some, codes}
 use Rattle.clap.specs.Words.{App, Kinds, Rule, Text, new_app, new_rule, with_rule, matches_of, fault_of, first_of}
@@ -18,12 +18,15 @@ plain name = on_top (λ s. record s { disable_version_flag = true }) (on_top (λ
 
 unfoldable pub solve : App
 solve =
-    with_rule (with_rule (with_rule (with_rule (with_rule (with_rule (with_rule (plain (codes "solve"))
+    with_rule (with_rule (with_rule (with_rule (with_rule (with_rule (with_rule (with_rule (plain (codes "solve"))
     (word (codes "domain"))) (word (codes "problem"))) (option (codes "workers"))) (option (codes "budget"))) (option (codes "prune"))) (option (codes "keep")))
-    (option (codes "gap"))
+    (option (codes "gap"))) (option (codes "certificate"))
 
 unfoldable pub replay : App
 replay = with_rule (with_rule (with_rule (plain (codes "replay")) (word (codes "domain"))) (word (codes "problem"))) (word (codes "list"))
+
+unfoldable pub check : App
+check = with_rule (with_rule (with_rule (plain (codes "check")) (word (codes "domain"))) (word (codes "problem"))) (word (codes "cert"))
 
 unfoldable pub show : App
 show = with_rule (with_rule (plain (codes "show")) (word (codes "domain"))) (word (codes "problem"))

@@ -8,10 +8,10 @@ use Rattle.dp_model.specs.declared.answers.Keep.TheVariants as keeps
 use Rattle.dp_model.specs.declared.answers.Options.{Options}
 use Rattle.model_gen.specs.declared.kinds.GenKind.{GenKind}
 use Rattle.model_gen.specs.Kinds.{kind_named, least_size, most_size}
-use Rattle.command_line.specs.Commands.{value_in, faults_in, solve, replay, show, generate}
+use Rattle.command_line.specs.Commands.{value_in, faults_in, solve, replay, check, show, generate}
 use Rattle.command_line.specs.declared.jobs.Job.{Job}
 use Rattle.command_line.specs.declared.reading.Asked.{Asked}
-use Rattle.command_line.specs.declared.jobs.Job.TheVariants.{Solve, Replay, Show, Gen}
+use Rattle.command_line.specs.declared.jobs.Job.TheVariants.{Solve, Replay, Check, Show, Gen}
 
 -- ---- numbers
 
@@ -46,9 +46,10 @@ options_of workers budget prune keep =
     option_and_then (λ w. option_and_then (λ b. option_and_then (λ p. option_map (λ k. record { workers = w; budget = b; prune = p; keep = k })
     (layer_or_all keep)) (on_or_off true prune)) (number_or 10000000 1 1099511627776 budget)) (number_or 1 1 64 workers)
 
--- a bound is asked for where `on` is given
-abbrev pub asked_of : Option Options → (gap : Option (List ℕ)) → Option Asked
-asked_of options gap = option_and_then (λ o. option_map (λ g. record { options = o; gap = g }) (on_or_off false gap)) options
+-- a bound and a certificate are asked for where `on` is given
+abbrev pub asked_of : Option Options → (gap certificate : Option (List ℕ)) → Option Asked
+asked_of options gap certificate =
+    option_and_then (λ o. option_and_then (λ g. option_map (λ c. record { options = o; gap = g; certificate = c }) (on_or_off false certificate)) (on_or_off false gap)) options
 
 -- ---- jobs
 
@@ -57,16 +58,23 @@ abbrev pub unless_fault : Kinds → Option Job → Option Job
 unless_fault [] job = job
 unless_fault (kind ∷ kinds) job = None
 
-abbrev pub solve_job : (domain problem workers budget prune keep gap : Option (List ℕ)) → Option Job
-solve_job (Some domain) (Some problem) workers budget prune keep gap = option_map (λ asked. Solve domain problem asked.options asked.gap) (asked_of (options_of workers budget prune keep) gap)
-solve_job (Some domain) None workers budget prune keep gap = None
-solve_job None problem workers budget prune keep gap = None
+abbrev pub solve_job : (domain problem workers budget prune keep gap certificate : Option (List ℕ)) → Option Job
+solve_job (Some domain) (Some problem) workers budget prune keep gap certificate =
+    option_map (λ asked. Solve domain problem asked.options asked.gap asked.certificate) (asked_of (options_of workers budget prune keep) gap certificate)
+solve_job (Some domain) None workers budget prune keep gap certificate = None
+solve_job None problem workers budget prune keep gap certificate = None
 
 abbrev pub replay_job : (domain problem list : Option (List ℕ)) → Option Job
 replay_job (Some domain) (Some problem) (Some list) = Some (Replay domain problem list)
 replay_job (Some domain) (Some problem) None = None
 replay_job (Some domain) None list = None
 replay_job None problem list = None
+
+abbrev pub check_job : (domain problem cert : Option (List ℕ)) → Option Job
+check_job (Some domain) (Some problem) (Some cert) = Some (Check domain problem cert)
+check_job (Some domain) (Some problem) None = None
+check_job (Some domain) None cert = None
+check_job None problem cert = None
 
 abbrev pub show_job : (domain problem : Option (List ℕ)) → Option Job
 show_job (Some domain) (Some problem) = Some (Show domain problem)
@@ -89,12 +97,18 @@ unfoldable pub solve_words : List (List ℕ) → Option Job
 solve_words ws =
     unless_fault (faults_in solve ws)
     (solve_job (value_in solve ws (codes "domain")) (value_in solve ws (codes "problem")) (value_in solve ws (codes "workers"))
-    (value_in solve ws (codes "budget")) (value_in solve ws (codes "prune")) (value_in solve ws (codes "keep")) (value_in solve ws (codes "gap")))
+    (value_in solve ws (codes "budget")) (value_in solve ws (codes "prune")) (value_in solve ws (codes "keep")) (value_in solve ws (codes "gap"))
+    (value_in solve ws (codes "certificate")))
 
 unfoldable pub replay_words : List (List ℕ) → Option Job
 replay_words ws =
     unless_fault (faults_in replay ws)
     (replay_job (value_in replay ws (codes "domain")) (value_in replay ws (codes "problem")) (value_in replay ws (codes "list")))
+
+unfoldable pub check_words : List (List ℕ) → Option Job
+check_words ws =
+    unless_fault (faults_in check ws)
+    (check_job (value_in check ws (codes "domain")) (value_in check ws (codes "problem")) (value_in check ws (codes "cert")))
 
 unfoldable pub show_words : List (List ℕ) → Option Job
 show_words ws = unless_fault (faults_in show ws) (show_job (value_in show ws (codes "domain")) (value_in show ws (codes "problem")))
@@ -109,8 +123,9 @@ abbrev pub by_command : (command : List ℕ) → List (List ℕ) → Option Job
 by_command command ws =
     if bytes_eq command (codes "solve") then solve_words ws
     else (if bytes_eq command (codes "replay") then replay_words ws
+    else (if bytes_eq command (codes "check") then check_words ws
     else (if bytes_eq command (codes "show") then show_words ws
-    else (if bytes_eq command (codes "gen") then gen_words ws else None)))
+    else (if bytes_eq command (codes "gen") then gen_words ws else None))))
 
 -- The job of words, without the program's own name. The first is the command, which is read by hand; none of them is
 -- another name of one.

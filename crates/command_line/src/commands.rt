@@ -1,8 +1,8 @@
-//! The four commands, as `clap` reads their words.
+//! The five commands, as `clap` reads their words.
 
 ghost use Rattle.std.specs.Prelude.{◌≡◌, ◌≢◌, [], ℕ, List, true, false, map, string_bytes, codes, IfOk, IsErrOf, option_map};
 ghost use Rattle.clap.specs.Words.{app_of, rule_of, first_value, found_of, is_simple, is_simple_and_free};
-ghost use Rattle.command_line.specs.Commands.{word, option, plain, solve, replay, show, generate, value_in, faults_in};
+ghost use Rattle.command_line.specs.Commands.{word, option, plain, solve, replay, check, show, generate, value_in, faults_in};
 
 use crate::jobs::WordsEnd;
 use clap::error::ErrorKind;
@@ -46,7 +46,8 @@ pub(crate) fn solve<'a>(alloc: Global) -> Result<Command<'a>, AllocError>
             .arg(option(alloc, "budget"))?
             .arg(option(alloc, "prune"))?
             .arg(option(alloc, "keep"))?
-            .arg(option(alloc, "gap"))?,
+            .arg(option(alloc, "gap"))?
+            .arg(option(alloc, "certificate"))?,
     )
 }
 
@@ -59,6 +60,18 @@ pub(crate) fn replay<'a>(alloc: Global) -> Result<Command<'a>, AllocError>
             .arg(word(alloc, "domain"))?
             .arg(word(alloc, "problem"))?
             .arg(word(alloc, "list"))?,
+    )
+}
+
+#[tactic(auto, unfolding(crate::specs::Commands::check))]
+pub(crate) fn check<'a>(alloc: Global) -> Result<Command<'a>, AllocError>
+    ensures { IfOk result (λ c. app_of c ≡ check) }
+{
+    Ok(
+        plain(alloc, "check")
+            .arg(word(alloc, "domain"))?
+            .arg(word(alloc, "problem"))?
+            .arg(word(alloc, "cert"))?,
     )
 }
 

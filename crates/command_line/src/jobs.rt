@@ -18,12 +18,20 @@ pub enum Job {
         options: Options,
         /// Whether a bound of the best cost is asked for.
         gap: bool,
+        /// Whether a certificate is to be written.
+        certificate: bool,
     },
     /// Say whether a list of steps is a legal one of a model, and what it costs.
     Replay {
         domain: Text,
         problem: Text,
         list: Text,
+    },
+    /// Say whether a certificate shows what it claims of a model.
+    Check {
+        domain: Text,
+        problem: Text,
+        cert: Text,
     },
     /// Say what was understood of a model.
     Show {

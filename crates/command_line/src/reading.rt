@@ -2,9 +2,9 @@
 
 ghost use Rattle.std.specs.Prelude.{◌≡◌, None, Some, codes, map, option_map, string_bytes, IfOk, IsErrOf};
 ghost use Rattle.clap.specs.Words.{first_value, found_of};
-ghost use Rattle.command_line.specs.Jobs.{asked_of, on_or_off, layer_or_all, options_of, solve_words, replay_words, show_words, gen_words, gen_job, by_command, job_of};
+ghost use Rattle.command_line.specs.Jobs.{asked_of, on_or_off, layer_or_all, options_of, solve_job, solve_words, replay_words, check_words, show_words, gen_words, gen_job, by_command, job_of};
 
-use crate::commands::{found, generate, replay, show, solve};
+use crate::commands::{check, found, generate, replay, show, solve};
 use crate::jobs::{Job, WordsEnd};
 use crate::numbers::{number_in, number_or};
 use clap::ArgMatches;
@@ -26,6 +26,7 @@ const VISITS: u64 = 10_000_000;
 struct Asked {
     options: Options,
     gap: bool,
+    certificate: bool,
 }
 
 fn owned(alloc: Global, text: &str) -> Result<Text, AllocError>
@@ -89,11 +90,16 @@ fn found_options(matches: &ArgMatches<'_>) -> Option<Options>
 
 /// What was found in the words of a search.
 fn found_asked(matches: &ArgMatches<'_>) -> Option<Asked>
-    ensures { result ≡ asked_of (options_of (first_value (found_of matches.now) (codes "workers")) (first_value (found_of matches.now) (codes "budget")) (first_value (found_of matches.now) (codes "prune")) (first_value (found_of matches.now) (codes "keep"))) (first_value (found_of matches.now) (codes "gap")) }
+    ensures { result ≡ asked_of (options_of (first_value (found_of matches.now) (codes "workers")) (first_value (found_of matches.now) (codes "budget")) (first_value (found_of matches.now) (codes "prune")) (first_value (found_of matches.now) (codes "keep"))) (first_value (found_of matches.now) (codes "gap")) (first_value (found_of matches.now) (codes "certificate")) }
 {
     let options = found_options(matches)?;
     let gap = on_or_off(false, matches.get_str("gap"))?;
-    Some(Asked { options, gap })
+    let certificate = on_or_off(false, matches.get_str("certificate"))?;
+    Some(Asked {
+        options,
+        gap,
+        certificate,
+    })
 }
 
 #[tactic(auto, using(crate::proofs::Faults::faulty, crate::proofs::Faults::free), unfolding(crate::specs::Jobs::solve_words))]
@@ -102,11 +108,19 @@ fn solve_words(alloc: Global, words: &Vec<String>) -> Result<Job, WordsEnd>
     ensures usage { IsErrOf result WordsEnd.Usage → solve_words (map string_bytes words.now.items) ≡ None }
 {
     let matches = found(solve(alloc)?, words)?;
+    found_search(alloc, &matches)
+}
+
+/// The job of a search with what was found in its words.
+fn found_search(alloc: Global, matches: &ArgMatches<'_>) -> Result<Job, WordsEnd>
+    ensures job { IfOk result (λ job. solve_job (first_value (found_of matches.now) (codes "domain")) (first_value (found_of matches.now) (codes "problem")) (first_value (found_of matches.now) (codes "workers")) (first_value (found_of matches.now) (codes "budget")) (first_value (found_of matches.now) (codes "prune")) (first_value (found_of matches.now) (codes "keep")) (first_value (found_of matches.now) (codes "gap")) (first_value (found_of matches.now) (codes "certificate")) ≡ Some job) }
+    ensures usage { IsErrOf result WordsEnd.Usage → solve_job (first_value (found_of matches.now) (codes "domain")) (first_value (found_of matches.now) (codes "problem")) (first_value (found_of matches.now) (codes "workers")) (first_value (found_of matches.now) (codes "budget")) (first_value (found_of matches.now) (codes "prune")) (first_value (found_of matches.now) (codes "keep")) (first_value (found_of matches.now) (codes "gap")) (first_value (found_of matches.now) (codes "certificate")) ≡ None }
+{
     let (Some(domain), Some(problem)) = (matches.get_str("domain"), matches.get_str("problem"))
     else {
         return Err(WordsEnd::Usage);
     };
-    let Some(asked) = found_asked(&matches) else {
+    let Some(asked) = found_asked(matches) else {
         return Err(WordsEnd::Usage);
     };
     Ok(Job::Solve {
@@ -114,6 +128,7 @@ fn solve_words(alloc: Global, words: &Vec<String>) -> Result<Job, WordsEnd>
         problem: owned(alloc, problem)?,
         options: asked.options,
         gap: asked.gap,
+        certificate: asked.certificate,
     })
 }
 
@@ -134,6 +149,26 @@ fn replay_words(alloc: Global, words: &Vec<String>) -> Result<Job, WordsEnd>
         domain: owned(alloc, domain)?,
         problem: owned(alloc, problem)?,
         list: owned(alloc, list)?,
+    })
+}
+
+#[tactic(auto, using(crate::proofs::Faults::faulty, crate::proofs::Faults::free), unfolding(crate::specs::Jobs::check_words))]
+fn check_words(alloc: Global, words: &Vec<String>) -> Result<Job, WordsEnd>
+    ensures job { IfOk result (λ job. check_words (map string_bytes words.now.items) ≡ Some job) }
+    ensures usage { IsErrOf result WordsEnd.Usage → check_words (map string_bytes words.now.items) ≡ None }
+{
+    let matches = found(check(alloc)?, words)?;
+    let (Some(domain), Some(problem), Some(cert)) = (
+        matches.get_str("domain"),
+        matches.get_str("problem"),
+        matches.get_str("cert"),
+    ) else {
+        return Err(WordsEnd::Usage);
+    };
+    Ok(Job::Check {
+        domain: owned(alloc, domain)?,
+        problem: owned(alloc, problem)?,
+        cert: owned(alloc, cert)?,
     })
 }
 
@@ -198,6 +233,7 @@ fn by_command(alloc: Global, command: &str, words: &Vec<String>) -> Result<Job, 
     match command {
         "solve" => solve_words(alloc, words),
         "replay" => replay_words(alloc, words),
+        "check" => check_words(alloc, words),
         "show" => show_words(alloc, words),
         "gen" => gen_words(alloc, words),
         _ => Err(WordsEnd::Usage),

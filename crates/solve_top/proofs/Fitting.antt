@@ -5,9 +5,9 @@ use Rattle.std.specs.Str.{bytes_eq}
 use Rattle.std.specs.Str.Parse.{digits_value}
 use Rattle.std.proofs.lemmas.Bool.Decides.{nat_tests}
 use Rattle.clap.specs.Words.{Kinds}
-use Rattle.command_line.specs.Commands.{value_in, faults_in, solve, replay, show, generate}
+use Rattle.command_line.specs.Commands.{value_in, faults_in, solve, replay, check, show, generate}
 use Rattle.command_line.proofs.Searches.{is_search}
-use Rattle.command_line.specs.Jobs.{is_number, number_in, number_or, on_or_off, layer_or_all, options_of, unless_fault, solve_job, replay_job, show_job, sized_job, gen_job, solve_words, replay_words, show_words, gen_words, by_command, job_of}
+use Rattle.command_line.specs.Jobs.{is_number, number_in, number_or, on_or_off, layer_or_all, options_of, unless_fault, solve_job, replay_job, check_job, show_job, sized_job, gen_job, solve_words, replay_words, check_words, show_words, gen_words, by_command, job_of}
 use Rattle.command_line.specs.declared.jobs.Job.{Job}
 use Rattle.command_line.specs.declared.jobs.Job.TheVariants as jobs
 use Rattle.dp_model.specs.declared.answers.Options.{Options}
@@ -92,9 +92,9 @@ free_job : (kinds : Kinds) (told : Option Job) (job : Job) → unless_fault kind
 free_job [] told job e = e
 free_job (kind ∷ kinds) told job e = absurd cc
 
-solve_fits : (domain problem workers budget prune keep gap : Option (List ℕ)) (job : Job) → solve_job domain problem workers budget prune keep gap ≡ Some job → JobFits job
-solve_fits domain problem workers budget prune keep gap job e =
-    let s = is_search domain problem workers budget prune keep gap job e in
+solve_fits : (domain problem workers budget prune keep gap certificate : Option (List ℕ)) (job : Job) → solve_job domain problem workers budget prune keep gap certificate ≡ Some job → JobFits job
+solve_fits domain problem workers budget prune keep gap certificate job e =
+    let s = is_search domain problem workers budget prune keep gap certificate job e in
     subst JobFits (sym s.is) (options_fit workers budget prune keep s.given s.are)
 
 replay_fits : (domain problem list : Option (List ℕ)) (job : Job) → replay_job domain problem list ≡ Some job → JobFits job
@@ -102,6 +102,12 @@ replay_fits (Some domain) (Some problem) (Some list) job e = subst JobFits (some
 replay_fits (Some domain) (Some problem) None job e = absurd cc
 replay_fits (Some domain) None list job e = absurd cc
 replay_fits None problem list job e = absurd cc
+
+check_fits : (domain problem cert : Option (List ℕ)) (job : Job) → check_job domain problem cert ≡ Some job → JobFits job
+check_fits (Some domain) (Some problem) (Some cert) job e = subst JobFits (some_one (jobs.Check domain problem cert) job e) tt
+check_fits (Some domain) (Some problem) None job e = absurd cc
+check_fits (Some domain) None cert job e = absurd cc
+check_fits None problem cert job e = absurd cc
 
 show_fits : (domain problem : Option (List ℕ)) (job : Job) → show_job domain problem ≡ Some job → JobFits job
 show_fits (Some domain) (Some problem) job e = subst JobFits (some_one (jobs.Show domain problem) job e) tt
@@ -129,11 +135,15 @@ gen_fits None size seed workers job e = absurd cc
 
 solve_words_fit : (ws : List (List ℕ)) (job : Job) → solve_words ws ≡ Some job → JobFits job
 unfolding solve_words
-solve_words_fit ws job e = solve_fits (value_in solve ws (codes "domain")) (value_in solve ws (codes "problem")) (value_in solve ws (codes "workers")) (value_in solve ws (codes "budget")) (value_in solve ws (codes "prune")) (value_in solve ws (codes "keep")) (value_in solve ws (codes "gap")) job (free_job (faults_in solve ws) (solve_job (value_in solve ws (codes "domain")) (value_in solve ws (codes "problem")) (value_in solve ws (codes "workers")) (value_in solve ws (codes "budget")) (value_in solve ws (codes "prune")) (value_in solve ws (codes "keep")) (value_in solve ws (codes "gap"))) job e)
+solve_words_fit ws job e = solve_fits (value_in solve ws (codes "domain")) (value_in solve ws (codes "problem")) (value_in solve ws (codes "workers")) (value_in solve ws (codes "budget")) (value_in solve ws (codes "prune")) (value_in solve ws (codes "keep")) (value_in solve ws (codes "gap")) (value_in solve ws (codes "certificate")) job (free_job (faults_in solve ws) (solve_job (value_in solve ws (codes "domain")) (value_in solve ws (codes "problem")) (value_in solve ws (codes "workers")) (value_in solve ws (codes "budget")) (value_in solve ws (codes "prune")) (value_in solve ws (codes "keep")) (value_in solve ws (codes "gap")) (value_in solve ws (codes "certificate"))) job e)
 
 replay_words_fit : (ws : List (List ℕ)) (job : Job) → replay_words ws ≡ Some job → JobFits job
 unfolding replay_words
 replay_words_fit ws job e = replay_fits (value_in replay ws (codes "domain")) (value_in replay ws (codes "problem")) (value_in replay ws (codes "list")) job (free_job (faults_in replay ws) (replay_job (value_in replay ws (codes "domain")) (value_in replay ws (codes "problem")) (value_in replay ws (codes "list"))) job e)
+
+check_words_fit : (ws : List (List ℕ)) (job : Job) → check_words ws ≡ Some job → JobFits job
+unfolding check_words
+check_words_fit ws job e = check_fits (value_in check ws (codes "domain")) (value_in check ws (codes "problem")) (value_in check ws (codes "cert")) job (free_job (faults_in check ws) (check_job (value_in check ws (codes "domain")) (value_in check ws (codes "problem")) (value_in check ws (codes "cert"))) job e)
 
 show_words_fit : (ws : List (List ℕ)) (job : Job) → show_words ws ≡ Some job → JobFits job
 unfolding show_words
@@ -150,15 +160,19 @@ one_of false x y job e = inr e
 command_fits : (command : List ℕ) (ws : List (List ℕ)) (job : Job) → by_command command ws ≡ Some job → JobFits job
 command_fits command ws job e =
     let last = cond (bytes_eq command (codes "gen")) (gen_words ws) None in
-    let third = cond (bytes_eq command (codes "show")) (show_words ws) last in
+    let fourth = cond (bytes_eq command (codes "show")) (show_words ws) last in
+    let third = cond (bytes_eq command (codes "check")) (check_words ws) fourth in
     let second = cond (bytes_eq command (codes "replay")) (replay_words ws) third in
     elim (one_of (bytes_eq command (codes "solve")) (solve_words ws) second job e) [
       | inl a ↦ solve_words_fit ws job a
       | inr b ↦ elim (one_of (bytes_eq command (codes "replay")) (replay_words ws) third job b) [
         | inl a ↦ replay_words_fit ws job a
-        | inr c ↦ elim (one_of (bytes_eq command (codes "show")) (show_words ws) last job c) [
-          | inl a ↦ show_words_fit ws job a
-          | inr d ↦ elim (one_of (bytes_eq command (codes "gen")) (gen_words ws) None job d) [ inl a ↦ gen_words_fit ws job a | inr nothing ↦ absurd cc ]
+        | inr c ↦ elim (one_of (bytes_eq command (codes "check")) (check_words ws) fourth job c) [
+          | inl a ↦ check_words_fit ws job a
+          | inr d ↦ elim (one_of (bytes_eq command (codes "show")) (show_words ws) last job d) [
+            | inl a ↦ show_words_fit ws job a
+            | inr f ↦ elim (one_of (bytes_eq command (codes "gen")) (gen_words ws) None job f) [ inl a ↦ gen_words_fit ws job a | inr nothing ↦ absurd cc ]
+          ]
         ]
       ]
     ]

@@ -5,3 +5,4 @@ pub mod Programs
 pub mod Generated
 pub mod Fitting
 pub mod Settling
+pub mod Certifying

@@ -18,10 +18,12 @@ use Rattle.solve_passes.specs.declared.progress.Printing.{Printing}
 use Rattle.solve_passes.specs.declared.progress.Printing.TheVariants.{All}
 use Rattle.run_ends.specs.declared.status.Status.{Status}
 use Rattle.run_ends.specs.declared.status.Status.TheVariants as statuses
-use Rattle.solve_top.specs.Jobs.{Asks, names_of}
-use Rattle.solve_top.specs.Outcomes.{NoMemory, Solving, Replayed, Shown, ComesOf, Does, Printed}
+use Rattle.cert_types.specs.declared.cert.Cert.{Cert}
+use Rattle.cert_laws.specs.Checks.{checked}
+use Rattle.solve_top.specs.Jobs.{Asks, names_of, third_of}
+use Rattle.solve_top.specs.Outcomes.{NoMemory, Solving, Replayed, Checked, Shown, ComesOf, Does, Printed}
 use Rattle.solve_top.specs.Runs.{outcome_of, RefusedBy, IsUnread, GiveNothing}
-use Rattle.solve_top.specs.Texts.{Means, IsRefused, MeanModel, MeanSteps, AreRefused}
+use Rattle.solve_top.specs.Texts.{Means, IsRefused, MeanCert, MeanModel, MeanSteps, AreRefused, Third}
 use Rattle.solve_top.specs.declared.causes.NoModel.{NoModel}
 use Rattle.solve_top.specs.declared.causes.NoModel.TheVariants as causes
 
@@ -31,9 +33,9 @@ pub as_printed : {m : Model} {options : Options} {gap : Bool} {printing : Printi
 as_printed c = elim c.printed [ inl h ↦ inl (h.0, h.1) | inr h ↦ inr (h.0, h.1) ]
 
 -- a model that was loaded was searched
-pub searched : (files : List ℕ → Option (List ℕ)) (domain problem : List ℕ) (options : Options) (gap : Bool) (m : Model) (before after : Option (List ℕ)) (solved : Solved) →
-    OfTexts files (domain ∷ problem ∷ []) (λ texts. MeanModel texts m) → Concluded m options gap All before after solved → Does (jobs.Solve domain problem options gap) files before after solved.status
-searched files domain problem options gap m before after solved texts c = λ words asks. (Solving m options gap c.run, (domain, problem, asks, texts, c.right, c.word), as_printed c)
+pub searched : (files : List ℕ → Option (List ℕ)) (domain problem : List ℕ) (options : Options) (gap certificate : Bool) (m : Model) (before after : Option (List ℕ)) (solved : Solved) →
+    OfTexts files (domain ∷ problem ∷ []) (λ texts. MeanModel texts m) → Concluded m options gap All before after solved → Does (jobs.Solve domain problem options gap certificate) files before after solved.status
+searched files domain problem options gap certificate m before after solved texts c = λ words asks. (Solving m options gap c.run, (domain, problem, certificate, asks, texts, c.right, c.word), as_printed c)
 
 -- a list was replayed, or memory ran out
 pub was_replayed : (files : List ℕ → Option (List ℕ)) (domain problem list : List ℕ) (m : Model) (steps : List ℕ) (before after : Option (List ℕ)) (status : Status) →
@@ -42,19 +44,26 @@ pub was_replayed : (files : List ℕ → Option (List ℕ)) (domain problem list
 was_replayed files domain problem list m steps before after status texts (inl printed) = λ words asks. (Replayed m steps (replayed m steps), (domain, problem, list, asks, texts, refl), printed)
 was_replayed files domain problem list m steps before after status texts (inr printed) = λ words asks. (NoMemory, tt, printed)
 
+-- a certificate was checked, or memory ran out
+pub was_checked : (files : List ℕ → Option (List ℕ)) (domain problem text : List ℕ) (m : Model) (cert : Cert) (before after : Option (List ℕ)) (status : Status) →
+    OfTexts files (domain ∷ problem ∷ text ∷ []) (λ texts. MeanCert texts m cert) → Printed before after (Checked m cert (checked m cert)) status ⊎ Printed before after NoMemory status →
+    Does (jobs.Check domain problem text) files before after status
+was_checked files domain problem text m cert before after status texts (inl printed) = λ words asks. (Checked m cert (checked m cert), (domain, problem, text, asks, texts, refl), printed)
+was_checked files domain problem text m cert before after status texts (inr printed) = λ words asks. (NoMemory, tt, printed)
+
 -- a model that was loaded was shown
 pub was_shown : (files : List ℕ → Option (List ℕ)) (domain problem : List ℕ) (m : Model) (before after : Option (List ℕ)) (status : Status) →
     OfTexts files (domain ∷ problem ∷ []) (λ texts. MeanModel texts m) → Printed before after (Shown m) status → Does (jobs.Show domain problem) files before after status
 was_shown files domain problem m before after status texts printed = λ words asks. (Shown m, (domain, problem, asks, texts), printed)
 
 -- a job's files gave nothing to work on
-gave_nothing : (files : List ℕ → Option (List ℕ)) (job : Job) (words : List (List ℕ)) (e : NoModel) → Asks words job → GiveNothing files (names_of job) e → ComesOf words files (outcome_of e)
+gave_nothing : (files : List ℕ → Option (List ℕ)) (job : Job) (words : List (List ℕ)) (e : NoModel) → Asks words job → GiveNothing (third_of job) files (names_of job) e → ComesOf words files (outcome_of e)
 gave_nothing files job words (causes.ReadFault file) asks h = (job, asks, h)
 gave_nothing files job words (causes.TooLong file) asks h = (job, asks, h)
 gave_nothing files job words (causes.Refused number place offset) asks h = (job, asks, h)
 gave_nothing files job words causes.Memory asks h = tt
 
-pub did_nothing : (files : List ℕ → Option (List ℕ)) (job : Job) (e : NoModel) (before after : Option (List ℕ)) (status : Status) → GiveNothing files (names_of job) e → Printed before after (outcome_of e) status → Does job files before after status
+pub did_nothing : (files : List ℕ → Option (List ℕ)) (job : Job) (e : NoModel) (before after : Option (List ℕ)) (status : Status) → GiveNothing (third_of job) files (names_of job) e → Printed before after (outcome_of e) status → Does job files before after status
 did_nothing files job e before after status h printed = λ words asks. (outcome_of e, gave_nothing files job words e asks h, printed)
 
 not_read_fault : (e : Ending) → ending_status e ≡ statuses.ReadFault → ⊥
@@ -116,35 +125,35 @@ second_unread files first name names e short (inr (inl long)) = subst (IsUnread 
 second_unread files first name names e short (inr (inr same)) = subst (IsUnread files (first ∷ name ∷ names)) (sym same) tt
 
 -- why the third file was not read
-pub third_unread : (files : List ℕ → Option (List ℕ)) (first second name : List ℕ) (names : List (List ℕ)) (e : NoModel) → IfSome (files first) IsShort → IfSome (files second) IsShort → (e ≡ causes.ReadFault 3) ⊎ ((e ≡ causes.TooLong 3) × IfSome (files name) IsLong) ⊎ (e ≡ causes.Memory) → GiveNothing files (first ∷ second ∷ name ∷ names) e
-third_unread files first second name names e short also (inl same) = subst (GiveNothing files (first ∷ second ∷ name ∷ names)) (sym same) (inr (short, inr (also, inl (refl, tt))))
-third_unread files first second name names e short also (inr (inl long)) = subst (GiveNothing files (first ∷ second ∷ name ∷ names)) (sym long.0) (inr (short, inr (also, inl (refl, long.1))))
-third_unread files first second name names e short also (inr (inr same)) = subst (GiveNothing files (first ∷ second ∷ name ∷ names)) (sym same) tt
+pub third_unread : (third : Third) (files : List ℕ → Option (List ℕ)) (first second name : List ℕ) (names : List (List ℕ)) (e : NoModel) → IfSome (files first) IsShort → IfSome (files second) IsShort → (e ≡ causes.ReadFault 3) ⊎ ((e ≡ causes.TooLong 3) × IfSome (files name) IsLong) ⊎ (e ≡ causes.Memory) → GiveNothing third files (first ∷ second ∷ name ∷ names) e
+third_unread third files first second name names e short also (inl same) = subst (GiveNothing third files (first ∷ second ∷ name ∷ names)) (sym same) (inr (short, inr (also, inl (refl, tt))))
+third_unread third files first second name names e short also (inr (inl long)) = subst (GiveNothing third files (first ∷ second ∷ name ∷ names)) (sym long.0) (inr (short, inr (also, inl (refl, long.1))))
+third_unread third files first second name names e short also (inr (inr same)) = subst (GiveNothing third files (first ∷ second ∷ name ∷ names)) (sym same) tt
 
 -- files that were not all read give nothing
-pub unread_gives : (files : List ℕ → Option (List ℕ)) (names : List (List ℕ)) (e : NoModel) → IsUnread files names e → GiveNothing files names e
-unread_gives files names (causes.ReadFault file) h = h
-unread_gives files names (causes.TooLong file) h = h
-unread_gives files names (causes.Refused number place offset) h = absurd h
-unread_gives files names causes.Memory h = tt
+pub unread_gives : (third : Third) (files : List ℕ → Option (List ℕ)) (names : List (List ℕ)) (e : NoModel) → IsUnread files names e → GiveNothing third files names e
+unread_gives third files names (causes.ReadFault file) h = h
+unread_gives third files names (causes.TooLong file) h = h
+unread_gives third files names (causes.Refused number place offset) h = absurd h
+unread_gives third files names causes.Memory h = tt
 
 -- nor do they with one file more
-pub unread_of_three : (files : List ℕ → Option (List ℕ)) (first second third : List ℕ) (e : NoModel) → IsUnread files (first ∷ second ∷ []) e → GiveNothing files (first ∷ second ∷ third ∷ []) e
-unread_of_three files first second third (causes.ReadFault file) (inl h) = inl h
-unread_of_three files first second third (causes.ReadFault file) (inr (short, inl h)) = inr (short, inl h)
-unread_of_three files first second third (causes.ReadFault file) (inr (short, inr h)) = absurd h.1
-unread_of_three files first second third (causes.TooLong file) (inl h) = inl h
-unread_of_three files first second third (causes.TooLong file) (inr (short, inl h)) = inr (short, inl h)
-unread_of_three files first second third (causes.TooLong file) (inr (short, inr h)) = absurd h.1
-unread_of_three files first second third (causes.Refused number place offset) h = absurd h
-unread_of_three files first second third causes.Memory h = tt
+pub unread_of_three : (third : Third) (files : List ℕ → Option (List ℕ)) (first second last : List ℕ) (e : NoModel) → IsUnread files (first ∷ second ∷ []) e → GiveNothing third files (first ∷ second ∷ last ∷ []) e
+unread_of_three third files first second last (causes.ReadFault file) (inl h) = inl h
+unread_of_three third files first second last (causes.ReadFault file) (inr (short, inl h)) = inr (short, inl h)
+unread_of_three third files first second last (causes.ReadFault file) (inr (short, inr h)) = absurd h.1
+unread_of_three third files first second last (causes.TooLong file) (inl h) = inl h
+unread_of_three third files first second last (causes.TooLong file) (inr (short, inl h)) = inr (short, inl h)
+unread_of_three third files first second last (causes.TooLong file) (inr (short, inr h)) = absurd h.1
+unread_of_three third files first second last (causes.Refused number place offset) h = absurd h
+unread_of_three third files first second last causes.Memory h = tt
 
 -- texts that are refused give nothing
-pub refused_gives : (files : List ℕ → Option (List ℕ)) (names texts : List (List ℕ)) (e : NoModel) → AreTexts files names texts → RefusedBy (AreRefused texts) e → GiveNothing files names e
-refused_gives files names texts (causes.Refused number place offset) are h = (texts, are, h)
-refused_gives files names texts causes.Memory are h = tt
-refused_gives files names texts (causes.ReadFault file) are h = absurd h
-refused_gives files names texts (causes.TooLong file) are h = absurd h
+pub refused_gives : (third : Third) (files : List ℕ → Option (List ℕ)) (names texts : List (List ℕ)) (e : NoModel) → AreTexts files names texts → RefusedBy (AreRefused third texts) e → GiveNothing third files names e
+refused_gives third files names texts (causes.Refused number place offset) are h = (texts, are, h)
+refused_gives third files names texts causes.Memory are h = tt
+refused_gives third files names texts (causes.ReadFault file) are h = absurd h
+refused_gives third files names texts (causes.TooLong file) are h = absurd h
 
 -- an error that is passed on
 pub passed_on : {A : Type 0} (r : Result A NoModel) (e : NoModel) (P : NoModel → Type 0) → IsErrAnd r (λ x. x ≡ e) → P e → IfErr r P
@@ -157,15 +166,20 @@ read_model files names d p (Ok m) are means = (d ∷ p ∷ [], are, means)
 read_model files names d p (Err e) are means = tt
 
 -- why these texts have no model
-pub read_no_model : (files : List ℕ → Option (List ℕ)) (names : List (List ℕ)) (d p : List ℕ) (r : Result Model NoModel) → AreTexts files names (d ∷ p ∷ []) → IfErr r (RefusedBy (IsRefused d p)) → IfErr r (GiveNothing files names)
-read_no_model files names d p (Ok m) are h = tt
-read_no_model files names d p (Err e) are h = refused_gives files names (d ∷ p ∷ []) e are h
+pub read_no_model : (third : Third) (files : List ℕ → Option (List ℕ)) (names : List (List ℕ)) (d p : List ℕ) (r : Result Model NoModel) → AreTexts files names (d ∷ p ∷ []) → IfErr r (RefusedBy (IsRefused d p)) → IfErr r (GiveNothing third files names)
+read_no_model third files names d p (Ok m) are h = tt
+read_no_model third files names d p (Err e) are h = refused_gives third files names (d ∷ p ∷ []) e are h
 
 -- the steps of the texts that were read
 pub read_steps : {A : Type 0} (files : List ℕ → Option (List ℕ)) (names texts : List (List ℕ)) (model : A → Model) (steps : A → List ℕ) (r : Result A NoModel) → AreTexts files names texts → IfOk r (λ l. MeanSteps texts (model l) (steps l)) → IfOk r (λ l. OfTexts files names (λ ts. MeanSteps ts (model l) (steps l)))
 read_steps files names texts model steps (Ok l) are means = (texts, are, means)
 read_steps files names texts model steps (Err e) are means = tt
 
-pub read_no_steps : {A : Type 0} (files : List ℕ → Option (List ℕ)) (names texts : List (List ℕ)) (r : Result A NoModel) → AreTexts files names texts → IfErr r (RefusedBy (AreRefused texts)) → IfErr r (GiveNothing files names)
-read_no_steps files names texts (Ok l) are h = tt
-read_no_steps files names texts (Err e) are h = refused_gives files names texts e are h
+pub read_no_steps : {A : Type 0} (third : Third) (files : List ℕ → Option (List ℕ)) (names texts : List (List ℕ)) (r : Result A NoModel) → AreTexts files names texts → IfErr r (RefusedBy (AreRefused third texts)) → IfErr r (GiveNothing third files names)
+read_no_steps third files names texts (Ok l) are h = tt
+read_no_steps third files names texts (Err e) are h = refused_gives third files names texts e are h
+
+-- the certificate of the texts that were read
+pub read_cert : {A : Type 0} (files : List ℕ → Option (List ℕ)) (names texts : List (List ℕ)) (model : A → Model) (cert : A → Cert) (r : Result A NoModel) → AreTexts files names texts → IfOk r (λ c. MeanCert texts (model c) (cert c)) → IfOk r (λ c. OfTexts files names (λ ts. MeanCert ts (model c) (cert c)))
+read_cert files names texts model cert (Ok c) are means = (texts, are, means)
+read_cert files names texts model cert (Err e) are means = tt

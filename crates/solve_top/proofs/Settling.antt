@@ -20,9 +20,9 @@ use Rattle.run_ends.specs.Statuses.{code_of}
 use Rattle.run_ends.specs.declared.status.Status.{Status}
 use Rattle.solve_top.specs.Answers.{CanEnd, IsSettled, IsSmall, SettlesFiles, SettlesGenerated, SettlesSmall}
 use Rattle.solve_top.specs.Files.{IsShort, IsLong, IsText, AreTexts, AtFile, OfTexts}
-use Rattle.solve_top.specs.Jobs.{Asks, gen_options, names_of}
-use Rattle.solve_top.specs.Outcomes.{Outcome, NoMeaning, ReadFault, TooLong, Refused, NoMemory, Solving, Replayed, Shown, NoGenerated, Generated, ComesOf, Printed, outcome_status}
-use Rattle.solve_top.specs.Texts.{Means, MeanModel, AreRefused, IsRefused}
+use Rattle.solve_top.specs.Jobs.{Asks, gen_options, names_of, third_of}
+use Rattle.solve_top.specs.Outcomes.{Outcome, NoMeaning, ReadFault, TooLong, Refused, NoMemory, Solving, Replayed, Checked, Shown, NoGenerated, Generated, ComesOf, Printed, outcome_status}
+use Rattle.solve_top.specs.Texts.{Means, MeanModel, AreRefused, IsRefused, Steps, Third}
 use Rattle.solve_top.proofs.OneMeaning.{one_meaning, meant_or_refused}
 
 -- ---- codes
@@ -64,10 +64,10 @@ ends_well m options gap r OutOfMemory right can = memory
 some_one : {A : Type 0} (a b : A) → Some a ≡ Some b → a ≡ b
 some_one a b e = cc
 
-same_job : (words : List (List ℕ)) (a b : Job) → Asks words a → Asks words b → a ≡ b
+pub same_job : (words : List (List ℕ)) (a b : Job) → Asks words a → Asks words b → a ≡ b
 same_job words a b x y = some_one a b (sym x ∙ y)
 
-none_asked : (words : List (List ℕ)) (a : Job) → Asks words a → job_of words ≡ None → ⊥
+pub none_asked : (words : List (List ℕ)) (a : Job) → Asks words a → job_of words ≡ None → ⊥
 none_asked words a x e = let clash : Some a ≡ None = sym x ∙ e in absurd cc
 
 long_or_short : (bytes : List ℕ) → IsShort bytes → IsLong bytes → ⊥
@@ -83,8 +83,8 @@ told_as (Some t) bytes text e is = let same : t ≡ bytes = cc in is ∙ same
 
 -- ---- a search of files
 
-module _ (words : List (List ℕ)) (files : List ℕ → Option (List ℕ)) (domain problem first second : List ℕ) (options : Options) (gap : Bool) (m : Model)
-    (asks : Asks words (jobs.Solve domain problem options gap))
+module _ (words : List (List ℕ)) (files : List ℕ → Option (List ℕ)) (domain problem first second : List ℕ) (options : Options) (gap certificate : Bool) (m : Model)
+    (asks : Asks words (jobs.Solve domain problem options gap certificate))
     (told : files domain ≡ Some first) (short : IsShort first)
     (told' : files problem ≡ Some second) (short' : IsShort second)
     (means : Means first second m)
@@ -94,7 +94,7 @@ module _ (words : List (List ℕ)) (files : List ℕ → Option (List ℕ)) (dom
   not_too_long file (inr (other, inl h)) = told_short (files problem) second told' short' h.1
   not_too_long file (inr (other, inr (also, none))) = none
 
-  not_refused : (r : Refusal) (texts : List (List ℕ)) → AreTexts files (domain ∷ problem ∷ []) texts → AreRefused texts r → ⊥
+  not_refused : (r : Refusal) (texts : List (List ℕ)) → AreTexts files (domain ∷ problem ∷ []) texts → AreRefused Steps texts r → ⊥
   not_refused r [] are h = are
   not_refused r (a ∷ []) are h = are.2
   not_refused r (a ∷ b ∷ []) are h =
@@ -112,36 +112,39 @@ module _ (words : List (List ℕ)) (files : List ℕ → Option (List ℕ)) (dom
       one_meaning first second other m (subst (λ (t : List ℕ). Means first t other) also (subst (λ (t : List ℕ). Means t b other) same h)) means
 
   named : (job : Job) → Asks words job → names_of job ≡ domain ∷ problem ∷ []
-  named job also = ap names_of (same_job words job (jobs.Solve domain problem options gap) also asks)
+  named job also = ap names_of (same_job words job (jobs.Solve domain problem options gap certificate) also asks)
 
   settles_as : (outcome : Outcome) → ComesOf words files outcome → IsSettled (code_of (outcome_status outcome))
-  settles_as NoMeaning h = absurd (none_asked words (jobs.Solve domain problem options gap) asks h)
+  settles_as NoMeaning h = absurd (none_asked words (jobs.Solve domain problem options gap certificate) asks h)
   settles_as (ReadFault file) h = read_fault
   settles_as (TooLong file) h = absurd (not_too_long file (subst (λ (names : List (List ℕ)). AtFile files 1 names file (λ t. IfSome t IsLong)) (named h.0 h.1) h.2))
   settles_as (Refused r) h =
-      let of_texts : OfTexts files (domain ∷ problem ∷ []) (λ texts. AreRefused texts r) = subst (λ (names : List (List ℕ)). OfTexts files names (λ texts. AreRefused texts r)) (named h.0 h.1) h.2 in
+      let of_texts : OfTexts files (domain ∷ problem ∷ []) (λ texts. AreRefused Steps texts r) = subst (λ (job : Job). OfTexts files (names_of job) (λ texts. AreRefused (third_of job) texts r)) (same_job words h.0 (jobs.Solve domain problem options gap certificate) h.1 asks) h.2 in
       absurd (not_refused r of_texts.0 of_texts.1 of_texts.2)
   settles_as NoMemory h = memory
   settles_as (Solving other also over run) h =
-      let same : jobs.Solve h.0 h.1 also over ≡ jobs.Solve domain problem options gap = same_job words (jobs.Solve h.0 h.1 also over) (jobs.Solve domain problem options gap) h.2 asks in
+      let same : jobs.Solve h.0 h.1 also over h.2 ≡ jobs.Solve domain problem options gap certificate = same_job words (jobs.Solve h.0 h.1 also over h.2) (jobs.Solve domain problem options gap certificate) h.3 asks in
       let d : h.0 ≡ domain = cc in
       let p : h.1 ≡ problem = cc in
       let o : also ≡ options = cc in
       let of_texts : OfTexts files (domain ∷ problem ∷ []) (λ texts. MeanModel texts other) =
-      subst (λ (name : List ℕ). OfTexts files (domain ∷ name ∷ []) (λ texts. MeanModel texts other)) p (subst (λ (name : List ℕ). OfTexts files (name ∷ h.1 ∷ []) (λ texts. MeanModel texts other)) d h.3) in
+      subst (λ (name : List ℕ). OfTexts files (domain ∷ name ∷ []) (λ texts. MeanModel texts other)) p (subst (λ (name : List ℕ). OfTexts files (name ∷ h.1 ∷ []) (λ texts. MeanModel texts other)) d h.4) in
       let is = the_model other of_texts.0 of_texts.1 of_texts.2 in
-      ends_well other also over run run.ending h.4.ending (subst (λ (x : Options). CanEnd other x) (sym o) (subst (λ (x : Model). CanEnd x options) (sym is) can))
+      ends_well other also over run run.ending h.5.ending (subst (λ (x : Options). CanEnd other x) (sym o) (subst (λ (x : Model). CanEnd x options) (sym is) can))
   settles_as (Replayed other steps tells) h =
-      let same : jobs.Replay h.0 h.1 h.2 ≡ jobs.Solve domain problem options gap = same_job words (jobs.Replay h.0 h.1 h.2) (jobs.Solve domain problem options gap) h.3 asks in
+      let same : jobs.Replay h.0 h.1 h.2 ≡ jobs.Solve domain problem options gap certificate = same_job words (jobs.Replay h.0 h.1 h.2) (jobs.Solve domain problem options gap certificate) h.3 asks in
+      absurd cc
+  settles_as (Checked other cert tells) h =
+      let same : jobs.Check h.0 h.1 h.2 ≡ jobs.Solve domain problem options gap certificate = same_job words (jobs.Check h.0 h.1 h.2) (jobs.Solve domain problem options gap certificate) h.3 asks in
       absurd cc
   settles_as (Shown other) h =
-      let same : jobs.Show h.0 h.1 ≡ jobs.Solve domain problem options gap = same_job words (jobs.Show h.0 h.1) (jobs.Solve domain problem options gap) h.2 asks in
+      let same : jobs.Show h.0 h.1 ≡ jobs.Solve domain problem options gap certificate = same_job words (jobs.Show h.0 h.1) (jobs.Solve domain problem options gap certificate) h.2 asks in
       absurd cc
   settles_as (NoGenerated kind size seed refusal) h =
-      let same : jobs.Gen kind size seed h.0 ≡ jobs.Solve domain problem options gap = same_job words (jobs.Gen kind size seed h.0) (jobs.Solve domain problem options gap) h.1 asks in
+      let same : jobs.Gen kind size seed h.0 ≡ jobs.Solve domain problem options gap certificate = same_job words (jobs.Gen kind size seed h.0) (jobs.Solve domain problem options gap certificate) h.1 asks in
       absurd cc
   settles_as (Generated kind size seed other also run) h =
-      let same : jobs.Gen kind size seed h.0 ≡ jobs.Solve domain problem options gap = same_job words (jobs.Gen kind size seed h.0) (jobs.Solve domain problem options gap) h.1 asks in
+      let same : jobs.Gen kind size seed h.0 ≡ jobs.Solve domain problem options gap certificate = same_job words (jobs.Gen kind size seed h.0) (jobs.Solve domain problem options gap certificate) h.1 asks in
       absurd cc
 
 printed_code : (before after : Option (List ℕ)) (outcome : Outcome) (status : Status) → Printed before after outcome status → IsSettled (code_of (outcome_status outcome)) → IsSettled (code_of status)
@@ -150,8 +153,8 @@ printed_code before after outcome status (inr h) settled = subst (λ (s : Status
 
 pub settles_files : (words : List (List ℕ)) (files : List ℕ → Option (List ℕ)) (before after : Option (List ℕ)) (outcome : Outcome) (status : Status) → ComesOf words files outcome → Printed before after outcome status → SettlesFiles words files (code_of status)
 settles_files words files before after outcome status comes printed =
-    λ domain problem first second options gap m asks told short told' short' means can.
-    printed_code before after outcome status printed (settles_as words files domain problem first second options gap m asks told short told' short' means can outcome comes)
+    λ domain problem first second options gap certificate m asks told short told' short' means can.
+    printed_code before after outcome status printed (settles_as words files domain problem first second options gap certificate m asks told short told' short' means can outcome comes)
 
 -- ---- a search of a small model
 
@@ -168,8 +171,8 @@ can_end m options small = record {
 
 pub settles_small : (words : List (List ℕ)) (files : List ℕ → Option (List ℕ)) (before after : Option (List ℕ)) (outcome : Outcome) (status : Status) → ComesOf words files outcome → Printed before after outcome status → SettlesSmall words files (code_of status)
 settles_small words files before after outcome status comes printed =
-    λ domain problem first second options gap m asks told short told' short' means small.
-    settles_files words files before after outcome status comes printed domain problem first second options gap m asks told short told' short' means (can_end m options small)
+    λ domain problem first second options gap certificate m asks told short told' short' means small.
+    settles_files words files before after outcome status comes printed domain problem first second options gap certificate m asks told short told' short' means (can_end m options small)
 
 -- ---- a search of a generated model
 
@@ -184,22 +187,25 @@ module _ (words : List (List ℕ)) (files : List ℕ → Option (List ℕ)) (kin
   not_long file [] e h = h
   not_long file (name ∷ names) e h = absurd cc
 
-  no_texts : (r : Refusal) (names texts : List (List ℕ)) → names ≡ [] → AreTexts files names texts → AreRefused texts r → ⊥
-  no_texts r [] [] e are h = h
-  no_texts r [] (t ∷ texts) e are h = are
-  no_texts r (name ∷ names) texts e are h = absurd cc
+  no_texts : (third : Third) (r : Refusal) (names texts : List (List ℕ)) → names ≡ [] → AreTexts files names texts → AreRefused third texts r → ⊥
+  no_texts third r [] [] e are h = h
+  no_texts third r [] (t ∷ texts) e are h = are
+  no_texts third r (name ∷ names) texts e are h = absurd cc
 
   settles_generated_as : (outcome : Outcome) → ComesOf words files outcome → IsSettled (code_of (outcome_status outcome))
   settles_generated_as NoMeaning h = absurd (none_asked words (jobs.Gen kind size seed workers) asks h)
   settles_generated_as (ReadFault file) h = read_fault
   settles_generated_as (TooLong file) h = absurd (not_long file (names_of h.0) (no_files h.0 h.1) h.2)
-  settles_generated_as (Refused r) h = absurd (no_texts r (names_of h.0) h.2.0 (no_files h.0 h.1) h.2.1 h.2.2)
+  settles_generated_as (Refused r) h = absurd (no_texts (third_of h.0) r (names_of h.0) h.2.0 (no_files h.0 h.1) h.2.1 h.2.2)
   settles_generated_as NoMemory h = memory
   settles_generated_as (Solving other also over run) h =
-      let same : jobs.Solve h.0 h.1 also over ≡ jobs.Gen kind size seed workers = same_job words (jobs.Solve h.0 h.1 also over) (jobs.Gen kind size seed workers) h.2 asks in
+      let same : jobs.Solve h.0 h.1 also over h.2 ≡ jobs.Gen kind size seed workers = same_job words (jobs.Solve h.0 h.1 also over h.2) (jobs.Gen kind size seed workers) h.3 asks in
       absurd cc
   settles_generated_as (Replayed other steps tells) h =
       let same : jobs.Replay h.0 h.1 h.2 ≡ jobs.Gen kind size seed workers = same_job words (jobs.Replay h.0 h.1 h.2) (jobs.Gen kind size seed workers) h.3 asks in
+      absurd cc
+  settles_generated_as (Checked other cert tells) h =
+      let same : jobs.Check h.0 h.1 h.2 ≡ jobs.Gen kind size seed workers = same_job words (jobs.Check h.0 h.1 h.2) (jobs.Gen kind size seed workers) h.3 asks in
       absurd cc
   settles_generated_as (Shown other) h =
       let same : jobs.Show h.0 h.1 ≡ jobs.Gen kind size seed workers = same_job words (jobs.Show h.0 h.1) (jobs.Gen kind size seed workers) h.2 asks in

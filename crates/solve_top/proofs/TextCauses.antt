@@ -16,7 +16,10 @@ use Rattle.dp_base.specs.Results.{Refuses}
 use Rattle.replay_list.specs.StepLists.{steps_in, told}
 use Rattle.replay_list.specs.declared.ends.ListEnd.{ListEnd}
 use Rattle.replay_list.specs.declared.ends.ListEnd.TheVariants as lists
-use Rattle.solve_top.specs.Texts.{IsUnreadAs, Read, Means, IsRefused, IsNoList, AreRefused, list_refusal}
+use Rattle.cert_text.specs.Said.{certificate_in, told as cert_told}
+use Rattle.cert_text.specs.declared.ends.CertTextEnd.{CertTextEnd}
+use Rattle.cert_text.specs.declared.ends.CertTextEnd.TheVariants as certs
+use Rattle.solve_top.specs.Texts.{Certificate, IsNoCert, Steps, Third, cert_refusal, IsUnreadAs, Read, Means, IsRefused, IsNoList, AreRefused, list_refusal}
 use Rattle.solve_top.specs.Runs.{cause_of, unread_as, RefusedBy}
 use Rattle.solve_top.specs.declared.causes.NoModel.{NoModel}
 use Rattle.solve_top.specs.declared.causes.NoModel.TheVariants as causes
@@ -81,15 +84,29 @@ no_list_by m list (lists.BadArguments at) h = record { end = lists.BadArguments 
 no_list_by m list lists.Memory h = tt
 
 -- what is refused of a domain and a problem is refused of these and a list
-pub refused_of_three : (d p l : List ℕ) (e : NoModel) → RefusedBy (IsRefused d p) e → RefusedBy (AreRefused (d ∷ p ∷ l ∷ [])) e
-refused_of_three d p l (causes.Refused number place offset) h = inl h
-refused_of_three d p l causes.Memory h = tt
-refused_of_three d p l (causes.ReadFault file) h = absurd h
-refused_of_three d p l (causes.TooLong file) h = absurd h
+pub refused_of_three : (third : Third) (d p l : List ℕ) (e : NoModel) → RefusedBy (IsRefused d p) e → RefusedBy (AreRefused third (d ∷ p ∷ l ∷ [])) e
+refused_of_three third d p l (causes.Refused number place offset) h = inl h
+refused_of_three third d p l causes.Memory h = tt
+refused_of_three third d p l (causes.ReadFault file) h = absurd h
+refused_of_three third d p l (causes.TooLong file) h = absurd h
 
 -- and so is what is refused of the list
-pub refused_list : (d p l : List ℕ) (m : Model) (e : NoModel) → Means d p m → RefusedBy (IsNoList m l) e → RefusedBy (AreRefused (d ∷ p ∷ l ∷ [])) e
+pub refused_list : (d p l : List ℕ) (m : Model) (e : NoModel) → Means d p m → RefusedBy (IsNoList m l) e → RefusedBy (AreRefused Steps (d ∷ p ∷ l ∷ [])) e
 refused_list d p l m (causes.Refused number place offset) means h = inr (m, means, h)
 refused_list d p l m causes.Memory means h = tt
 refused_list d p l m (causes.ReadFault file) means h = absurd h
 refused_list d p l m (causes.TooLong file) means h = absurd h
+
+-- ---- certificates
+
+-- a text without a certificate is refused as it, or memory ran out
+pub no_cert_by : (m : Model) (text : List ℕ) (end : CertTextEnd) → Refuses (cert_told end) (certificate_in m text) → RefusedBy (IsNoCert m text) (cause_of (cert_refusal end))
+no_cert_by m text (certs.NotUtf8 at) h = record { end = certs.NotUtf8 at; first = h; refusal = refl }
+no_cert_by m text (certs.Bad at) h = record { end = certs.Bad at; first = h; refusal = refl }
+no_cert_by m text certs.Memory h = tt
+
+pub refused_cert : (d p l : List ℕ) (m : Model) (e : NoModel) → Means d p m → RefusedBy (IsNoCert m l) e → RefusedBy (AreRefused Certificate (d ∷ p ∷ l ∷ [])) e
+refused_cert d p l m (causes.Refused number place offset) means h = inr (m, means, h)
+refused_cert d p l m causes.Memory means h = tt
+refused_cert d p l m (causes.ReadFault file) means h = absurd h
+refused_cert d p l m (causes.TooLong file) means h = absurd h

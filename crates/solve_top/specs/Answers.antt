@@ -33,7 +33,7 @@ IsSettled code = (code ≡ 0) ⊎ ((code ≡ 10) ⊎ ((code ≡ 6) ⊎ ((code �
 -- fault and the budget is enough, the search is settled.
 abbrev pub SettlesFiles : List (List ℕ) → (List ℕ → Option (List ℕ)) → ℕ → Type 0
 SettlesFiles words files code =
-    (domain problem first second : List ℕ) (options : Options) (gap : Bool) (m : Model) → Asks words (jobs.Solve domain problem options gap)
+    (domain problem first second : List ℕ) (options : Options) (gap certificate : Bool) (m : Model) → Asks words (jobs.Solve domain problem options gap certificate)
     → files domain ≡ Some first → IsShort first → files problem ≡ Some second → IsShort second → Means first second m → CanEnd m options → IsSettled code
 
 -- So is that of a generated model.
@@ -55,5 +55,5 @@ pub record IsSmall (m : Model) (options : Options) : Type 0 where
 -- Where the words ask for a search of such a model, in two files as above, the search is settled.
 abbrev pub SettlesSmall : List (List ℕ) → (List ℕ → Option (List ℕ)) → ℕ → Type 0
 SettlesSmall words files code =
-    (domain problem first second : List ℕ) (options : Options) (gap : Bool) (m : Model) → Asks words (jobs.Solve domain problem options gap)
+    (domain problem first second : List ℕ) (options : Options) (gap certificate : Bool) (m : Model) → Asks words (jobs.Solve domain problem options gap certificate)
     → files domain ≡ Some first → IsShort first → files problem ≡ Some second → IsShort second → Means first second m → IsSmall m options → IsSettled code

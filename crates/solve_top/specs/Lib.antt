@@ -4,3 +4,4 @@ pub mod Files
 pub mod Outcomes
 pub mod Runs
 pub mod Answers
+pub mod Certified

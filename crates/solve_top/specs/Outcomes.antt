@@ -10,6 +10,9 @@ use Rattle.run_ends.specs.declared.status.Status.{Status}
 use Rattle.run_ends.specs.declared.status.Status.TheVariants as statuses
 use Rattle.dp_base.specs.Bytes.{line}
 use Rattle.solve_report.specs.Lines.{file_name, refusal_text, verdict_text, show_text}
+use Rattle.std.specs.Fmt.{signed_decimal}
+use Rattle.dp_model.specs.declared.answers.Claim.{Claim}
+use Rattle.dp_model.specs.declared.answers.Claim.TheVariants as claims
 use Rattle.dp_model.specs.declared.answers.Verdict.{Verdict}
 use Rattle.dp_model.specs.declared.answers.Verdict.TheVariants as verdicts
 use Rattle.dypdl_nodes.specs.Reads.{Refusal}
@@ -21,9 +24,15 @@ use Rattle.replay_list.specs.declared.replayed.Replayed.TheVariants as tellings
 use Rattle.model_gen.specs.Texts.{domain_text, problem_text}
 use Rattle.model_gen.specs.declared.kinds.GenKind.{GenKind}
 use Rattle.model_gen.specs.declared.kinds.GenKind.TheVariants as kinds
-use Rattle.solve_top.specs.Jobs.{Asks, AskNothing, gen_options, names_of}
+use Rattle.cert_types.specs.declared.cert.Cert.{Cert}
+use Rattle.cert_laws.specs.Checks.{checked}
+use Rattle.cert_laws.specs.declared.answers.CertReason.{CertReason}
+use Rattle.cert_laws.specs.declared.answers.CertReason.TheVariants as reasons
+use Rattle.cert_laws.specs.declared.answers.Checked.{Checked as Findings}
+use Rattle.cert_laws.specs.declared.answers.Checked.TheVariants as findings
+use Rattle.solve_top.specs.Jobs.{Asks, AskNothing, gen_options, names_of, third_of}
 use Rattle.solve_top.specs.Files.{IsReached, IsFirstLong, OfTexts}
-use Rattle.solve_top.specs.Texts.{Means, MeanModel, MeanSteps, AreRefused, IsRefused}
+use Rattle.solve_top.specs.Texts.{Means, MeanCert, MeanModel, MeanSteps, AreRefused, IsRefused}
 
 pub data Outcome : Type 0 where
   -- the words ask for nothing
@@ -40,6 +49,8 @@ pub data Outcome : Type 0 where
   Solving : (model : Model) (options : Options) (gap : Bool) (run : Record) → Outcome
   -- a list of steps of the model was replayed
   Replayed : (model : Model) (steps : List ℕ) (told : Told) → Outcome
+  -- a certificate over the model was checked
+  Checked : (model : Model) (cert : Cert) (told : Findings) → Outcome
   -- it was said what was understood of the model
   Shown : (model : Model) → Outcome
   -- a model was generated, and its texts mean none, or memory ran out before a model was loaded
@@ -75,14 +86,42 @@ replay_verdict steps (tellings.Legal cost) = verdicts.Legal cost
 replay_verdict steps (tellings.Illegal done reason) = verdicts.Illegal done reason
 replay_verdict steps (tellings.Faulted done spot kind) = verdicts.Fault (record { steps = take done steps; spot = spot; kind = kind })
 
+-- the word that names a clause that fails, or a fault in its place
+abbrev pub reason_word : CertReason → List ℕ
+reason_word reasons.Claim = codes "Claim"
+reason_word reasons.Target = codes "Target"
+reason_word reasons.Node = codes "Node"
+reason_word reasons.Cut = codes "Cut"
+reason_word reasons.Step = codes "Step"
+reason_word reasons.Fault = codes "Fault"
+
+-- the line of a claim that is certified
+abbrev pub certified_text : Claim → List ℕ
+certified_text (claims.Optimal found) = line (codes "verdict certified optimal " ++ signed_decimal found.cost)
+certified_text claims.Infeasible = line (codes "verdict certified infeasible")
+
+-- the line of a certificate that is rejected, at this line of its file
+abbrev pub rejected_text : (number : ℕ) → CertReason → List ℕ
+rejected_text number reason = line (codes "verdict rejected " ++ (decimal number ++ (codes " " ++ reason_word reason)))
+
+-- the line that tells of a certificate
+abbrev pub checked_text : Claim → Findings → List ℕ
+checked_text claim findings.Yes = certified_text claim
+checked_text claim (findings.No number reason) = rejected_text number reason
+
+abbrev pub checked_status : Findings → Status
+checked_status findings.Yes = statuses.Success
+checked_status (findings.No number reason) = statuses.Negative
+
 abbrev pub outcome_text : Outcome → List ℕ
-outcome_text NoMeaning = line (codes "usage: solve DOMAIN PROBLEM; replay DOMAIN PROBLEM LIST; show DOMAIN PROBLEM; gen KIND SIZE SEED")
+outcome_text NoMeaning = line (codes "usage: solve DOMAIN PROBLEM; replay DOMAIN PROBLEM LIST; show DOMAIN PROBLEM; gen KIND SIZE SEED; check DOMAIN PROBLEM CERT")
 outcome_text (ReadFault file) = line (codes "read fault " ++ file_name file)
 outcome_text (TooLong file) = line (codes "too long " ++ file_name file)
 outcome_text (Refused r) = refusal_text r.place r.offset r.number
 outcome_text NoMemory = line (codes "memory")
 outcome_text (Solving model options gap run) = record_text All model run
 outcome_text (Replayed model steps told) = verdict_text model (replay_verdict steps told)
+outcome_text (Checked model cert told) = checked_text cert.claim told
 outcome_text (Shown model) = show_text model
 outcome_text (NoGenerated kind size seed refusal) = gen_line kind size seed ++ no_model_text refusal
 outcome_text (Generated kind size seed model options run) = gen_line kind size seed ++ ground_line model ++ record_text VerdictAlone model run
@@ -95,6 +134,7 @@ outcome_status (Refused r) = statuses.Refused
 outcome_status NoMemory = statuses.Memory
 outcome_status (Solving model options gap run) = ending_status run.ending
 outcome_status (Replayed model steps told) = verdict_status (replay_verdict steps told)
+outcome_status (Checked model cert told) = checked_status told
 outcome_status (Shown model) = statuses.Success
 outcome_status (NoGenerated kind size seed refusal) = no_model_status refusal
 outcome_status (Generated kind size seed model options run) = ending_status run.ending
@@ -105,19 +145,22 @@ IsRefusedOf kind size seed None = Unit {0}
 IsRefusedOf kind size seed (Some r) = IsRefused (domain_text kind) (problem_text kind size seed) r
 
 -- When an outcome may come of these words, over these files. First all files are read, in order; then the domain's text is
--- looked at, the problem's text, the model that both mean, and the list.
+-- looked at, the problem's text, the model that both mean, and the list or the certificate.
 abbrev pub ComesOf : List (List ℕ) → (List ℕ → Option (List ℕ)) → Outcome → Type 0
 ComesOf words files NoMeaning = AskNothing words
 ComesOf words files (ReadFault file) = (job : Job) × Asks words job × IsReached files (names_of job) file
 ComesOf words files (TooLong file) = (job : Job) × Asks words job × IsFirstLong files (names_of job) file
-ComesOf words files (Refused r) = (job : Job) × Asks words job × OfTexts files (names_of job) (λ texts. AreRefused texts r)
+ComesOf words files (Refused r) = (job : Job) × Asks words job × OfTexts files (names_of job) (λ texts. AreRefused (third_of job) texts r)
 ComesOf words files NoMemory = Unit {0}
 ComesOf words files (Solving model options gap run) =
-    (domain : List ℕ) × (problem : List ℕ) × Asks words (jobs.Solve domain problem options gap)
+    (domain : List ℕ) × (problem : List ℕ) × (certificate : Bool) × Asks words (jobs.Solve domain problem options gap certificate)
     × OfTexts files (domain ∷ problem ∷ []) (λ texts. MeanModel texts model) × Right model options gap run × KeepsWord model options run.bound run.ending
 ComesOf words files (Replayed model steps told) =
     (domain : List ℕ) × (problem : List ℕ) × (list : List ℕ) × Asks words (jobs.Replay domain problem list)
     × OfTexts files (domain ∷ problem ∷ list ∷ []) (λ texts. MeanSteps texts model steps) × (told ≡ replayed model steps)
+ComesOf words files (Checked model cert told) =
+    (domain : List ℕ) × (problem : List ℕ) × (text : List ℕ) × Asks words (jobs.Check domain problem text)
+    × OfTexts files (domain ∷ problem ∷ text ∷ []) (λ texts. MeanCert texts model cert) × (told ≡ checked model cert)
 ComesOf words files (Shown model) =
     (domain : List ℕ) × (problem : List ℕ) × Asks words (jobs.Show domain problem) × OfTexts files (domain ∷ problem ∷ []) (λ texts. MeanModel texts model)
 ComesOf words files (NoGenerated kind size seed refusal) = (workers : ℕ) × Asks words (jobs.Gen kind size seed workers) × IsRefusedOf kind size seed refusal

@@ -3,7 +3,7 @@ use Rattle.std.specs.Prelude.{ℕ, List, Option, None, Some, ⊤}
 use Rattle.yaml_tree.specs.declared.tree.YamlEnd.{YamlEnd}
 use Rattle.dypdl_nodes.specs.Reads.{Refusal}
 use Rattle.solve_top.specs.Files.{IsReached, IsFirstLong, OfTexts}
-use Rattle.solve_top.specs.Texts.{AreRefused, tree_refusal}
+use Rattle.solve_top.specs.Texts.{AreRefused, Third, tree_refusal}
 use Rattle.solve_top.specs.Outcomes.{Outcome, ReadFault, TooLong, Refused, NoMemory}
 use Rattle.solve_top.specs.declared.causes.NoModel.{NoModel}
 use Rattle.solve_top.specs.declared.causes.NoModel.TheVariants as causes
@@ -38,8 +38,8 @@ IsUnread files names (causes.Refused number place offset) = ⊥
 IsUnread files names causes.Memory = ⊤
 
 -- why the files of these names give nothing to work on
-abbrev pub GiveNothing : (List ℕ → Option (List ℕ)) → (names : List (List ℕ)) → NoModel → Type 0
-GiveNothing files names (causes.ReadFault file) = IsReached files names file
-GiveNothing files names (causes.TooLong file) = IsFirstLong files names file
-GiveNothing files names (causes.Refused number place offset) = OfTexts files names (λ texts. AreRefused texts (record { number = number; place = place; offset = offset }))
-GiveNothing files names causes.Memory = ⊤
+abbrev pub GiveNothing : Third → (List ℕ → Option (List ℕ)) → (names : List (List ℕ)) → NoModel → Type 0
+GiveNothing third files names (causes.ReadFault file) = IsReached files names file
+GiveNothing third files names (causes.TooLong file) = IsFirstLong files names file
+GiveNothing third files names (causes.Refused number place offset) = OfTexts files names (λ texts. AreRefused third texts (record { number = number; place = place; offset = offset }))
+GiveNothing third files names causes.Memory = ⊤

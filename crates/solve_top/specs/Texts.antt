@@ -1,4 +1,4 @@
--- What the texts of a domain, a problem and a list of steps mean, or what is refused of them first.
+-- What the texts of a domain, a problem, and a list of steps or a certificate mean, or what is refused of them first.
 use Rattle.std.specs.Prelude.{◌≡◌, ℕ, ◌⊎◌, List, [], ◌∷◌, Option, None, Some, Ok, Err}
 use Rattle.dp_base.specs.declared.place.Place.{Place}
 use Rattle.dp_model.specs.declared.whole.Model.{Model}
@@ -11,6 +11,11 @@ use Rattle.yaml_tree.specs.Texts.{Spells, Refused as IsUnread}
 use Rattle.dypdl_nodes.specs.Reads.{Refusal}
 use Rattle.dypdl_rules.specs.Expressions.{Reading, IsReading}
 use Rattle.dypdl_load.specs.Meaning.{meaning, parts_of}
+use Rattle.cert_types.specs.Parts.{parts_of as said_by}
+use Rattle.cert_types.specs.declared.cert.Cert.{Cert}
+use Rattle.cert_text.specs.Said.{certificate_in}
+use Rattle.cert_text.specs.declared.ends.CertTextEnd.{CertTextEnd}
+use Rattle.cert_text.specs.declared.ends.CertTextEnd.TheVariants as certs
 use Rattle.replay_list.specs.StepLists.{steps_in}
 use Rattle.replay_list.specs.declared.ends.ListEnd.{ListEnd}
 use Rattle.replay_list.specs.declared.ends.ListEnd.TheVariants as lists
@@ -79,6 +84,29 @@ pub record IsNoList (m : Model) (list : List ℕ) (r : Refusal) : Type 0 where
   pub first : steps_in m list ≡ Err end
   pub refusal : list_refusal end ≡ Some r
 
+-- ---- the certificate, which is file 3 of another job
+
+-- what a text is refused as that has no certificate: want of memory is no refusal
+abbrev pub cert_refusal : CertTextEnd → Option Refusal
+cert_refusal (certs.NotUtf8 at) = refusal_at 10 at
+cert_refusal (certs.Bad at) = refusal_at 72 at
+cert_refusal certs.Memory = None
+
+-- the text has no certificate over the model's steps, and this is refused first
+pub record IsNoCert (m : Model) (text : List ℕ) (r : Refusal) : Type 0 where
+  pub end : CertTextEnd
+  pub first : certificate_in m text ≡ Err end
+  pub refusal : cert_refusal end ≡ Some r
+
+-- what the third text of a job is
+pub data Third : Type 0 where
+  Steps : Third
+  Certificate : Third
+
+abbrev pub IsNoThird : Third → Model → (text : List ℕ) → Refusal → Type 0
+IsNoThird Steps m text r = IsNoList m text r
+IsNoThird Certificate m text r = IsNoCert m text r
+
 -- ---- all texts of a run
 
 -- the first two texts mean this model
@@ -94,9 +122,16 @@ MeanSteps (domain ∷ problem ∷ []) m steps = ⊥
 MeanSteps (domain ∷ []) m steps = ⊥
 MeanSteps [] m steps = ⊥
 
--- what is refused first of the texts: of the first two, or else of the list
-abbrev pub AreRefused : List (List ℕ) → Refusal → Type 0
-AreRefused (domain ∷ problem ∷ list ∷ more) r = IsRefused domain problem r ⊎ ((m : Model) × Means domain problem m × IsNoList m list r)
-AreRefused (domain ∷ problem ∷ []) r = IsRefused domain problem r
-AreRefused (domain ∷ []) r = ⊥
-AreRefused [] r = ⊥
+-- the texts mean this model, and the third has this certificate
+abbrev pub MeanCert : List (List ℕ) → Model → Cert → Type 0
+MeanCert (domain ∷ problem ∷ text ∷ more) m cert = Means domain problem m × (certificate_in m text ≡ Ok (said_by cert))
+MeanCert (domain ∷ problem ∷ []) m cert = ⊥
+MeanCert (domain ∷ []) m cert = ⊥
+MeanCert [] m cert = ⊥
+
+-- what is refused first of the texts: of the first two, or else of the third
+abbrev pub AreRefused : Third → List (List ℕ) → Refusal → Type 0
+AreRefused third (domain ∷ problem ∷ text ∷ more) r = IsRefused domain problem r ⊎ ((m : Model) × Means domain problem m × IsNoThird third m text r)
+AreRefused third (domain ∷ problem ∷ []) r = IsRefused domain problem r
+AreRefused third (domain ∷ []) r = ⊥
+AreRefused third [] r = ⊥

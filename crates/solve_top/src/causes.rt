@@ -2,7 +2,7 @@
 
 use dp_base::Place;
 
-/// Why there is nothing to work on. File 1 is the domain, 2 the problem, and 3 the list of steps.
+/// Why there is nothing to work on. File 1 is the domain, 2 the problem, and 3 the list of steps or the certificate.
 #[derive(Debug, Drop)]
 pub enum NoModel {
     ReadFault(u8),

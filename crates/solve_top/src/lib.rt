@@ -2,6 +2,7 @@
 #![tactic(auto)]
 
 mod causes;
+mod checking;
 mod files;
 mod generating;
 mod laws;

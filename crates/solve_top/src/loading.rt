@@ -4,12 +4,13 @@ ghost use Rattle.std.specs.Prelude.{◌≡◌, ◌≤◌, ◌<◌, ◌^◌, ◌�
 ghost use Rattle.dp_outside.specs.Outside.{Rose};
 ghost use Rattle.solve_top.specs.Files.{OfTexts};
 ghost use Rattle.solve_top.specs.Runs.{GiveNothing, RefusedBy};
-ghost use Rattle.solve_top.specs.Texts.{AreRefused, MeanModel, MeanSteps};
+ghost use Rattle.solve_top.specs.Texts.{AreRefused, Certificate, MeanCert, MeanModel, MeanSteps, Steps};
 ghost use Rattle.solve_top.specs.declared.causes.NoModel.TheVariants as causes;
 
 use crate::causes::NoModel;
 use crate::files::{BothTexts, read_both, read_file};
-use crate::texts::{model_of, steps_of};
+use crate::texts::{cert_of, model_of, steps_of};
+use cert_types::Cert;
 use dp_base::Text;
 use dp_model::{Model, Seq};
 use dp_outside::Shelf;
@@ -30,7 +31,7 @@ pub fn load<F: Shelf>(
     problem: &Text,
 ) -> Result<Model, NoModel>
     ensures model { IfOk result (λ model. OfTexts (F.bytes_under shelf.old) (domain.now ∷ problem.now ∷ []) (λ texts. MeanModel texts model)) }
-    ensures cause { IfErr result (GiveNothing (F.bytes_under shelf.old) (domain.now ∷ problem.now ∷ [])) }
+    ensures cause { IfErr result (GiveNothing Steps (F.bytes_under shelf.old) (domain.now ∷ problem.now ∷ [])) }
     ensures fault { (file : ℕ) → IfErr result (λ e. e ≡ causes.ReadFault file → Rose (F.faults shelf.old) (F.faults shelf.new)) }
     ensures count { F.faults shelf.old ≤ F.faults shelf.new }
 {
@@ -45,7 +46,7 @@ fn listed_of(alloc: Global, texts: &BothTexts, list: &[u8]) -> Result<Listed, No
     requires list { length list.now ≤ 16777216 }
     ensures steps { IfOk result (λ l. MeanSteps (texts.now.domain.items ∷ texts.now.problem.items ∷ list.now ∷ []) l.model l.steps) }
     ensures few { IfOk result (λ l. length l.steps < 2 ^ 32) }
-    ensures cause { IfErr result (RefusedBy (AreRefused (texts.now.domain.items ∷ texts.now.problem.items ∷ list.now ∷ []))) }
+    ensures cause { IfErr result (RefusedBy (AreRefused Steps (texts.now.domain.items ∷ texts.now.problem.items ∷ list.now ∷ []))) }
 {
     let model = model_of(alloc, &texts.domain, &texts.problem)?;
     let steps = steps_of(alloc, &model, list)?;
@@ -62,11 +63,49 @@ pub fn load_listed<F: Shelf>(
 ) -> Result<Listed, NoModel>
     ensures steps { IfOk result (λ l. OfTexts (F.bytes_under shelf.old) (domain.now ∷ problem.now ∷ list.now ∷ []) (λ texts. MeanSteps texts l.model l.steps)) }
     ensures few { IfOk result (λ l. length l.steps < 2 ^ 32) }
-    ensures cause { IfErr result (GiveNothing (F.bytes_under shelf.old) (domain.now ∷ problem.now ∷ list.now ∷ [])) }
+    ensures cause { IfErr result (GiveNothing Steps (F.bytes_under shelf.old) (domain.now ∷ problem.now ∷ list.now ∷ [])) }
     ensures fault { (file : ℕ) → IfErr result (λ e. e ≡ causes.ReadFault file → Rose (F.faults shelf.old) (F.faults shelf.new)) }
     ensures count { F.faults shelf.old ≤ F.faults shelf.new }
 {
     let both = read_both(alloc, shelf, domain, problem)?;
     let list = read_file(alloc, shelf, list, 3)?;
     listed_of(alloc, &both, &list)
+}
+
+/// A model, and a certificate over it.
+#[derive(Debug, Drop)]
+pub struct Claimed {
+    pub model: Model,
+    pub cert: Cert,
+}
+
+/// The model that the texts of a domain and a problem mean, and the certificate over it that a text has.
+fn claimed_of(alloc: Global, texts: &BothTexts, text: &[u8]) -> Result<Claimed, NoModel>
+    requires domain { length texts.now.domain.items ≤ 16777216 }
+    requires problem { length texts.now.problem.items ≤ 16777216 }
+    requires text { length text.now ≤ 16777216 }
+    ensures cert { IfOk result (λ c. MeanCert (texts.now.domain.items ∷ texts.now.problem.items ∷ text.now ∷ []) c.model c.cert) }
+    ensures cause { IfErr result (RefusedBy (AreRefused Certificate (texts.now.domain.items ∷ texts.now.problem.items ∷ text.now ∷ []))) }
+{
+    let model = model_of(alloc, &texts.domain, &texts.problem)?;
+    let cert = cert_of(alloc, &model, text)?;
+    Ok(Claimed { model, cert })
+}
+
+/// Reads the domain, the problem and the certificate, and loads the model and the certificate over it.
+pub fn load_claimed<F: Shelf>(
+    alloc: Global,
+    shelf: &mut F,
+    domain: &Text,
+    problem: &Text,
+    cert: &Text,
+) -> Result<Claimed, NoModel>
+    ensures cert { IfOk result (λ c. OfTexts (F.bytes_under shelf.old) (domain.now ∷ problem.now ∷ cert.now ∷ []) (λ texts. MeanCert texts c.model c.cert)) }
+    ensures cause { IfErr result (GiveNothing Certificate (F.bytes_under shelf.old) (domain.now ∷ problem.now ∷ cert.now ∷ [])) }
+    ensures fault { (file : ℕ) → IfErr result (λ e. e ≡ causes.ReadFault file → Rose (F.faults shelf.old) (F.faults shelf.new)) }
+    ensures count { F.faults shelf.old ≤ F.faults shelf.new }
+{
+    let both = read_both(alloc, shelf, domain, problem)?;
+    let text = read_file(alloc, shelf, cert, 3)?;
+    claimed_of(alloc, &both, &text)
 }

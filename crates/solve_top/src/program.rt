@@ -1,6 +1,6 @@
 //! The top call: what the program does with its words.
 
-ghost use Rattle.std.specs.Prelude.{◌≡◌, ◌≤◌, ◌<◌, ◌^◌, ◌⊎◌, ◌++◌, ℕ, List, Option, Some, None, map, string_bytes, length};
+ghost use Rattle.std.specs.Prelude.{◌≡◌, ◌≤◌, ◌<◌, ◌^◌, ◌⊎◌, ◌++◌, Bool, ℕ, List, Option, Some, None, map, string_bytes, length};
 ghost use Rattle.dp_outside.specs.Outside.{Rose};
 ghost use Rattle.dp_base.specs.Bytes.{line};
 ghost use Rattle.command_line.specs.Jobs.{job_of};
@@ -8,11 +8,13 @@ ghost use Rattle.command_line.specs.declared.jobs.Job.TheVariants as jobs;
 ghost use Rattle.model_gen.specs.Kinds.{least_size, most_size};
 ghost use Rattle.pass_ends.specs.Passes.{AreOptions};
 ghost use Rattle.replay_list.specs.Replays.{replayed};
+ghost use Rattle.cert_laws.specs.Checks.{checked};
 ghost use Rattle.run_ends.specs.Statuses.{code_of};
 ghost use Rattle.run_ends.specs.declared.status.Status.{Status};
 ghost use Rattle.solve_report.specs.Lines.{file_name as name_of_file};
 ghost use Rattle.solve_report.specs.Puts.{Puts};
 ghost use Rattle.solve_top.specs.Answers.{SettlesFiles, SettlesGenerated, SettlesSmall};
+ghost use Rattle.solve_top.specs.Certified.{Certifies};
 ghost use Rattle.solve_top.specs.Jobs.{JobFits, gen_options};
 ghost use Rattle.solve_top.specs.Outcomes.{Outcome, NoMeaning, ComesOf, Does, Printed, SolvesGenerated, gen_line, ground_line};
 ghost use Rattle.solve_top.specs.Outcomes as outcomes;
@@ -20,9 +22,11 @@ ghost use Rattle.solve_top.specs.Runs.{outcome_of};
 ghost use Rattle.solve_top.specs.declared.causes.NoModel.TheVariants as causes;
 
 use crate::causes::NoModel;
+use crate::checking::{checked_status, put_checked};
 use crate::generating::{generate_model, kind_name};
-use crate::loading::{Listed, load, load_listed};
+use crate::loading::{Claimed, Listed, load, load_claimed, load_listed};
 use crate::replaying::verdict_on;
+use cert_check::check;
 use command_line::{Job, WordsEnd, read_words};
 use dp_base::Text;
 use dp_model::{Keep, Model, Options};
@@ -76,7 +80,7 @@ fn put_usage<S: Sink>(out: &mut S) -> Status
 {
     let written = put_line(
         out,
-        "usage: solve DOMAIN PROBLEM; replay DOMAIN PROBLEM LIST; show DOMAIN PROBLEM; gen KIND SIZE SEED",
+        "usage: solve DOMAIN PROBLEM; replay DOMAIN PROBLEM LIST; show DOMAIN PROBLEM; gen KIND SIZE SEED; check DOMAIN PROBLEM CERT",
     );
     status_after(written, Status::Usage)
 }
@@ -94,7 +98,7 @@ fn solve_files<R: Threads + Wait + Sync, F: Shelf, S: Sink, G: Gate>(
     gap: bool,
 ) -> Status
     requires { AreOptions options.now }
-    ensures printed { Does (jobs.Solve domain.now problem.now options.now gap) (F.bytes_under shelf.old) (S.taken out.old) (S.taken out.new) result }
+    ensures printed { (certificate : Bool) → Does (jobs.Solve domain.now problem.now options.now gap certificate) (F.bytes_under shelf.old) (S.taken out.old) (S.taken out.new) result }
     ensures read_fault { result ≡ Status.ReadFault → Rose (F.faults shelf.old) (F.faults shelf.new) }
     ensures write_fault { result ≡ Status.WriteFault → Rose (S.faults out.old) (S.faults out.new) }
 {
@@ -137,6 +141,41 @@ fn replay_files<F: Shelf, S: Sink>(
 {
     match load_listed(alloc, shelf, domain, problem, list) {
         Ok(listed) => put_replay(alloc, out, listed),
+        Err(cause) => put_cause(out, &cause),
+    }
+}
+
+/// Checks a certificate, prints what is told of it, and answers the status.
+fn put_check<S: Sink>(alloc: Global, out: &mut S, claimed: &Claimed) -> Status
+    ensures printed { Printed (S.taken out.old) (S.taken out.new) (outcomes.Checked claimed.now.model claimed.now.cert (checked claimed.now.model claimed.now.cert)) result
+        ⊎ Printed (S.taken out.old) (S.taken out.new) outcomes.NoMemory result }
+    ensures read_fault { result ≡ Status.ReadFault → ⊥ }
+    ensures failed { result ≡ Status.WriteFault → Rose (S.faults out.old) (S.faults out.new) }
+{
+    match check(alloc, &claimed.model, &claimed.cert) {
+        Ok(told) => {
+            let written = put_checked(out, &claimed.cert.claim, told);
+            status_after(written, checked_status(told))
+        }
+        Err(AllocError) => run_out(out),
+    }
+}
+
+/// Checks the certificate in the last of three files, over the model that the others mean.
+fn check_files<F: Shelf, S: Sink>(
+    alloc: Global,
+    shelf: &mut F,
+    out: &mut S,
+    domain: &Text,
+    problem: &Text,
+    cert: &Text,
+) -> Status
+    ensures printed { Does (jobs.Check domain.now problem.now cert.now) (F.bytes_under shelf.old) (S.taken out.old) (S.taken out.new) result }
+    ensures read_fault { result ≡ Status.ReadFault → Rose (F.faults shelf.old) (F.faults shelf.new) }
+    ensures write_fault { result ≡ Status.WriteFault → Rose (S.faults out.old) (S.faults out.new) }
+{
+    match load_claimed(alloc, shelf, domain, problem, cert) {
+        Ok(claimed) => put_check(alloc, out, &claimed),
         Err(cause) => put_cause(out, &cause),
     }
 }
@@ -276,6 +315,7 @@ fn perform_job<R: Threads + Wait + Sync, F: Shelf, S: Sink, G: Gate>(
             problem,
             options,
             gap,
+            ..
         } => solve_files(rt, alloc, shelf, out, gate, domain, problem, options, *gap),
         Job::Replay {
             domain,
@@ -283,6 +323,11 @@ fn perform_job<R: Threads + Wait + Sync, F: Shelf, S: Sink, G: Gate>(
             list,
         } => replay_files(alloc, shelf, out, domain, problem, list),
         Job::Show { domain, problem } => show_files(alloc, shelf, out, domain, problem),
+        Job::Check {
+            domain,
+            problem,
+            cert,
+        } => check_files(alloc, shelf, out, domain, problem, cert),
         Job::Gen {
             kind,
             size,
@@ -344,6 +389,7 @@ pub fn run<R: Threads + Wait + Sync, F: Shelf, S: Sink, G: Gate>(
     ensures settles { SettlesFiles (map string_bytes words.now.items) (F.bytes_under shelf.old) result }
     ensures settles_small { SettlesSmall (map string_bytes words.now.items) (F.bytes_under shelf.old) result }
     ensures settles_generated { SettlesGenerated (map string_bytes words.now.items) result }
+    ensures certifies { Certifies (map string_bytes words.now.items) (F.bytes_under shelf.old) result }
 {
     perform(rt, alloc, words, shelf, out, gate).code()
 }

@@ -1,15 +1,20 @@
-//! The model that the texts of a domain and a problem mean, and the steps of it that a list means.
+//! The model that the texts of a domain and a problem mean, the steps of it that a list means, and the certificate over it that a text
+//! has.
 
 ghost use Rattle.std.specs.Prelude.{◌≡◌, ◌≤◌, length, None, Ok, Err, IfOk, IfErr};
 ghost use Rattle.yaml_tree.specs.Texts.{Spells};
 ghost use Rattle.dypdl_rules.specs.Expressions.{Reading, IsReading};
 ghost use Rattle.dypdl_load.specs.Meaning.{meaning, parts_of};
 ghost use Rattle.replay_list.specs.StepLists.{steps_in};
-ghost use Rattle.solve_top.specs.Texts.{IsUnreadAs, Means, IsRefused, IsNoList, lines_refusal, list_refusal};
+ghost use Rattle.cert_types.specs.Parts.{parts_of as said_by};
+ghost use Rattle.cert_text.specs.Said.{certificate_in};
+ghost use Rattle.solve_top.specs.Texts.{IsUnreadAs, Means, IsRefused, IsNoCert, IsNoList, cert_refusal, lines_refusal, list_refusal};
 ghost use Rattle.solve_top.specs.Runs.{cause_of, unread_as, RefusedBy};
 ghost use Rattle.solve_top.specs.declared.causes.NoModel.TheVariants as causes;
 
 use crate::causes::NoModel;
+use cert_text::{CertTextEnd, read_certificate};
+use cert_types::Cert;
 use dp_base::Place;
 use dp_model::{Model, Seq};
 use dypdl_load::{LoadEnd, load};
@@ -36,6 +41,8 @@ const OUT_OF_PROFILE: u8 = 17;
 const UNKNOWN_STEP: u8 = 70;
 /// A line with a transition's name and other arguments than it has.
 const BAD_ARGUMENTS: u8 = 71;
+/// A line that no certificate has there, or none where one must stand.
+const BAD_CERTIFICATE: u8 = 72;
 
 fn refused(number: u8, place: Place) -> NoModel
     ensures { result ≡ causes.Refused number place None }
@@ -142,5 +149,29 @@ pub fn steps_of(alloc: Global, model: &Model, list: &[u8]) -> Result<Seq<u32>, N
     match read_list(alloc, model, list) {
         Ok(steps) => Ok(steps),
         Err(end) => Err(no_list(end)),
+    }
+}
+
+/// Why a text has no certificate.
+fn no_cert(end: CertTextEnd) -> NoModel
+    ensures { result ≡ cause_of (cert_refusal end) }
+{
+    match end {
+        CertTextEnd::NotUtf8(place) => refused(NOT_UTF8, place),
+        CertTextEnd::Bad(place) => refused(BAD_CERTIFICATE, place),
+        CertTextEnd::Memory => NoModel::Memory,
+    }
+}
+
+/// The certificate over a model that a text has.
+#[tactic(auto, using(crate::proofs::TextCauses::no_cert_by))]
+pub fn cert_of(alloc: Global, model: &Model, text: &[u8]) -> Result<Cert, NoModel>
+    requires { length text.now ≤ 16777216 }
+    ensures cert { IfOk result (λ cert. certificate_in model.now text.now ≡ Ok (said_by cert)) }
+    ensures cause { IfErr result (RefusedBy (IsNoCert model.now text.now)) }
+{
+    match read_certificate(alloc, model, text) {
+        Ok(cert) => Ok(cert),
+        Err(end) => Err(no_cert(end)),
     }
 }

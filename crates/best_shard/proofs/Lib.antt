@@ -1,0 +1,8 @@
+mod Lists
+mod Opens
+mod Starts
+mod Takes
+mod Picks
+mod Sends
+mod Visits
+mod Posts

@@ -1,0 +1,4 @@
+pub mod Opening
+pub mod Outgoing
+pub mod Stands
+pub mod Calls

@@ -1,0 +1,4 @@
+mod Mail
+mod Sitting
+mod Acting
+mod Working

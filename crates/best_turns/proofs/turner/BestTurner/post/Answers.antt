@@ -1,0 +1,31 @@
+use Rattle.std.proofs.Common.{◌∙◌, refl, rules}
+use Rattle.best_turns.proofs.Working.{posted_more}
+use Rattle.best_turns.proofs.turner.BestTurner.post.Goals as goal
+
+pub loop-init : goal.loop-init
+loop-init g c = record { asked = c.requires; goes_on = λ _ _ a. (a, refl); same = refl; me = refl }
+
+pub loop-preserved : goal.loop-preserved
+loop-preserved g c =
+    let before = c.loop.invariant in
+    let acts = c.in_ok-post_next.ensures.acts in
+    record {
+      asked = (before.asked.0, before.asked.1, (acts before.asked.0 before.asked.1 before.asked.2).0);
+      goes_on = λ p suited a.
+          let first = before.goes_on p suited a in
+          let next = acts p suited first.0 in
+          (next.0, posted_more a.shard_record first.0.shard_record next.0.shard_record first.1 next.1.posted);
+      same = c.in_ok-post_next.ensures.same ∙ before.same;
+      me = c.in_ok-post_next.ensures.me ∙ before.me;
+    }
+
+pub returns-in_err-post_next-clause-ends : goal.returns-in_err-post_next-clause-ends
+returns-in_err-post_next-clause-ends g c = λ p suited a.
+    let left = c.in_err-post_next.ensures.ends p suited (c.loop.invariant.goes_on p suited a).0 in
+    search rules
+
+pub returns-then-not-branch-clause-acts : goal.returns-then-not-branch-clause-acts
+returns-then-not-branch-clause-acts g c = λ p suited a.
+    let first = c.loop.invariant.goes_on p suited a in
+    let next = c.in_ok-post_next.ensures.acts p suited first.0 in
+    (next.0, posted_more a.shard_record first.0.shard_record next.0.shard_record first.1 next.1.posted, next.1.all c.if-not-branch.true)

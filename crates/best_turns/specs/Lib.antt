@@ -1,0 +1,3 @@
+pub mod Envelopes
+pub mod Turners
+pub mod Works

@@ -1,0 +1,6 @@
+pub mod Places
+pub mod Lists
+pub mod Backed
+pub mod Layers
+pub mod Events
+pub mod Ends

@@ -1,0 +1,17 @@
+//! What a certificate says of the nodes that a pass of one shard kept, and that the certificate of an exhausted pass shows its
+//! claim. There is no code: the public function is a law, and its contract is what is proved.
+#![tactic(auto)]
+
+ghost use Rattle.cert_rows.specs.Laws.{LawCut, LawLayers, LawRows, LawTarget};
+
+/// The certificate whose nodes are those that a pass of one shard kept.
+///
+/// `rows`: where the pass is exhausted, the certificate shows its claim. `target`: one without layers does, where the target is
+/// not allowed, or is base and no better than the claim. `cut`: one with the target's node alone, which is cut, does where the
+/// target's floor is no better than the claim. `layers`: what is written of kept nodes are the layers of a certificate.
+pub fn law_rows()
+    ensures rows { LawRows }
+    ensures target { LawTarget }
+    ensures cut { LawCut }
+    ensures layers { LawLayers }
+{}
