@@ -20,9 +20,10 @@ use Rattle.pass_ledger.specs.Passes.{IsStart, word_of}
 use Rattle.pass_ledger.specs.Records.{Starts, record_of, visit_of}
 use Rattle.pass_ledger.specs.Rows.{row}
 use Rattle.pass_ledger.specs.TwoWays.{at}
-use Rattle.pass_ledger.specs.Worked.{plain, alone, n2, first_pass, word_11, word_3, no_word}
+use Rattle.pass_ledger.specs.Worked.{plain, alone, n2, first_pass, held, word_11, word_3, no_word}
 use Rattle.pass_ledger.specs.WorkedEnough.{three_pairs}
 use Rattle.pass_ledger.specs.WorkedFloors.{pruning, dropping, f2}
+use Rattle.pass_ledger.specs.declared.records.Held.{Held}
 use Rattle.pass_ledger.specs.declared.records.ShardRecord.{ShardRecord}
 use Rattle.pass_ledger.specs.declared.records.Visit.{Visit}
 use Rattle.pass_ledger.proofs.Lists.{has_none}
@@ -112,6 +113,11 @@ lowered_11 = record { no_greater = omega arith; no_worse = omega (arith, ints); 
 wider : IsWider (alone 1)
 wider = (1, two_pairs, two_are, of_one, omega arith)
 
+-- the one shard holds this solution
+held_least : (i : ℕ) (h : Held) → i < 1 → (record_of (first_pass ∷ []) i).held ≡ Some h → word_of (alone 1) (pos 11) ≤ℤ word_of (alone 1) h.cost
+held_least zero h lt is = subst (λ (x : Held). word_of (alone 1) (pos 11) ≤ℤ word_of (alone 1) x.cost) (some_is (held (pos 11) 1 2) h is) (omega (arith, ints))
+held_least (suc i) h lt is = absurd (omega (arith, lt))
+
 closed : IsClosed (alone 1) before (whole 4 0 word_11) 2 1 None (Some best_11)
 closed =
     record {
@@ -122,6 +128,7 @@ closed =
       drops = refl;
       floor_is = inr (n2, (0, refl), refl);
       best_is = lowered_11;
+      held_is = ((0, held (pos 11) 1 2, zero-lt-suc 0, refl, refl), held_least);
       no_halt = refl;
       on_time = refl;
       wider = λ some. wider;

@@ -19,7 +19,7 @@ use Rattle.pass_ledger.proofs.Lists.{has_left}
 use Rattle.pass_ledger.proofs.Pairs.{enough}
 use Rattle.state_layout.specs.declared.node.Node.{Node}
 use Rattle.shard_core.specs.declared.shard.ShardEnd.{ShardEnd}
-use Rattle.pass_ends.specs.Ends.{HasDrawn, IsCause, IsLowered, IsClosed, IsPassEnd, IsLegal, dropped_of}
+use Rattle.pass_ends.specs.Ends.{HasDrawn, IsBestOf, IsCause, IsLowered, IsClosed, IsPassEnd, IsLegal, dropped_of}
 use Rattle.pass_ends.specs.Left.{AreDropped, AreEnds, AreLeft}
 use Rattle.pass_ends.specs.declared.answers.PassEnd.{PassEnd}
 use Rattle.pass_ends.specs.declared.answers.PassEnd.TheVariants as ends
@@ -72,9 +72,9 @@ module _ (p : Pass) (records : List ShardRecord) (before after : View) (tally : 
   visits_are : (visited a b gained visits : ℕ) → visited + a ≡ gained + b → a ≡ b → gained ≡ visits → visited ≡ visits
   visits_are visited a b gained visits sum same is = omega arith
 
-  pub closes : cause ≡ 0 → (dropped : ℕ) (floor : Option ℤ) → AreDropped p records dropped floor → (best : Option Found) → IsLowered p (best_known before) best (best_known after) → (0 < dropped → tally.share < 2 ^ 56)
+  pub closes : cause ≡ 0 → (dropped : ℕ) (floor : Option ℤ) → AreDropped p records dropped floor → (best : Option Found) → IsLowered p (best_known before) best (best_known after) → IsBestOf p records best → (0 < dropped → tally.share < 2 ^ 56)
       → IsClosed p before after tally.visited dropped floor best
-  closes none dropped floor drops best lowered small =
+  closes none dropped floor drops best lowered held small =
       let done = left.all_done none in
       let ledger = (records_law p records left.inner left.long left.together).1 (best_known before) (best_known after) left.best_is left.prunes done.0 in
       record {
@@ -85,6 +85,7 @@ module _ (p : Pass) (records : List ShardRecord) (before after : View) (tally : 
         drops = drops.count_is;
         floor_is = drops.floor_is;
         best_is = lowered;
+        held_is = held;
         no_halt = sym left.cause_is ∙ none;
         on_time = done.2;
         wider = λ some. counted.dropped (drops_one (subst (λ (n : ℕ). 0 < n) drops.count_is some));

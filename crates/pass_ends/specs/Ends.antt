@@ -1,5 +1,5 @@
 -- What the answer of a pass says, by the views of the board's whole seat before and after the pass.
-use Rattle.std.specs.Prelude.{◌≡◌, ℕ, ◌+◌, ◌-◌, ◌^◌, ◌≤◌, ◌<◌, ◌⊎◌, List, [], ◌++◌, length, zero, suc, Option, Some, IfSome, ℤ, pos, ◌≤ℤ◌}
+use Rattle.std.specs.Prelude.{◌≡◌, ℕ, ◌+◌, ◌-◌, ◌^◌, ◌≤◌, ◌<◌, ◌⊎◌, List, [], ◌++◌, length, zero, suc, Option, Some, None, IfSome, ℤ, pos, ◌≤ℤ◌}
 use Rattle.dp_model.specs.declared.answers.Keep.{Keep}
 use Rattle.board_words.specs.Steps.{best_known}
 use Rattle.board_words.specs.declared.seat.View.{View}
@@ -15,6 +15,7 @@ use Rattle.pass_ledger.specs.Counts.{visits_of, IsWider}
 use Rattle.pass_ledger.specs.Ledgers.{Ledger, Closed}
 use Rattle.pass_ledger.specs.Passes.{Pass, word_of}
 use Rattle.pass_ledger.specs.Records.{record_of}
+use Rattle.pass_ledger.specs.declared.records.Held.{Held}
 use Rattle.pass_ledger.specs.declared.records.ShardRecord.{ShardRecord}
 use Rattle.shard_core.specs.Stands.{all_dropped}
 use Rattle.state_layout.specs.declared.node.Node.{Node}
@@ -42,6 +43,14 @@ pub record IsLowered (p : Pass) (before : ℕ) (best : Option Found) (after : �
   pub no_worse : IfSome best (λ f. pos after ≤ℤ word_of p f.cost)
   pub is_one : (after ≡ before) ⊎ ((f : Found) × (best ≡ Some f) × (pos after ≡ word_of p f.cost))
 
+-- What the shards held by their records: of a best solution, one of them holds one of this cost, and none holds a better one; else
+-- none holds any.
+abbrev pub IsBestOf : Pass → List ShardRecord → Option Found → Type 0
+IsBestOf p records None = (i : ℕ) → i < p.shards → (record_of records i).held ≡ None
+IsBestOf p records (Some f) =
+    ((i : ℕ) × (h : Held) × (i < p.shards) × ((record_of records i).held ≡ Some h) × (h.cost ≡ f.cost))
+    × ((i : ℕ) (h : Held) → i < p.shards → (record_of records i).held ≡ Some h → word_of p f.cost ≤ℤ word_of p h.cost)
+
 -- ---- of a pass that was closed
 
 -- the dropped nodes of the first so many shards
@@ -59,6 +68,7 @@ pub record IsClosed (p : Pass) (before after : View) (visited dropped : ℕ) (fl
   pub drops : dropped ≡ length (dropped_of records p.shards)
   pub floor_is : IsLeastFloor p.model.minimize p.model.join (dropped_of records p.shards) floor
   pub best_is : IsLowered p (best_known before) best (best_known after)
+  pub held_is : IsBestOf p records best
   pub no_halt : after.raised ≡ 0
   pub on_time : after.drawn - after.limit ≡ before.drawn - after.limit
   pub wider : 0 < dropped → IsWider p

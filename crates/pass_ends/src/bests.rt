@@ -8,7 +8,7 @@ ghost use Rattle.board_words.specs.Steps.{best_known};
 ghost use Rattle.board_words.specs.declared.seat.View.{View};
 ghost use Rattle.pass_ledger.specs.Passes.{Pass};
 ghost use Rattle.pass_ledger.specs.declared.records.ShardRecord.{ShardRecord};
-ghost use Rattle.pass_ends.specs.Ends.{IsLegal, IsLowered};
+ghost use Rattle.pass_ends.specs.Ends.{IsBestOf, IsLegal, IsLowered};
 ghost use Rattle.pass_ends.specs.Left.{AreLeft, AreWide, IsBestHeld};
 ghost use Rattle.pass_ends.specs.Bests.{better_held};
 
@@ -68,6 +68,7 @@ pub(crate) fn found_in<L: CostLaw>(
     requires { (p : Pass) × (records : List ShardRecord) × (before : View) × (after : View) × IsLawOf p.model L.minimize L.operator × AreLeft p records before after tally.now cause }
     ensures legal { (p : Pass) (records : List ShardRecord) (before after : View) → IsLawOf p.model L.minimize L.operator → AreLeft p records before after tally.now cause → IfOk result (IsLegal p.model) }
     ensures best { (p : Pass) (records : List ShardRecord) (before after : View) → IsLawOf p.model L.minimize L.operator → AreLeft p records before after tally.now cause → IfOk result (λ best. IsLowered p (best_known before) best (best_known after)) }
+    ensures held { (p : Pass) (records : List ShardRecord) (before after : View) → IsLawOf p.model L.minimize L.operator → AreLeft p records before after tally.now cause → IfOk result (IsBestOf p records) }
 {
     let _ = cause;
     match best_held::<L>(&tally.ends) {

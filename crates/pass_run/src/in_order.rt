@@ -7,20 +7,18 @@ ghost use Rattle.cost_laws.specs.Orders.{IsLawOf};
 ghost use Rattle.dp_steps.specs.States.{Inner};
 ghost use Rattle.pass_ends.specs.Ends.{IsPassEnd};
 ghost use Rattle.pass_ends.specs.Passes.{AreOptions, pass_of};
+ghost use Rattle.pass_run.specs.Passes.{MayPass};
 
 use crate::by_law::by_law;
-use crate::crew::{Crew, make_crew};
-use crate::ending::{gather, tell, visits_so_far};
-use crate::rounds::turn_all;
-use crate::seats::split_seats;
-use crate::signals::Signals;
+use crate::stages::{Begun, begin_pass, end_pass};
 use board_words::{Board, BoardSeat};
 use cost_laws::CostLaw;
 use dom_store::{Covers, Dominating, Exact};
 use dp_base::Seq;
 use dp_model::{Model as DpModel, Options};
 use dp_outside::Gate;
-use pass_ends::{PassEnd, out_of_memory};
+use pass_ends::PassEnd;
+use shard_threads::{Floor, turn_in_order};
 use std::alloc::Global;
 use std::sync::Wait;
 
@@ -39,42 +37,39 @@ fn run_shards_in_order<L: CostLaw, K: Covers, R: Wait, G: Gate>(
     requires law { IsLawOf model.now L.minimize L.operator }
     requires covering { IsLawOf model.now K.minimize K.operator }
     requires prune { K.prune ≡ options.now.prune }
-    requires inner { Inner model.now model.now.target }
-    requires share { 1 ≤ share }
-    requires options { AreOptions options.now }
-    requires seat { IsSeatOf board.now seat.old }
-    requires whole { IsWhole seat.old.view }
-    requires no_halt { seat.old.view.raised ≡ 0 }
-    requires drawn { seat.old.view.drawn ≤ 2 ^ 41 }
-    requires limit { board.now.limit ≡ options.now.budget }
+    requires may { MayPass model.now options.now share board.now seat.old }
     ensures seat { IsSeatOf board.now seat.new }
     ensures whole { IsWhole seat.new.view }
     ensures answer { (some : 1 ≤ options.now.workers) → IsPassEnd (pass_of model.now options.now share some) seat.old.view seat.new.view result }
 {
-    let before = visits_so_far(board, seat, options);
-    let Ok(crew) = make_crew::<L, K>(alloc, model, options, share) else {
-        return out_of_memory(0, 0);
-    };
-    let Ok(mut seats) = split_seats(alloc, board, seat, options.workers()) else {
-        return out_of_memory(0, 0);
-    };
-    let Crew {
-        mut turners,
-        boxes,
-        room,
-    } = crew;
-    turn_all(
-        rt,
-        board,
-        &boxes,
-        gate,
-        &Signals::new(),
-        &mut turners,
-        &mut seats,
-        order.list().as_slice(),
-    );
-    let left = gather(rt, board, seat, seats, boxes, room, turners);
-    tell::<L>(alloc, options, share, board, seat, left, before)
+    match begin_pass::<L, K>(alloc, model, options, share, board, seat) {
+        Ok(begun) => {
+            let Begun {
+                before,
+                shards,
+                boxes,
+                room,
+            } = begun;
+            let shards = turn_in_order(
+                rt,
+                &Floor {
+                    board,
+                    boxes: &boxes,
+                    gate,
+                },
+                shards,
+                order.list().as_slice(),
+            );
+            let ended = Begun {
+                before,
+                shards,
+                boxes,
+                room,
+            };
+            end_pass(rt, alloc, options, share, board, seat, ended)
+        }
+        Err(end) => end,
+    }
 }
 
 /// A pass under a law of costs: nodes cover others by dominance where pruning is on.
@@ -90,14 +85,7 @@ fn run_by_in_order<L: CostLaw, R: Wait, G: Gate>(
     order: &Seq<u32>,
 ) -> PassEnd
     requires law { IsLawOf model.now L.minimize L.operator }
-    requires inner { Inner model.now model.now.target }
-    requires share { 1 ≤ share }
-    requires options { AreOptions options.now }
-    requires seat { IsSeatOf board.now seat.old }
-    requires whole { IsWhole seat.old.view }
-    requires no_halt { seat.old.view.raised ≡ 0 }
-    requires drawn { seat.old.view.drawn ≤ 2 ^ 41 }
-    requires limit { board.now.limit ≡ options.now.budget }
+    requires may { MayPass model.now options.now share board.now seat.old }
     ensures seat { IsSeatOf board.now seat.new }
     ensures whole { IsWhole seat.new.view }
     ensures answer { (some : 1 ≤ options.now.workers) → IsPassEnd (pass_of model.now options.now share some) seat.old.view seat.new.view result }

@@ -3,6 +3,7 @@
 #![tactic(auto)]
 
 mod envelope;
+mod player;
 mod turner;
 
 pub use envelope::Envelope;

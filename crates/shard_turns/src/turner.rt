@@ -14,7 +14,6 @@ use crate::envelope::Envelope;
 use board_words::{Board, BoardSeat, HaltCause};
 use cost_laws::CostLaw;
 use dom_store::Covers;
-use dp_outside::Gate;
 use shard_core::{Shard, Visited};
 use shard_mail::{Mailbox, Poster, Taker};
 use std::sync::Wait;
@@ -46,15 +45,14 @@ pub struct Turner<'m, L: CostLaw, K: Covers> {
 }
 
 impl<'m, L: CostLaw, K: Covers> Turner<'m, L, K> {
-    /// One turn: after the gate, the shard looks for a halt, takes a letter, closes its layer if it can, visits or prunes a node
+    /// One turn: the shard looks for a halt, takes a letter, closes its layer if it can, visits or prunes a node
     /// if one waits, and posts what is ready. So a turn with work does some, or the shard has ended, and has let go of what it
     /// does not hand back. It waits for nobody but within the mailboxes' queues.
-    pub fn turn<R: Wait, G: Gate>(
+    pub fn take_turn<R: Wait>(
         &mut self,
         rt: &R,
         board: &Board,
         boxes: &Vec<Mailbox<Envelope>>,
-        gate: &G,
         seat: &mut BoardSeat,
     )
         requires acts { (p : Pass) × Suited p L.minimize L.operator K.prune K.minimize K.operator × Acts p board.now boxes.now.items self.old seat.old }
@@ -65,7 +63,6 @@ impl<'m, L: CostLaw, K: Covers> Turner<'m, L, K> {
             → self.new.ended ≡ None → (b : Acts p board.now boxes.now.items self.new seat.new) × HasWorked p self.old.shard.me a.shard_record b.shard_record }
         ensures me { self.new.shard.me ≡ self.old.shard.me }
     {
-        gate.turn(self.shard.me, self.turns);
         self.turns = self.turns.saturating_add(1);
         if let Err(end) = self.act(rt, board, boxes, seat) {
             self.ended = Some(end);

@@ -11,5 +11,5 @@ returns g c p records before after law left drops =
     let small : 0 < dropped.count → tally.share < 2 ^ 56 = λ some. elim c.else-dropped-gt0.branch [ else-dropped-gt0-via-then-dropped-gt0+else-tally-ge-MOST_SHARE w ↦ omega arith | else-dropped-gt0-via-else-dropped-gt0 w ↦ omega arith ] in (
       drew p records before after tally c.args.cause left,
       c.in_ok-found_in.ensures.legal p records before after law left,
-      closes p records before after tally c.args.cause left c.requires.no_halt dropped.count dropped.least_floor drops best (c.in_ok-found_in.ensures.best p records before after law left) small,
+      closes p records before after tally c.args.cause left c.requires.no_halt dropped.count dropped.least_floor drops best (c.in_ok-found_in.ensures.best p records before after law left) (c.in_ok-found_in.ensures.held p records before after law left) small,
     )

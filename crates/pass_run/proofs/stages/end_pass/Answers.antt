@@ -1,0 +1,36 @@
+use Rattle.std.proofs.Common.{sym, ap, subst, ◌∙◌}
+use Rattle.board_words.specs.Seats.{SeatFacts}
+use Rattle.pass_ends.specs.Ends.{IsPassEnd}
+use Rattle.pass_run.specs.Crews.{seats_of}
+use Rattle.pass_run.proofs.Running.{is_over}
+use Rattle.pass_run.proofs.Telling.{whole}
+use Rattle.pass_run.proofs.stages.end_pass.Goals as goal
+
+pub gather-left-requires-clause-seat : goal.gather-left-requires-clause-seat
+gather-left-requires-clause-seat g c = c.requires.begun.4.on_board
+
+pub gather-left-requires-clause-keep : goal.gather-left-requires-clause-keep
+gather-left-requires-clause-keep g c = let r = c.requires.begun in (r.0, r.4.keep, r.4.room_for)
+
+pub tell-requires-clause-over : goal.tell-requires-clause-over
+tell-requires-clause-over g c =
+    let r = c.requires.begun in
+    let b = c.args.begun in
+    let left = c.gather-left in
+    let over = is_over r.0 c.args.board.now c.args.options.now.budget b.before r.1 c.args.seat.now b.shards.items b.boxes b.room r.4 left.new.seat.view left.result.ends.items left.result.logs.items left.ensures.view (left.ensures.left r.0 r.4.keep) in
+    (r.0, r.1, seats_of b.shards.items, r.2, r.3, over)
+
+pub returns-clause-whole : goal.returns-clause-whole
+returns-clause-whole g c =
+    let r = c.requires.begun in
+    let b = c.args.begun in
+    let left = c.gather-left in
+    let over = is_over r.0 c.args.board.now c.args.options.now.budget b.before r.1 c.args.seat.now b.shards.items b.boxes b.room r.4 left.new.seat.view left.result.ends.items left.result.logs.items left.ensures.view (left.ensures.left r.0 r.4.keep) in
+    ap (λ (s : SeatFacts). s.view.part) c.tell.ensures.same ∙ whole r.0 c.args.options.now.budget b.before r.1 left.new.seat.view (seats_of b.shards.items) left.result.ends.items left.result.logs.items over
+
+pub returns-clause-answer : goal.returns-clause-answer
+returns-clause-answer g c = λ p was law share begun.
+    let b = c.args.begun in
+    let left = c.gather-left in
+    let over = is_over p c.args.board.now c.args.options.now.budget b.before was c.args.seat.now b.shards.items b.boxes b.room begun left.new.seat.view left.result.ends.items left.result.logs.items left.ensures.view (left.ensures.left p begun.keep) in
+    subst (λ (s : SeatFacts). IsPassEnd p was s.view c.tell.result) (sym c.tell.ensures.same) (c.tell.ensures.answer p was (seats_of b.shards.items) law share over)

@@ -1,0 +1,5 @@
+pub mod Places
+pub mod Staying
+pub mod Parting
+pub mod Seating
+pub mod Joined

@@ -1,0 +1,3 @@
+pub mod Players
+pub mod Away
+pub mod Seats
