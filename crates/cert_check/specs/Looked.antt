@@ -1,7 +1,8 @@
 -- What a looker is of, and what nodes stand for.
-use Rattle.std.specs.Prelude.{Bool, true, false, ℤ, int_le, ◌≡◌, ℕ, List, [], length, map, get_or, slice_get, Option, Some, None, Result, Ok, Err}
+use Rattle.std.specs.Prelude.{◌++◌, ◌∷◌, if◌then◌else◌, Bool, true, false, ℤ, int_le, ◌≡◌, ℕ, List, [], length, map, get_or, slice_get, Option, Some, None, Result, Ok, Err}
 use Rattle.std.specs.List.{flat_map, range_with_len}
 use Rattle.dp_base.specs.Results.{◌>>=◌}
+use Rattle.dp_model.specs.declared.parts.PlainState.{PlainState}
 use Rattle.dp_model.specs.declared.whole.Model.{Model}
 use Rattle.state_layout.specs.Conditions.{IsNodeOf}
 use Rattle.state_layout.specs.declared.node.Node.{Node}
@@ -12,7 +13,7 @@ use Rattle.dp_model.specs.declared.answers.Keep.TheVariants.{Layer, All}
 use Rattle.cert_types.specs.declared.cert.Cert.{Cert}
 use Rattle.cert_types.specs.declared.nodes.CertStep.{CertStep}
 use Rattle.cert_laws.specs.Shown.{layer_of}
-use Rattle.cert_laws.specs.Checks.{if_stands, node_at, start, stepped}
+use Rattle.cert_laws.specs.Checks.{if_stands, is_covered, node_at, start, stepped}
 use Rattle.cert_laws.specs.declared.answers.CertReason.{CertReason}
 use Rattle.cert_laws.specs.declared.answers.CertReason.TheVariants as reasons
 use Rattle.cert_check.specs.declared.standings.Standing.{Standing}
@@ -60,3 +61,12 @@ kept_before All nodes = nodes
 abbrev pub is_no_better : (minimize : Bool) → (cost n : ℤ) → Bool
 is_no_better true cost n = int_le cost n
 is_no_better false cost n = int_le n cost
+
+-- Nodes, one after another, behind others: each that one of those before it covers is left out.
+abbrev pub with_new : Model → (prune : Bool) → List PastNode → List PastNode → List PastNode
+with_new m prune past [] = past
+with_new m prune past (n ∷ ns) = with_new m prune (if is_covered m prune past n.state n.cost then past else past ++ n ∷ []) ns
+
+-- these cover the same states, at the same costs so far, as those
+abbrev pub CoverAlike : Model → (prune : Bool) → List PastNode → List PastNode → Type 0
+CoverAlike m prune past nodes = (s : PlainState) (cost : Option ℤ) → is_covered m prune past s cost ≡ is_covered m prune nodes s cost

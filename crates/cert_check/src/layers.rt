@@ -1,13 +1,13 @@
 //! The layers of a certificate, one after another.
 
-ghost use Rattle.std.specs.Prelude.{◌≡◌, ◌+◌, ◌<◌, ◌++◌, ◌^◌, [], IfOk, OnOk, length};
+ghost use Rattle.std.specs.Prelude.{◌≡◌, ◌+◌, ◌<◌, ◌^◌, [], IfOk, OnOk, length};
 ghost use Rattle.eval_room.specs.Needs.{ServesModel};
 ghost use Rattle.cost_laws.specs.Orders.{IsLawOf};
 ghost use Rattle.state_layout.specs.Conditions.{IsLayoutOf};
 ghost use Rattle.cert_types.specs.Lines.{line_of_layer, lines_of_list};
 ghost use Rattle.cert_laws.specs.Shown.{layer_of};
 ghost use Rattle.cert_laws.specs.Checks.{covering, layer_told, layers_told};
-ghost use Rattle.cert_check.specs.Looked.{AllFit, AreFound, kept_before, pasts};
+ghost use Rattle.cert_check.specs.Looked.{AllFit, AreFound, CoverAlike, kept_before, pasts, with_new};
 
 use crate::clauses::node_fails;
 use crate::looker::Looker;
@@ -48,9 +48,10 @@ fn keep_next<K: Covers>(
     looker: &Looker<'_>,
     next: &[Standing],
 ) -> Result<(), AllocError>
+    requires law { IsLawOf looker.now K.minimize K.operator }
     requires layout { IsLayoutOf looker.now past.old.layout }
     requires fits { AllFit looker.now next.now }
-    ensures nodes { OnOk result (past.new.nodes ≡ kept_before keep past.old.nodes ++ pasts next.now) }
+    ensures nodes { OnOk result (past.new.nodes ≡ with_new looker.now K.prune (kept_before keep past.old.nodes) (pasts next.now)) }
     ensures layout { IsLayoutOf looker.now past.new.layout }
 {
     if keep == Keep::Layer {
@@ -79,7 +80,7 @@ fn layer_told<L: CostLaw, K: Covers>(
     requires line { line ≡ line_of_layer cert.now.first cert.now.claim cert.now.layers l }
     requires found { AreFound looker.now cert.now l standings.now }
     requires fits { AllFit looker.now standings.now }
-    requires past { past.now.nodes ≡ covering looker.now cert.now cert.now.keep (l + 1) }
+    requires past { CoverAlike looker.now K.prune past.now.nodes (covering looker.now cert.now cert.now.keep (l + 1)) }
     ensures { IfOk result (λ told. told ≡ layer_told looker.now cert.now l 0 (layer_of cert.now.layers l)) }
 {
     for (place, n) in nodes_of(cert, l).iter().enumerate() {

@@ -1,14 +1,15 @@
 //! Where the lists of a certificate's nodes lead.
 
-ghost use Rattle.std.specs.Prelude.{◌≡◌, ◌<◌, ◌++◌, Some, IfOk, IsTrue, OnOk, length, map};
+ghost use Rattle.std.specs.Prelude.{◌≡◌, ◌<◌, ◌∷◌, [], Some, IfOk, IsTrue, OnOk, length, map};
 ghost use Rattle.std.specs.List.{list_all};
 ghost use Rattle.eval_room.specs.Needs.{ServesModel};
 ghost use Rattle.dp_model.specs.StepTexts.{ground_of};
 ghost use Rattle.cost_laws.specs.Orders.{IsLawOf};
 ghost use Rattle.state_layout.specs.Conditions.{IsLayoutOf, IsNodeOf};
 ghost use Rattle.cert_types.specs.Parents.{has_parent};
-ghost use Rattle.cert_laws.specs.Checks.{entered, led, start, stepped};
-ghost use Rattle.cert_check.specs.Looked.{AllFit, StandingFits, found, pasts, reached_by, stood};
+ghost use Rattle.cert_laws.specs.Checks.{entered, if_stands, led, start, stepped};
+ghost use Rattle.dom_store.specs.Past.{past_node};
+ghost use Rattle.cert_check.specs.Looked.{AllFit, StandingFits, found, pasts, reached_by, stood, with_new};
 
 use crate::looker::Looker;
 use cert_laws::CertReason;
@@ -175,21 +176,58 @@ pub(crate) fn layer_stood<L: CostLaw>(
     Ok(all)
 }
 
-/// Keeps the nodes that stand, for what they cover.
+/// Keeps a node that stands, for what it covers, unless one that is kept covers it.
+#[tactic(auto, using(crate::proofs::Tests::past_covers))]
+fn remember_one<K: Covers>(
+    past: &mut PastStore<K>,
+    looker: &Looker<'_>,
+    node: &Node,
+) -> Result<(), AllocError>
+    requires law { IsLawOf looker.now K.minimize K.operator }
+    requires layout { IsLayoutOf looker.now past.old.layout }
+    requires node { IsNodeOf looker.now node.now }
+    ensures nodes { OnOk result (past.new.nodes ≡ with_new looker.now K.prune past.old.nodes (past_node node.now ∷ [])) }
+    ensures layout { past.new.layout ≡ past.old.layout }
+{
+    if past.covered(looker.layout(), node) {
+        return Ok(());
+    }
+    past.add(looker.layout(), node)
+}
+
+/// The same of where the list of a node leads.
+fn remember_standing<K: Covers>(
+    past: &mut PastStore<K>,
+    looker: &Looker<'_>,
+    standing: &Standing,
+) -> Result<(), AllocError>
+    requires law { IsLawOf looker.now K.minimize K.operator }
+    requires layout { IsLayoutOf looker.now past.old.layout }
+    requires fits { StandingFits looker.now standing.now }
+    ensures nodes { OnOk result (past.new.nodes ≡ with_new looker.now K.prune past.old.nodes (if_stands (found standing.now))) }
+    ensures layout { past.new.layout ≡ past.old.layout }
+{
+    match standing {
+        Standing::Stands(node) => remember_one(past, looker, node),
+        Standing::Fails(_) => Ok(()),
+    }
+}
+
+/// Keeps the nodes that stand, for what they cover. Those that others cover are left out, so that a certificate with many nodes of
+/// one state takes no longer than others.
 pub(crate) fn remember<K: Covers>(
     past: &mut PastStore<K>,
     looker: &Looker<'_>,
     standings: &[Standing],
 ) -> Result<(), AllocError>
+    requires law { IsLawOf looker.now K.minimize K.operator }
     requires layout { IsLayoutOf looker.now past.old.layout }
     requires fits { AllFit looker.now standings.now }
-    ensures nodes { OnOk result (past.new.nodes ≡ past.old.nodes ++ pasts standings.now) }
+    ensures nodes { OnOk result (past.new.nodes ≡ with_new looker.now K.prune past.old.nodes (pasts standings.now)) }
     ensures layout { past.new.layout ≡ past.old.layout }
 {
     for standing in standings {
-        if let Standing::Stands(node) = standing {
-            past.add(looker.layout(), node)?;
-        }
+        remember_standing(past, looker, standing)?;
     }
     Ok(())
 }

@@ -25,7 +25,7 @@ const MOST_SHARE: u64 = 72_057_594_037_927_936;
 ///
 /// `visited` is how many of the numbers that it drew are below the budget, `dropped` how many nodes its shards dropped, and `best`
 /// the best solution that they hold, of the first shard among those that hold one as good. `least_floor` is the best floor of the
-/// dropped nodes: `None` where none was dropped, or where one has no floor.
+/// dropped nodes: `None` where none was dropped, or where one has no floor. Of a halted pass `dropped` is only told: no clause ties it.
 #[derive(Debug, Drop)]
 pub enum PassEnd {
     /// Each shard closed all its layers.

@@ -81,8 +81,8 @@ impl<T: Signed> Mailbox<T> {
         self.queue.push_as::<Post, R>(rt, &mut poster.pass, letter)
     }
 
-    /// Takes the letter at the front, which is the next one of its sender, in one step. `None` comes only where the mailbox
-    /// was empty at a step of this call.
+    /// Takes the letter at the front, which is the next one of its sender, in one step. `None` takes nothing, and nothing is then
+    /// left of the posters that have ended. That the mailbox was empty at a step of this call is tested, and no clause says it.
     #[inline(always)]
     pub fn take<R: Wait>(&self, rt: &R, taker: &mut Taker<T>) -> Option<T>
         requires { IsTakerOf self.now taker.old }

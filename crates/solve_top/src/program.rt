@@ -383,7 +383,7 @@ fn perform<R: Threads + Wait + Sync, F: Shelf, S: Sink, G: Gate>(
 /// Runs the program: reads the words of the command line, without the program's own name, and does what they ask for. Prints to
 /// the sink and answers the status, as a number that `Status` has a name for.
 ///
-/// A search calls the gate at each turn of a shard, and waits for nobody but within its mailboxes.
+/// A search calls the gate at each turn of a shard. A turn waits for nobody but within its mailboxes, and a run waits for its threads.
 pub fn run<R: Threads + Wait + Sync, F: Shelf, S: Sink, G: Gate>(
     rt: &R,
     alloc: Global,

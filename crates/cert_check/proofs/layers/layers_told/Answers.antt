@@ -8,7 +8,8 @@ use Rattle.cert_laws.specs.Shown.{layer_of}
 use Rattle.cert_laws.specs.Checks.{covering, layers_told, then_told}
 use Rattle.cert_laws.specs.declared.answers.Checked.{Checked}
 use Rattle.cert_check.specs.declared.standings.Standing.{Standing}
-use Rattle.cert_check.specs.Looked.{AreFound, kept_before, pasts, stood}
+use Rattle.cert_check.specs.Looked.{AreFound, kept_before, pasts, stood, with_new}
+use Rattle.cert_check.proofs.Alike.{alike_by, alike_kept, alike_new, alike_to}
 use Rattle.cert_check.proofs.Rows.{covering_first, covering_next, first_line, layers_step, next_line, parents_next, pasts_standing, stood_first, stood_next}
 use Rattle.cert_check.proofs.layers.layers_told.Goals as goal
 
@@ -23,11 +24,13 @@ loop-l-init g c =
       refl,
       are,
       c.in_ok-here.ensures.fits,
-      c.in_ok-remember.ensures.nodes
-          ∙ ap (λ (ns : List PastNode). ns ++ pasts c.deref.result.now) c.in_ok-past.ensures.nodes
-          ∙ ap (λ (xs : List Standing). [] ++ pasts xs) c.deref.ensures.value
+      alike_by m g.K.Covers.prune cert.prune _ (covering m cert cert.keep 0) c.requires.prune
+          (alike_to m g.K.Covers.prune _ (with_new m g.K.Covers.prune [] (pasts c.deref.result.now)) ([] ++ pasts c.deref.result.now) (covering m cert cert.keep 0)
+          (c.in_ok-remember.ensures.nodes ∙ ap (λ (ns : List PastNode). with_new m g.K.Covers.prune ns (pasts c.deref.result.now)) c.in_ok-past.ensures.nodes)
+          (ap (λ (xs : List Standing). [] ++ pasts xs) c.deref.ensures.value
           ∙ ap (λ (ns : List PastNode). [] ++ ns) (pasts_standing m cert 0 c.in_ok-here.here.items are)
-          ∙ covering_first m cert cert.keep,
+          ∙ covering_first m cert cert.keep)
+          (alike_new m g.K.Covers.prune [] [] (pasts c.deref.result.now) (λ s cost. refl))),
       c.remember.ensures.layout ∙ c.in_ok-past.ensures.layout ∙ c.layout.ensures,
       ap (λ (n : ℕ). cert.first + 4 + n) c.lines_of_list.ensures ∙ (first_line cert).0,
       subst (λ (n : ℕ). ServesModel m n) (sym c.layer_stood.auto.stack) c.requires.room,
@@ -50,11 +53,15 @@ layer_told-requires-clause-past g c =
     ∙ ap (λ (ns : List CertNode). map (λ (n : CertNode). stood m c.deref-in-loop-l.result.now n.made) ns) c.nodes_of-in-loop-l.ensures
     ∙ ap (λ (xs : List Standing). map (λ (n : CertNode). stood m xs n.made) (layer_of cert.layers (l + 1))) c.deref-in-loop-l.ensures.value
     ∙ stood_next m cert l (l + 1) c.loop-l.here.items (next_is l) c.loop-l.invariant.1 in
+    alike_to m g.K.Covers.prune _ (with_new m g.K.Covers.prune (kept_before cert.keep c.loop-l.past.nodes) (pasts c.deref-in-loop-l-2.result.now))
+    (kept_before cert.keep (covering m cert cert.keep l) ++ pasts c.deref-in-loop-l-2.result.now) (covering m cert cert.keep (l + 1))
     c.in_ok-keep_next.ensures.nodes
-    ∙ ap (λ (ns : List PastNode). kept_before cert.keep ns ++ pasts c.deref-in-loop-l-2.result.now) c.loop-l.invariant.3
-    ∙ ap (λ (xs : List Standing). kept_before cert.keep (covering m cert cert.keep l) ++ pasts xs) c.deref-in-loop-l-2.ensures.value
+    (ap (λ (xs : List Standing). kept_before cert.keep (covering m cert cert.keep l) ++ pasts xs) c.deref-in-loop-l-2.ensures.value
     ∙ ap (λ (ns : List PastNode). kept_before cert.keep (covering m cert cert.keep l) ++ ns) (pasts_standing m cert (l + 1) c.in_ok-next.next.items are)
-    ∙ covering_next m cert cert.keep l (l + 1) (next_is l)
+    ∙ covering_next m cert cert.keep l (l + 1) (next_is l))
+    (alike_new m g.K.Covers.prune (kept_before cert.keep c.loop-l.past.nodes) (kept_before cert.keep (covering m cert cert.keep l)) (pasts c.deref-in-loop-l-2.result.now)
+    (alike_kept m g.K.Covers.prune cert.keep c.loop-l.past.nodes (covering m cert cert.keep l)
+    (alike_by m cert.prune g.K.Covers.prune c.loop-l.past.nodes (covering m cert cert.keep l) (sym c.requires.prune) c.loop-l.invariant.3)))
 
 pub overflow_add-line-in-loop-l-2 : goal.overflow_add-line-in-loop-l-2
 overflow_add-line-in-loop-l-2 g c =
@@ -79,11 +86,16 @@ loop-l-preserved g c =
           ∙ sym (layers_step m cert l cert.layers lt) ∙ c.loop-l.invariant.0,
       are,
       c.in_ok-next.ensures.fits,
-      c.in_ok-keep_next.ensures.nodes
-          ∙ ap (λ (ns : List PastNode). kept_before cert.keep ns ++ pasts c.deref-in-loop-l-2.result.now) c.loop-l.invariant.3
-          ∙ ap (λ (xs : List Standing). kept_before cert.keep (covering m cert cert.keep l) ++ pasts xs) c.deref-in-loop-l-2.ensures.value
+      alike_by m g.K.Covers.prune cert.prune _ (covering m cert cert.keep (l + 1)) c.requires.prune
+          (alike_to m g.K.Covers.prune _ (with_new m g.K.Covers.prune (kept_before cert.keep c.loop-l.past.nodes) (pasts c.deref-in-loop-l-2.result.now))
+          (kept_before cert.keep (covering m cert cert.keep l) ++ pasts c.deref-in-loop-l-2.result.now) (covering m cert cert.keep (l + 1))
+          c.in_ok-keep_next.ensures.nodes
+          (ap (λ (xs : List Standing). kept_before cert.keep (covering m cert cert.keep l) ++ pasts xs) c.deref-in-loop-l-2.ensures.value
           ∙ ap (λ (ns : List PastNode). kept_before cert.keep (covering m cert cert.keep l) ++ ns) (pasts_standing m cert (l + 1) c.in_ok-next.next.items are)
-          ∙ covering_next m cert cert.keep l (l + 1) (next_is l),
+          ∙ covering_next m cert cert.keep l (l + 1) (next_is l))
+          (alike_new m g.K.Covers.prune (kept_before cert.keep c.loop-l.past.nodes) (kept_before cert.keep (covering m cert cert.keep l)) (pasts c.deref-in-loop-l-2.result.now)
+          (alike_kept m g.K.Covers.prune cert.keep c.loop-l.past.nodes (covering m cert cert.keep l)
+          (alike_by m cert.prune g.K.Covers.prune c.loop-l.past.nodes (covering m cert cert.keep l) (sym c.requires.prune) c.loop-l.invariant.3)))),
       c.keep_next.ensures.layout,
       ap (λ (ns : List CertNode). c.loop-l.line + (1 + length ns)) c.nodes_of-in-loop-l-2.ensures ∙ (next_line cert l c.loop-l.line lt c.loop-l.invariant.5).0,
       subst (λ (n : ℕ). ServesModel m n) (sym (c.layer_told.auto.stack ∙ c.layer_stood-in-loop-l.auto.stack)) c.loop-l.invariant.6,
