@@ -55,7 +55,7 @@ num_need-returns-in_ok-z-in-If t c =
 pub cond_need-returns-then-is_over : goal.cond_need-returns-then-is_over
 cond_need-returns-then-is_over t c =
     let p : conds.out-Cond c.args.e.now ≡ conds.Cond-F.All c.in-All.over c.get-in-All.result.now = search (rules, conds.the_lemmas) in
-    all_serves c.args.model.now c.args.given c.args.e.now c.in-All.over c.get-in-All.result.now _ _ _ p (sym c.is_over.ensures ∙ c.if-is_over.true) c.in_ok-more-in-All.ensures c.in_ok-need-in-All.ensures c.sum-then-is_over.ensures.some
+    all_serves c.args.model.now c.args.given c.args.e.now c.in-All.over c.get-in-All.result.now _ _ _ p (sym c.is_over.ensures ∙ c.if-is_over.true) c.in_ok-more-in-All.ensures.some c.in_ok-need-in-All.ensures c.sum-then-is_over.ensures.some
 
 pub set_need-returns-then-same_object : goal.set_need-returns-then-same_object
 set_need-returns-then-same_object t c =
