@@ -39,7 +39,7 @@ use Rattle.dypdl_data.specs.Variables.{variable_names}
 use Rattle.dypdl_rules.specs.Declarations.{Declared, taken_names, names_with}
 use Rattle.dypdl_rules.specs.Expressions.{Reading, typed_by}
 use Rattle.dypdl_rules.specs.Parameters.{parameter_keys, members_over, over_named, over_of, param_names, param_of, param_step, params_of, overs}
-use Rattle.dypdl_rules.specs.Conditions.{conditions_of}
+use Rattle.dypdl_rules.specs.Conditions.{condition_of, condition_step, conditions_in, conditions_of}
 use Rattle.dypdl_rules.specs.Effects.{effect_on, sets_variable, effect_step, effects_of}
 use Rattle.dypdl_rules.specs.BaseCases.{constraints_of, base_cases_of, bounds_of}
 use Rattle.dypdl_rules.specs.Moves.{transition_keys, weighing, weighing_of, direction_of, Body, body_of, move_of, move_step, moves_of}
@@ -57,7 +57,7 @@ use Rattle.content_laws.proofs.Meanings.{settings_steps}
 use Rattle.content_laws.proofs.Outcomes.{ok_same, there_is}
 use Rattle.content_laws.proofs.Targeting.{entries_are, name_at}
 use Rattle.content_guards.specs.Variables.{word_under, Names}
-use Rattle.content_guards.specs.Transitions.{IsOneOf, IsForced, StandFor, NamesVariable, RangesOver, IsParam, IsValue, IsEffect, entries_in, IsCost, IsWeighed, IsTransition, JoinsBy, LawTransitions, LawTransitionsOf}
+use Rattle.content_guards.specs.Transitions.{IsOneOf, IsForced, StandFor, NamesVariable, RangesOver, IsParam, IsCondition, IsValue, IsEffect, entries_in, IsCost, IsWeighed, IsTransition, JoinsBy, LawTransitions, LawTransitionsOf}
 use Rattle.content_guards.proofs.Variables.{some_refused, keyed_are, text_is, passed, name_is, word_is, equal_words}
 
 -- ---- lists that are read item by item
@@ -156,7 +156,7 @@ module _ (d : Declared) where
       subst (IsParam d item) {x = it} (ok_same it p over.2)
       (record {
         name = word_is item entries.0 (codes "name") name_tree.0 name.0 same (some_refused 40 (tree_place item) (value_in (codes "name") entries.0) name_tree.0 name_tree.1) (name_is (taken_names d ++ param_names done) name_tree.0 name.0 name.1);
-        ranges = subst (λ (w : Option (List ℕ)). RangesOver d w over.0) (sym under) ranges;
+        ranges = subst (λ (w : Option (List ℕ)). RangesOver d w over.0) {x = Some word.0} (sym under) ranges;
       })
 
   params_push : Pushes (IsParam d) (param_step d)
@@ -168,12 +168,27 @@ module _ (d : Declared) where
   params_are tree params e =
       let items = bound (items_or_none 4 tree) (λ items. each (param_step d) [] items) params e in
       let all = all_stand (IsParam d) (param_step d) params_push items.0 [] params items.2 in
-      subst (λ (ys : List Tree). StandFor (IsParam d) ys params) (items_are 4 tree items.0 items.1)
-      (subst (StandFor (IsParam d) items.0) (sym all.1) all.2)
-
--- ---- effects
+      subst (λ (ys : List Tree). StandFor (IsParam d) ys params) {x = items.0} (items_are 4 tree items.0 items.1)
+      (subst (StandFor (IsParam d) items.0) {x = all.0} (sym all.1) all.2)
 
 module _ (read : Reading) (d : Declared) (params : List Param) where
+  -- ---- preconditions
+
+  conditions_push : Pushes (IsCondition read d params) (condition_step read d params)
+  conditions_push done item next e =
+      let c = bound (condition_of read d params item) (λ c. Ok (done ++ c ∷ [])) next e in
+      (c.0, sym (ok_same (done ++ c.0 ∷ []) next c.2), c.1)
+
+  conditions_are : (tree : Option Tree) (all : List Cond) → conditions_of read d params 256 tree ≡ Ok all → StandFor (IsCondition read d params) (items_in tree) all
+  unfolding conditions_of
+  conditions_are tree all e =
+      let items = bound (items_or_none 256 tree) (conditions_in read d params) all e in
+      let stand = all_stand (IsCondition read d params) (condition_step read d params) conditions_push items.0 [] all items.2 in
+      subst (λ (ys : List Tree). StandFor (IsCondition read d params) ys all) {x = items.0} (items_are 256 tree items.0 items.1)
+      (subst (StandFor (IsCondition read d params) items.0) {x = stand.0} (sym stand.1) stand.2)
+
+  -- ---- effects
+
   abbrev Means : Pair → Effect → Type 0
   Means = IsEffect read (names_with d params)
 
@@ -229,7 +244,7 @@ module _ (read : Reading) (d : Declared) (params : List Param) where
   effects_are tree all e =
       let entries = bound (entries_or_none tree) (λ entries. each (effect_step read d params) [] entries) all e in
       let stand = all_stand Means (effect_step read d params) effects_push entries.0 [] all entries.2 in
-      subst (λ (ys : List Pair). StandFor Means ys all) (entries_of_are tree entries.0 entries.1) (subst (StandFor Means entries.0) (sym stand.1) stand.2)
+      subst (λ (ys : List Pair). StandFor Means ys all) {x = entries.0} (entries_of_are tree entries.0 entries.1) (subst (StandFor Means entries.0) {x = stand.0} (sym stand.1) stand.2)
 
   -- ---- costs
 
@@ -241,8 +256,8 @@ module _ (read : Reading) (d : Declared) (params : List Param) where
   weight_is (Some tree) w e join joins =
       let form = bound (typed_by read (cost_typing (names_with d params)) tree) (λ form. Ok (weighing (tree_place tree) form)) w e in
       let same = ok_same (weighing (tree_place tree) form.0) w form.2 in
-      subst (λ (w : Weighing). IsCost read (names_with d params) join tree w.weight) same
-      (by form.0 form.1 (subst (λ (j : Option Joining). JoinsBy j join) (sym (ap (λ (w : Weighing). w.joining) same)) joins))
+      subst (λ (w : Weighing). IsCost read (names_with d params) join tree w.weight) {x = weighing (tree_place tree) form.0} same
+      (by form.0 form.1 (subst (λ (j : Option Joining). JoinsBy j join) {x = w.joining} (sym (ap (λ (w : Weighing). w.joining) same)) joins))
     where
       by : (form : CostForm) → typed_by read (cost_typing (names_with d params)) tree ≡ Ok form → JoinsBy (weighing (tree_place tree) form).joining join → IsCost read (names_with d params) join tree (weighing (tree_place tree) form).weight
       by Bare typed is = typed
@@ -282,7 +297,7 @@ forced_is item entries same None under out e = subst (IsForced item) (ok_same fa
 forced_is item entries same (Some tree) under out e =
     let text = bound (text_of tree) (λ text. or_refuse 50 (tree_place tree) (truth_written text)) out e in
     let written = written_is text.0 out (some_refused 50 (tree_place tree) (truth_written text.0) out text.2) in
-    forced_by item out (subst (λ (w : Option (List ℕ)). Written w out) (sym (word_is item entries (codes "forced") tree text.0 same under (text_is tree text.0 text.1))) written)
+    forced_by item out (subst (λ (w : Option (List ℕ)). Written w out) {x = Some text.0} (sym (word_is item entries (codes "forced") tree text.0 same under (text_is tree text.0 text.1))) written)
 
 -- ---- transitions
 
@@ -291,6 +306,7 @@ record BodyIs (read : Reading) (d : Declared) (join : JoinOp) (name : List ℕ) 
   named : t.name ≡ name
   ranges : t.params ≡ overs params
   forced : truth_or_false (value_in (codes "forced") entries) ≡ Ok t.forced
+  preconditions : StandFor (IsCondition read d params) (items_in (value_in (codes "preconditions") entries)) t.preconditions
   effects : StandFor (IsEffect read (names_with d params)) (entries_in (value_in (codes "effects") entries)) t.effects
   weight : IsWeighed read (names_with d params) join (value_in (codes "cost") entries) t.weight
 
@@ -333,8 +349,9 @@ module _ (read : Reading) (d : Declared) (join : JoinOp) (item : Tree) where
           named = refl;
           ranges = refl;
           forced = forced.1;
+          preconditions = conditions_are read d params (value_in (codes "preconditions") entries) preconditions.0 preconditions.1;
           effects = effects_are read d params (value_in (codes "effects") entries) set.0 set.1;
-          weight = weight_is read d params (value_in (codes "cost") entries) w.0 w.1 join (subst (λ (j : Option Joining). JoinsBy j join) (sym (ap (λ (b : Body). b.joining) same)) joins);
+          weight = weight_is read d params (value_in (codes "cost") entries) w.0 w.1 join (subst (λ (j : Option Joining). JoinsBy j join) {x = b.joining} (sym (ap (λ (b : Body). b.joining) same)) joins);
         })
 
   abbrev on_body : Body → Reads Move
@@ -361,6 +378,7 @@ module _ (read : Reading) (d : Declared) (join : JoinOp) (item : Tree) where
         params = params;
         are_params = subst (λ (es : List Pair). StandFor (IsParam d) (items_in (value_in (codes "parameters") es)) params) same are_params;
         ranges = b.ranges;
+        preconditions = subst (λ (es : List Pair). StandFor (IsCondition read d params) (items_in (value_in (codes "preconditions") es)) t.preconditions) same b.preconditions;
         effects = subst (λ (es : List Pair). StandFor (IsEffect read (names_with d params)) (entries_in (value_in (codes "effects") es)) t.effects) same b.effects;
         weight = subst (λ (es : List Pair). IsWeighed read (names_with d params) join (value_in (codes "cost") es) t.weight) same b.weight;
       })
@@ -381,7 +399,7 @@ module _ (read : Reading) (d : Declared) (join : JoinOp) (item : Tree) where
       let made : it ≡ move = ok_same it move body.2 in
       subst (λ (m : Move). IsTransition read d join item m.transition) {x = it} made
       (whole name.0 params.0 entries.0 body.0.transition same named (params_are d (value_in (codes "parameters") entries.0) params.0 params.1)
-      (body_is name.0 params.0 entries.0 body.0 body.1 (subst (λ (j : Option Joining). JoinsBy j join) (sym (ap (λ (m : Move). m.joining) made)) joins)))
+      (body_is name.0 params.0 entries.0 body.0 body.1 (subst (λ (j : Option Joining). JoinsBy j join) {x = move.joining} (sym (ap (λ (m : Move). m.joining) made)) joins)))
 
 pub transitions_law : LawTransitions
 transitions_law read d item move e join joins = move_is read d join item move e joins
@@ -495,9 +513,9 @@ moves_are read d domain problem moves e =
     let second = bound (items_or_none (65536 - length first.0) problem) (λ second. each (move_step read d) done.0 second) moves done.2 in
     let whole = each_both (move_step read d) first.0 second.0 [] done.0 moves done.1 second.2 in
     let all = all_stand (IsRead read d) (move_step read d) push (first.0 ++ second.0) [] moves whole in
-    subst (λ (ys : List Tree). StandFor (IsRead read d) ys moves)
+    subst (λ (ys : List Tree). StandFor (IsRead read d) ys moves) {x = first.0 ++ second.0}
     (ap (λ (xs : List Tree). xs ++ second.0) (items_are 65536 domain first.0 first.1) ∙ ap (λ (ys : List Tree). items_in domain ++ ys) (items_are (65536 - length first.0) problem second.0 second.1))
-    (subst (StandFor (IsRead read d) (first.0 ++ second.0)) (sym all.1) all.2)
+    (subst (StandFor (IsRead read d) (first.0 ++ second.0)) {x = all.0} (sym all.1) all.2)
   where
     push : Pushes (IsRead read d) (move_step read d)
     push done item next h =

@@ -9,6 +9,7 @@ use Rattle.dp_model.specs.declared.parts.Transition.{Transition}
 use Rattle.dp_model.specs.declared.parts.Variable.{Variable}
 use Rattle.dp_model.specs.declared.parts.VarKind.{VarKind}
 use Rattle.dp_model.specs.declared.parts.VarKind.TheVariants as kinds
+use Rattle.dp_model.specs.declared.trees.Cond.{Cond}
 use Rattle.dp_model.specs.declared.trees.Num.{Num}
 use Rattle.dp_model.specs.declared.trees.Over.{Over}
 use Rattle.dp_model.specs.declared.trees.Over.TheVariants.{Object, Members}
@@ -24,6 +25,7 @@ use Rattle.dypdl_type.specs.Typing.{typing, members_of, cost_typing}
 use Rattle.dypdl_type.specs.declared.cost.CostForm.TheVariants.{Bare, Joined}
 use Rattle.dypdl_rules.specs.Declarations.{Declared, names_with}
 use Rattle.dypdl_rules.specs.Expressions.{Reading, typed_by}
+use Rattle.dypdl_rules.specs.Conditions.{condition_of}
 use Rattle.dypdl_rules.specs.Moves.{move_of}
 use Rattle.dypdl_rules.specs.declared.transitions.Joining.{Joining}
 use Rattle.dypdl_rules.specs.declared.transitions.Move.{Move}
@@ -61,6 +63,12 @@ pub record IsParam (d : Declared) (item : Tree) (p : Param) : Type 0 where
   pub name : word_under item (codes "name") ≡ Some p.name
   pub ranges : RangesOver d (word_under item (codes "object")) p.over
 
+-- ---- preconditions
+
+-- the condition that the tree stands for where these parameters are in force
+abbrev pub IsCondition : Reading → Declared → List Param → Tree → Cond → Type 0
+IsCondition read d params tree c = condition_of read d params tree ≡ Ok c
+
 -- ---- effects
 
 -- what the tree stands for in the place of a number or of a set, by the kind of the variable that is set
@@ -96,14 +104,15 @@ IsWeighed read names join (Some tree) weight = IsCost read names join tree weigh
 
 -- ---- transitions
 
--- The transition is what the item says: its name, whether it is forced, its parameters, its effects and its weight. Expressions in
--- it may name the parameters.
+-- The transition is what the item says: its name, whether it is forced, its parameters, its preconditions, its effects and its weight.
+-- Expressions in it may name the parameters.
 pub record IsTransition (read : Reading) (d : Declared) (join : JoinOp) (item : Tree) (t : Transition) : Type 0 where
   pub name : word_under item (codes "name") ≡ Some t.name
   pub forced : IsForced item t.forced
   pub params : List Param
   pub are_params : StandFor (IsParam d) (items_in (value_in (codes "parameters") (map_entries item))) params
   pub ranges : t.params ≡ map (λ (p : Param). p.over) params
+  pub preconditions : StandFor (IsCondition read d params) (items_in (value_in (codes "preconditions") (map_entries item))) t.preconditions
   pub effects : StandFor (IsEffect read (names_with d params)) (entries_in (value_in (codes "effects") (map_entries item))) t.effects
   pub weight : IsWeighed read (names_with d params) join (value_in (codes "cost") (map_entries item)) t.weight
 

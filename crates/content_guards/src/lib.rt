@@ -14,8 +14,8 @@ pub fn variables_are_given()
     ensures preferences { LawPreferences }
 {}
 
-/// Each transition has the name that its item has, and its parameters, effects and weight are what the item's stand for, in order; it
-/// is forced exactly where the item says so. The transitions of the domain come before those of the problem. A cost is `cost` alone, or `cost`
+/// Each transition has the name that its item has, and its parameters, preconditions, effects and weight are what the item's stand for,
+/// in order; it is forced exactly where the item says so. The transitions of the domain come before those of the problem. A cost is `cost` alone, or `cost`
 /// and a number, on either side, joined by `+`, `max` or `min`.
 pub fn transitions_are_given()
     ensures alone { LawTransitions }
