@@ -59,14 +59,20 @@ def of_many(it, number):
     return values, takes, room
 
 
+def free_of(values, row):
+    """From each item on, the values of those that take nothing of a thing; empty where there are none."""
+    free = [sum(value for value, take in zip(values[at:], row[at:]) if not take) for at in range(len(values))]
+    return free if any(free) else []
+
+
 def multi_knapsack(it, name, number=None):
     values, takes, room = of_many(it, number or 1)
     items = range(len(values))
     scarce = ""
     for k, row in enumerate(takes):
         rate = [max((-(-1000 * values[i] // row[i]) for i in items[at:] if row[i]), default=0) for at in items]
-        free = [sum(values[i] for i in items[at:] if not row[i]) for at in items]
-        scarce += f"  takes_{k}: {listed(row)}\n  rate_{k}: {listed(rate)}\n  free_{k}: {listed(free) if any(free) else '{ }'}\n"
+        free = free_of(values, row)
+        scarce += f"  takes_{k}: {listed(row)}\n  rate_{k}: {listed(rate)}\n" + (f"  free_{k}: {listed(free)}\n" if free else "")
     return f"""domain: multi_knapsack
 problem: {name}
 object_numbers: {{ item: {len(values)} }}
@@ -81,36 +87,39 @@ table_values:
 def multi_knapsack_domain(it, number=None):
     """The domain for so many constraints: each has a variable for what is left of it."""
     it.at = 0
-    every = range(len(of_many(it, number or 1)[1]))
+    values, takes, _ = of_many(it, number or 1)
+    free = [k for k, row in enumerate(takes) if free_of(values, row)]
 
-    def each(text):
-        return "".join(text.replace("#", str(k)) for k in every)
+    def each(line, of=range(len(takes))):
+        return "".join(f"{line}\n".replace("#", str(k)) for k in of)
 
+    bounds = "".join(f"  - {f'(+ (free_{k} at) ' if k in free else ''}(/ (* room_{k} (rate_{k} at)) 1000){')' if k in free else ''}\n" for k in range(len(takes)))
+    frees = "  # the values of the items from this one on that take nothing of it\n" + each("  - { name: free_#, type: integer, args: [ item ] }", free) if free else ""
     return f"""# Projects are chosen, each of which takes of several things that are scarce. The greatest sum of values is wanted.
 domain: multi_knapsack
 reduce: max
 objects: [ item ]
 state_variables:
   - {{ name: at, type: element, object: item }}
-{each("  - { name: room_#, type: integer, preference: greater }" + chr(10))}tables:
+{each("  - { name: room_#, type: integer, preference: greater }")}tables:
   - {{ name: items, type: integer }}
   - {{ name: value, type: integer, args: [ item ] }}
   # the values from an item on
   - {{ name: rest, type: integer, args: [ item ] }}
-  # of each thing: what an item takes of it; what an item from this one on brings at most for a unit, in thousandths, rounded up; and the
-  # values of those that take nothing
-{each("  - { name: takes_#, type: integer, args: [ item ] }" + chr(10) + "  - { name: rate_#, type: integer, args: [ item ] }" + chr(10) + "  - { name: free_#, type: integer, args: [ item ] }" + chr(10))}transitions:
+  # what an item takes of each thing
+{each("  - { name: takes_#, type: integer, args: [ item ] }")}  # what an item from this one on brings at most for a unit of it, in thousandths, rounded up
+{each("  - { name: rate_#, type: integer, args: [ item ] }")}{frees}transitions:
   - name: take
     parameters: [ {{ name: i, object: item }} ]
     preconditions:
       - (= at i)
-{each("      - (<= (takes_# i) room_#)" + chr(10))}    effects:
+{each("      - (<= (takes_# i) room_#)")}    effects:
       at: (+ at 1)
-{each("      room_#: (- room_# (takes_# i))" + chr(10))}    cost: (+ cost (value i))
+{each("      room_#: (- room_# (takes_# i))")}    cost: (+ cost (value i))
   - name: leave
     effects: {{ at: (+ at 1) }}
 base_cases:
   - [ (= at items) ]
 dual_bounds:
   - (rest at)
-{each("  - (+ (free_# at) (/ (* room_# (rate_# at)) 1000))" + chr(10))}"""
+{bounds}"""
