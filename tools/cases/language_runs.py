@@ -137,7 +137,8 @@ def cases():
     """Cases as runs.py writes them."""
     for name, (domain, problem), (text, status), (says, is_so) in all_cases():
         assert says == is_so, f"{PAGE}: {name}: {says}, and not {is_so}"
-        yield f"language: {name}", [("domain", domain), ("problem", problem)], [(["solve", "d", "p"], text, status)]
+        title = name.replace("\\", "")  # a backslash would escape what follows it
+        yield f"language: {title}", [("domain", domain), ("problem", problem)], [(["solve", "d", "p"], text, status)]
 
 
 def main():

@@ -71,7 +71,7 @@ def fitted(points, width, height, radius):
 def pushed_apart(points, least):
     """The points, those that are nearer than that moved away from each other."""
     at = [list(p) for p in points]
-    for _ in range(200):
+    for _ in range(200 if len(at) <= 100 else 20):
         moved = False
         for i, a in enumerate(at):
             for j, b in enumerate(at[:i]):
@@ -89,7 +89,8 @@ def pushed_apart(points, least):
 
 def route_svg(points, tours, labels, title):
     """Tours are lists of places; each has a colour."""
-    wide, radius, margin = 480, 13, 34
+    radius, margin = 13, 34
+    wide = max(480, 2 * margin + 73 * math.sqrt(len(points)))
     at, high = fitted(points, wide - 2 * margin, wide - 2 * margin, radius)
     at = [(x + margin, y + TOP + margin - 14) for x, y in at]
     parts = [text(16, 24, title, 'font-weight="bold"')]
