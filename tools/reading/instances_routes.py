@@ -121,3 +121,65 @@ table_values:
   homing: {into[0]}
   way: {squared(way)}
 """
+
+
+def tsplib(it):
+    """The keys of a TSPLIB file, the ways between its places, and the numbers of its other sections."""
+    keys, sections, rows = {}, {}, None
+    for row in it.rows:
+        words = " ".join(row).replace(":", " : ").split()
+        if words[0] == "EOF":
+            break
+        if words[0].endswith("_SECTION"):
+            rows = sections.setdefault(words[0], [])
+        elif len(words) > 2 and words[1] == ":":
+            keys[words[0]] = words[2]
+        elif rows is not None and all(NUMBER.match(word) for word in row):
+            rows.append(row)
+        else:
+            wrong(f"`{' '.join(row)}` is neither a key with its value, a section, nor numbers")
+    kind = keys.get("EDGE_WEIGHT_TYPE")
+    if kind in ("EUC_2D", "CEIL_2D") and sections.get("NODE_COORD_SECTION"):
+        points = [(float(row[1]), float(row[2])) for row in sections["NODE_COORD_SECTION"] if len(row) == 3]
+        rounded = math.ceil if kind == "CEIL_2D" else lambda length: math.floor(length + 0.5)
+        return keys, [[rounded(it.scale * math.hypot(a - c, b - d)) for c, d in points] for a, b in points], sections
+    if kind == "EXPLICIT" and keys.get("EDGE_WEIGHT_FORMAT") == "FULL_MATRIX":
+        numbers, count = [it.whole(word) for row in sections.get("EDGE_WEIGHT_SECTION", []) for word in row], it.whole_number(keys.get("DIMENSION", "x"))
+        if count < 2 or len(numbers) != count * count:
+            wrong("the matrix has not as many numbers as DIMENSION asks for")
+        return keys, [[0 if i == j else numbers[i * count + j] for j in range(count)] for i in range(count)], sections
+    return wrong("its ways are no EUC_2D, CEIL_2D or a FULL_MATRIX")
+
+
+def round_tour(it, name):
+    _, way, _ = tsplib(it)
+    out = [min((n for k, n in enumerate(row) if k != j), default=0) for j, row in enumerate(way)]
+    return f"""domain: round_tour
+problem: {name}
+object_numbers: {{ town: {len(way)} }}
+target: {{ visited: [ 0 ], at: 0 }}
+table_values:
+  all: {members(range(len(way)))}
+  road: {squared(way)}
+  least_in: {listed(least_into(way))}
+  least_out: {listed(out)}
+"""
+
+
+def deliveries(it, name):
+    """A CVRP: the depot is the first place, and there are as many tours as are wanted."""
+    keys, way, sections = tsplib(it)
+    demand = [it.whole_number(row[1]) for row in sections.get("DEMAND_SECTION", []) if len(row) == 2]
+    if "CAPACITY" not in keys or len(demand) != len(way) or demand[0] != 0:
+        wrong("it has no CAPACITY, no demand for each place, or the first place is no depot")
+    hold = it.whole_number(keys["CAPACITY"])
+    return f"""domain: deliveries
+problem: {name}
+object_numbers: {{ place: {len(way)} }}
+target: {{ left: {members(range(1, len(way)))}, at: 0, stock: {hold} }}
+table_values:
+  hold: {hold}
+  demand: {listed(demand)}
+  entry: {listed(least_into(way))}
+  way: {squared(way)}
+"""
