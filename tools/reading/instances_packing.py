@@ -118,6 +118,7 @@ state_variables:
 {each("      room_#: (- room_# (takes_# i))")}    cost: (+ cost (value i))
   - name: leave
     effects: {{ at: (+ at 1) }}
+    cost: cost
 base_cases:
   - [ (= at items) ]
 dual_bounds:
