@@ -1,0 +1,11 @@
+mod Places
+mod Hands
+mod Mailing
+mod Fresh
+mod Playing
+mod Resting
+mod Leaving
+mod Ended
+mod Telling
+mod Running
+mod Crosses

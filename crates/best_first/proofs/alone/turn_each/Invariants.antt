@@ -1,0 +1,10 @@
+use Rattle.std.proofs.Common.{◌≡◌, length}
+use Rattle.best_turns.specs.Plays.{plays_by}
+use Rattle.best_first.proofs.alone.turn_each.Given as goal
+use Rattle.shard_threads.specs.Players.{AllStay}
+
+abbrev pub invariant-loop-place : goal.invariant-loop-place
+invariant-loop-place g l = record {
+  stay : AllStay (plays_by g.L.CostLaw.minimize g.L.CostLaw.operator g.K.Covers.prune g.K.Covers.minimize g.K.Covers.operator) l.floor.board.now l.floor.boxes.now l.fn.shards.items l.shards.items;
+  long : l.place-end ≡ length l.shards.items;
+}
