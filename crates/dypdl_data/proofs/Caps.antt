@@ -29,3 +29,6 @@ capped_few n h = omega arith
 
 pub capped_is : (n : ℕ) → capped n ≤ most_words → n ≡ capped n
 capped_is n h = omega arith
+
+pub capped_above : (n : ℕ) → most_words < capped n → most_words < n
+capped_above n h = omega arith

@@ -1,7 +1,8 @@
 //! Tables all of whose cells have the default.
 
-ghost use Rattle.std.specs.Prelude.{◌≡◌, IfOk, map, replicate};
+ghost use Rattle.std.specs.Prelude.{◌≡◌, ◌<◌, IfOk, OnErr, map, replicate};
 ghost use Rattle.dp_model.specs.Typing.{cell_count};
+ghost use Rattle.dypdl_data.specs.Sizes.{most_words};
 ghost use Rattle.dypdl_data.specs.Tables.{filled, is_element, blank_table};
 
 use crate::kinds::{Cell, CellKind, TableHead};
@@ -46,10 +47,11 @@ fn filled(alloc: Global, kind: CellKind, count: usize, cell: Cell) -> Result<Cel
     })
 }
 
-/// How many cells a table has. There is no memory for more than a model may have.
-#[tactic(auto, using(crate::proofs::Caps::capped_is))]
+/// How many cells a table has. Memory is wanting only where they are more than a model may have.
+#[tactic(auto, using(crate::proofs::Caps::capped_is, crate::proofs::Caps::capped_above))]
 fn cells_to_fill(objects: &Seq<ObjectType>, args: &[u32]) -> Result<usize, AllocError>
-    ensures { IfOk result (λ count. count ≡ cell_count objects.now args.now) }
+    ensures count { IfOk result (λ count. count ≡ cell_count objects.now args.now) }
+    ensures many { OnErr result (most_words < cell_count objects.now args.now) }
 {
     let count = cell_count(objects, args);
     if count > MOST_WORDS {

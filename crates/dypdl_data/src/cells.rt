@@ -1,6 +1,6 @@
 //! The cells that a problem gives.
 
-ghost use Rattle.std.specs.Prelude.{◌≡◌, ◌<◌, ◌*◌, ◌+◌, ◌∷◌, IfOk, length, map, slice_set, slice_get, option_map, get_or, true, false};
+ghost use Rattle.std.specs.Prelude.{◌≡◌, ◌<◌, ◌≤◌, ◌^◌, ◌*◌, ◌+◌, ◌∷◌, IfOk, OnErr, length, map, slice_set, slice_get, option_map, get_or, true, false};
 ghost use Rattle.dp_base.specs.Results.{Answers, AnswersBy};
 ghost use Rattle.dp_model.specs.Typing.{type_count};
 ghost use Rattle.dypdl_nodes.specs.Reads.{told};
@@ -31,10 +31,11 @@ fn arg_counts(
     Ok(counts)
 }
 
-/// The place of one more argument's member behind the place by the arguments before it. No cell is there whose place does
-/// not fit.
+/// The place of one more argument's member behind the place by the arguments before it. Memory is wanting only where no word
+/// holds the place: no cell is there.
 fn next_place(at: usize, count: u32, member: u32) -> Result<usize, AllocError>
-    ensures { IfOk result (λ place. place ≡ at * count + member) }
+    ensures place { IfOk result (λ place. place ≡ at * count + member) }
+    ensures far { OnErr result (2 ^ 64 ≤ at * count + member) }
 {
     let row = at.checked_mul(count as usize).ok_or(AllocError)?;
     row.checked_add(member as usize).ok_or(AllocError)

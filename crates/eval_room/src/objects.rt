@@ -1,6 +1,6 @@
 //! Object types of sets, kinds of variables, and sums of needs.
 
-ghost use Rattle.std.specs.Prelude.{◌≡◌, ◌≤◌, ◌+◌, ◌==◌, ◌∷◌, true, max, drop, slice_get, IfSome};
+ghost use Rattle.std.specs.Prelude.{◌≡◌, ◌≤◌, ◌+◌, ◌^◌, ◌==◌, ◌∷◌, true, max, drop, slice_get, IfNone, IfSome};
 ghost use Rattle.std.specs.Option.{option_copied};
 ghost use Rattle.dp_model.specs.Typing.{is_number_kind, is_set_kind, kind_at};
 ghost use Rattle.dp_model.specs.Evaluation.{count_of, counts_of, kind_of, object_of_kind, table_counts, cells_of, cells_object};
@@ -140,7 +140,8 @@ pub fn pair_of(same: bool, count: u32, x: usize, y: usize) -> Option<usize>
 
 /// The sum, if a word holds it.
 pub fn sum(a: usize, b: usize) -> Option<usize>
-    ensures { IfSome result (λ n. n ≡ a + b) }
+    ensures some { IfSome result (λ n. n ≡ a + b) }
+    ensures none { IfNone result (2 ^ 64 ≤ a + b) }
 {
     a.checked_add(b)
 }

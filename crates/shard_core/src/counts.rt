@@ -1,6 +1,6 @@
 //! Counts by shard.
 
-ghost use Rattle.std.specs.Prelude.{◌≡◌, ℕ, ◌+◌, ◌^◌, ◌<◌, length, get_or, replicate, slice_set, IfOk};
+ghost use Rattle.std.specs.Prelude.{◌≡◌, ℕ, ◌+◌, ◌^◌, ◌<◌, ◌≤◌, length, get_or, replicate, slice_set, IfOk, OnErr};
 
 use std::alloc::{AllocError, Global};
 
@@ -22,9 +22,10 @@ pub(crate) fn count_of(counts: &[u64], shard: u32) -> u64
     }
 }
 
-/// A sum, or want of memory where it is too great: no count of what is kept can be.
+/// A sum, or want of memory just where no word holds it: no count of what is kept can be.
 pub(crate) fn sum(a: u64, b: u64) -> Result<u64, AllocError>
-    ensures { IfOk result (λ sum. sum ≡ a + b) }
+    ensures sum { IfOk result (λ sum. sum ≡ a + b) }
+    ensures great { OnErr result (2 ^ 64 ≤ a + b) }
 {
     match a.checked_add(b) {
         Some(sum) => Ok(sum),

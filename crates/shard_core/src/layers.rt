@@ -1,6 +1,6 @@
 //! The layers that are not closed, with the nodes that were received for them so far.
 
-ghost use Rattle.std.specs.Prelude.{◌≡◌, ℕ, ◌+◌, ◌<◌, true, false, Bool, List, [], ◌∷◌, ◌++◌, length, option_to_list, IfOk, IfErr, OnErr, OnOk, IfSome, Option, Some, None};
+ghost use Rattle.std.specs.Prelude.{◌≡◌, ℕ, ◌+◌, ◌<◌, ◌≤◌, ◌↔◌, IsTrue, true, false, Bool, List, [], ◌∷◌, ◌++◌, length, option_to_list, IfOk, IfErr, OnErr, OnOk, IfSome, Option, Some, None};
 ghost use Rattle.cost_laws.specs.Orders.{InWideRange, IsLawOf};
 ghost use Rattle.dp_claims.specs.Enough.{Has};
 ghost use Rattle.dp_model.specs.declared.whole.Model.{Model as DpModel};
@@ -236,8 +236,16 @@ fn add_later<K: Covers>(layout: &Layout, layer: &mut Layer<K>, node: NodeBox) ->
     Ok(())
 }
 
-// a node comes to those of its layer, behind those that wait; on `Err` memory ran out, now or where as many waited as are added together,
-// and the node comes back
+// whether as many nodes wait as are added together: then memory ran out before, and no further one comes to them
+#[inline]
+fn is_full<K: Covers>(layer: &Layer<K>) -> bool
+    ensures { IsTrue result ↔ (TOGETHER ≤ length layer.now.pending.items) }
+{
+    layer.pending.len() >= TOGETHER
+}
+
+// a node comes to those of its layer, behind those that wait; on `Err` memory ran out, now or where the layer is full, and the node
+// comes back
 #[inline]
 fn take_in<K: Covers>(
     layout: &Layout,
@@ -257,7 +265,7 @@ fn take_in<K: Covers>(
     if is_own && layer.pending.is_empty() && layer.nodes.len() < WIDE {
         return add_now(layout, layer, node);
     }
-    if layer.pending.len() >= TOGETHER {
+    if is_full(layer) {
         return Err(node);
     }
     add_later(layout, layer, node)

@@ -55,7 +55,7 @@ num_need-returns-in_ok-z-in-If t c =
 pub cond_need-returns-then-is_over : goal.cond_need-returns-then-is_over
 cond_need-returns-then-is_over t c =
     let p : conds.out-Cond c.args.e.now ≡ conds.Cond-F.All c.in-All.over c.get-in-All.result.now = search (rules, conds.the_lemmas) in
-    all_serves c.args.model.now c.args.given c.args.e.now c.in-All.over c.get-in-All.result.now _ _ _ p (sym c.is_over.ensures ∙ c.if-is_over.true) c.in_ok-more-in-All.ensures c.in_ok-need-in-All.ensures c.sum-then-is_over.ensures
+    all_serves c.args.model.now c.args.given c.args.e.now c.in-All.over c.get-in-All.result.now _ _ _ p (sym c.is_over.ensures ∙ c.if-is_over.true) c.in_ok-more-in-All.ensures.some c.in_ok-need-in-All.ensures c.sum-then-is_over.ensures.some
 
 pub set_need-returns-then-same_object : goal.set_need-returns-then-same_object
 set_need-returns-then-same_object t c =
@@ -83,7 +83,7 @@ all_need-returns t c =
 
 pub terms_need-loop-e-preserved : goal.terms_need-loop-e-preserved
 terms_need-loop-e-preserved t c =
-    rw c.after_first-left.ensures (terms_step c.args.model.now c.args.given (counts_of c.args.model.now c.args.objects.now) (counts_of c.args.model.now c.loop-e.left.now) _ c.deref-e-items.result.now c.loop-e.e-index _ c.e-item.result _ c.loop-e.used _ c.loop-e.most _ _ _ c.loop-e-test.true c.e-item.is c.in_ok-count.ensures.value (c.in_ok-used.ensures ∙ ap (λ (k : ℕ). c.loop-e.used + k) c.words_for.ensures) c.in_ok-sum.ensures c.max-most.ensures c.in_ok-need.ensures c.loop-e.invariant)
+    rw c.after_first-left.ensures (terms_step c.args.model.now c.args.given (counts_of c.args.model.now c.args.objects.now) (counts_of c.args.model.now c.loop-e.left.now) _ c.deref-e-items.result.now c.loop-e.e-index _ c.e-item.result _ c.loop-e.used _ c.loop-e.most _ _ _ c.loop-e-test.true c.e-item.is c.in_ok-count.ensures.value (c.in_ok-used.ensures.some ∙ ap (λ (k : ℕ). c.loop-e.used + k) c.words_for.ensures) c.in_ok-sum.ensures.some c.max-most.ensures c.in_ok-need.ensures c.loop-e.invariant)
 
 pub terms_need-returns-then-is_empty : goal.terms_need-returns-then-is_empty
 terms_need-returns-then-is_empty t c =
