@@ -10,6 +10,7 @@ ghost use Rattle.cost_laws.specs.Orders.{IsLawOf};
 ghost use Rattle.pass_ledger.specs.Passes.{Pass};
 ghost use Rattle.pass_ends.specs.Ends.{IsPassEnd};
 ghost use Rattle.pass_ends.specs.Passes.{pass_of};
+ghost use Rattle.pass_run.specs.Announcements.{RanOut};
 ghost use Rattle.pass_run.specs.Callers.{AreLastCallers, CallTo};
 ghost use Rattle.pass_run.specs.Crews.{AllEnded};
 ghost use Rattle.pass_run.specs.Passes.{MayPass};
@@ -54,6 +55,7 @@ pub(crate) fn begin_pass<'m, L: CostLaw, K: Covers>(
     requires may { MayPass model.now options.now share board.now seat.old }
     ensures begun { (some : 1 ≤ options.now.workers) → IfOk result (λ b. IsBegun (pass_of model.now options.now share some) board.now options.now.budget seat.old.view seat.new b.before b.shards.items b.boxes.items b.room) }
     ensures seat { IfErr result (λ _. IsSeatOf board.now seat.new × IsWhole seat.new.view) }
+    ensures memory { IfErr result RanOut }
     ensures answer { (some : 1 ≤ options.now.workers) → IfErr result (IsPassEnd (pass_of model.now options.now share some) seat.old.view seat.new.view) }
 {
     let before = visits_so_far(board, seat, options);
