@@ -21,7 +21,6 @@ ghost use Rattle.pass_run.specs.Callers.{AreLastCallers, CallTo};
 ghost use Rattle.pass_run.specs.Crews.{KeepAll};
 ghost use Rattle.pass_run.specs.Passes.{MayPass};
 
-use crate::by_law::by_law;
 use crate::ending::Over;
 use crate::stages::{Begun, begin_pass, end_pass};
 use announcer::{AnnounceQueue, Caller, Crier};
@@ -35,6 +34,7 @@ use dp_outside::{Gate, Sink};
 use pass_ends::{PassEnd, out_of_memory};
 use shard_threads::{Floor, Seated, turn_in_threads};
 use shard_turns::{Calling, Turner};
+use solve_start::by_law;
 use std::alloc::Global;
 use std::sync::Wait;
 use std::thread::Threads;
