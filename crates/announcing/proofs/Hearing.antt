@@ -1,5 +1,5 @@
 -- What an ear heard, with one call more.
-use Rattle.std.proofs.Common.{◌≡◌, ℕ, ◌+◌, ◌≤◌, ◌<◌, ◌^◌, inl, inr, List, [], ◌∷◌, ◌++◌, length, map, slice_get, take, get_or, Option, Some, ℤ, Bool, refl, sym, ap, subst, ◌∙◌}
+use Rattle.std.proofs.Common.{◌≡◌, ℕ, ◌+◌, ◌≤◌, ◌<◌, ◌^◌, inl, inr, List, [], ◌∷◌, ◌++◌, length, slice_get, take, get_or, Option, ℤ, Bool, sym, ap, subst, ◌∙◌}
 use Rattle.std.proofs.lemmas.List.{append_assoc, map-append, take_all, take_more}
 use Rattle.announcer.specs.Ends.{CrierFacts, IsNextFor, taken_by}
 use Rattle.announcer.specs.declared.view.CalledCost.{CalledCost}

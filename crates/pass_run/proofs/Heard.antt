@@ -1,15 +1,17 @@
 -- What a pass announced, when its calls have ended.
-use Rattle.std.proofs.Common.{◌≡◌, ℕ, ◌≤◌, ◌<◌, ◌⊎◌, inl, inr, Bool, true, false, if◌then◌else◌, List, [], ◌∷◌, ◌++◌, length, slice_get, Option, Some, None, Result, Ok, Err, ℤ, pos, refl, sym, ap, subst, ◌∙◌}
+use Rattle.std.proofs.Common.{◌≡◌, ℕ, ◌≤◌, ◌<◌, ◌⊎◌, inl, inr, Bool, true, false, if◌then◌else◌, List, [], ◌∷◌, ◌++◌, length, slice_get, Option, Some, None, Result, Ok, Err, ℤ, pos, refl, sym, ap, subst, ◌∙◌, arith}
 use Rattle.std.specs.Prelude.{◌≤ℤ◌, IfSome, option_map, option_to_list}
 use Rattle.std.specs.Result.{is_err}
 use Rattle.announce_laws.proofs.Calls.{cried_law, left_law}
 use Rattle.announce_laws.proofs.Lasts.{last_law}
 use Rattle.announce_laws.specs.Called.{AreOfShards, IsSolved}
 use Rattle.announce_laws.specs.Last.{Improving, announced, is_announced, last_after, last_of, word_or_none}
-use Rattle.announcer.specs.Ends.{CallerFacts, CrierFacts, QueueFacts, AreLeft, IsBegunOf}
+use Rattle.announcer.specs.Ends.{CallerFacts, CrierFacts, QueueFacts, AreLeft, IsBegunOf, new_crier}
 use Rattle.announcer.specs.declared.view.CalledCost.{CalledCost}
-use Rattle.announcing.specs.Hearing.{costs_cried}
+use Rattle.announcing.specs.Hearing.{Hears, costs_cried}
+use Rattle.announcing.specs.Hearing.{Heard as HeardBy}
 use Rattle.announcing.specs.Telling.{IsTold, announce_text}
+use Rattle.announcing.specs.declared.ear.Ear.{Ear}
 use Rattle.announcing.specs.declared.telling.Told.{Told}
 use Rattle.board_words.specs.Steps.{best_known}
 use Rattle.board_words.specs.declared.seat.View.{View}
@@ -30,7 +32,7 @@ use Rattle.pass_run.specs.Announcements.{EndsAnnounced, HasAnnounced, HasLast, H
 use Rattle.pass_run.specs.Callers.{AreLastCallers}
 use Rattle.pass_run.specs.declared.announced.AnnouncedEnd.{AnnouncedEnd}
 use Rattle.pass_run.specs.declared.announced.Heard.{Heard}
-use Rattle.solve_report.proofs.Written.{Takes-nothing}
+use Rattle.solve_report.proofs.Written.{Puts-nothing, Takes-nothing}
 use Rattle.solve_report.specs.Puts.{Puts}
 
 -- ---- how a pass ended
@@ -199,3 +201,34 @@ ends_silent p was now last before after faults faults_after end r is h ran same 
 
     le_same : (n : ℕ) → n ≤ n
     le_same n = omega arith
+
+-- ---- what is heard from the first turn on
+
+-- an ear that has heard nothing
+abbrev pub IsNewEar : {A : Type 0} → QueueFacts → (minimize : Bool) → (last : Option ℤ) → Ear A → Type 0
+IsNewEar queue minimize last ear = (ear.queue.now ≡ queue) × (ear.crier ≡ new_crier queue) × (ear.minimize ≡ minimize) × (ear.told ≡ record { last = last; count = 0; failed = false })
+
+module _ {A : Type 0} (taken : A → Option (List ℕ)) (faults : A → ℕ) (queue : QueueFacts) (minimize : Bool) (last : Option ℤ) where
+  abbrev held_to : Ear A → HeardBy
+  held_to ear = record { queue = queue; sink = ear.out.ghost_name; minimize = minimize; last = last; before = taken ear.out.now; faults = faults ear.out.now }
+
+  hears_new : (ear : Ear A) → IsNewEar queue minimize last ear → Hears taken faults (held_to ear) ear
+  hears_new ear new = record {
+    queue_is = new.0;
+    crier = ap (λ (c : CrierFacts). c.queue) new.1;
+    known = λ k x at. absurd (has_none x (k, ap (λ (c : CrierFacts). slice_get c.taken k) (sym new.1) ∙ at));
+    sink_is = refl;
+    minimize_is = new.2;
+    few = (let none = ap (λ (t : Told). t.count) new.3 in omega (arith, none));
+    told =
+        subst (λ (t : Told). IsTold minimize last (costs_cried ear.crier.taken) (taken ear.out.now) (taken ear.out.now) (faults ear.out.now) (faults ear.out.now) t) (sym new.3)
+        (subst (λ (c : CrierFacts). IsTold minimize last (costs_cried c.taken) (taken ear.out.now) (taken ear.out.now) (faults ear.out.now) (faults ear.out.now) (record { last = last; count = 0; failed = false })) (sym new.1)
+        (record { result = Ok tt; result_is = refl; last_is = λ _. refl; count_is = λ _. refl; written = Puts-nothing }));
+  }
+
+  pub may_hear : (ear : Ear A) → IsNewEar queue minimize last ear → (h : HeardBy) × Hears taken faults h ear
+  may_hear ear new = (held_to ear, hears_new ear new)
+
+  -- what it has heard when the turns are over
+  pub heard_all : (ear after : Ear A) → ((h : HeardBy) → Hears taken faults h ear → Hears taken faults h after) → IsNewEar queue minimize last ear → Hears taken faults (held_to ear) after
+  heard_all ear after between new = between (held_to ear) (hears_new ear new)

@@ -12,7 +12,6 @@ ghost use Rattle.board_words.specs.Seats.{IsSeatOf};
 ghost use Rattle.board_words.specs.Steps.{best_known};
 ghost use Rattle.pass_ends.specs.Ends.{IsPassEnd};
 ghost use Rattle.pass_ends.specs.Passes.{AreOptions, pass_of};
-ghost use Rattle.pass_run.specs.Passes.{MayPass};
 ghost use Rattle.run_ends.specs.Claims.{solved_by as solved};
 ghost use Rattle.solve_passes.specs.Announcing as announced;
 ghost use Rattle.solve_passes.specs.Announcing.{IsMade};
@@ -234,7 +233,14 @@ fn run_announced<R: Threads + Wait + Sync, S: Sink, G: Gate>(
     seat: &mut BoardSeat,
     gate: &G,
 ) -> Made
-    requires may { MayPass model.now options.now share board.now seat.old }
+    requires inner { Inner model.now model.now.target }
+    requires share { 1 ≤ share }
+    requires options { AreOptions options.now }
+    requires seat { IsSeatOf board.now seat.old }
+    requires whole { IsWhole seat.old.view }
+    requires no_halt { seat.old.view.raised ≡ 0 }
+    requires drawn { seat.old.view.drawn ≤ 2 ^ 41 }
+    requires limit { board.now.limit ≡ options.now.budget }
     ensures seat { IsSeatOf board.now seat.new }
     ensures whole { IsWhole seat.new.view }
     ensures answer { (some : 1 ≤ options.now.workers) → IsPassEnd (pass_of model.now options.now share some) seat.old.view seat.new.view result.end }

@@ -1,4 +1,4 @@
-use Rattle.std.proofs.Common.{◌≡◌, [], ◌∷◌, ◌++◌, Bool, ℤ, FitsSigned, refl, sym, subst, ◌∙◌, rules, arith, w64}
+use Rattle.std.proofs.Common.{[], ◌∷◌, ◌++◌, Bool, ℤ, FitsSigned, refl, sym, subst, ◌∙◌, rules, arith, w64}
 use Rattle.std.proofs.lemmas.Int.{to_z-of_z}
 use Rattle.announcing.specs.Hearing.{costs_cried}
 use Rattle.announcing.specs.Telling.{IsTold}

@@ -1,4 +1,4 @@
-use Rattle.std.proofs.Common.{◌≡◌, ℕ, ◌+◌, ◌≤◌, ◌<◌, [], ◌∷◌, ◌++◌, List, ℤ, FitsSigned, length, take, get_or, refl, sym, ap, subst, ◌∙◌, rules, arith, w64, append-nil}
+use Rattle.std.proofs.Common.{◌≤◌, ◌<◌, [], ◌∷◌, ◌++◌, List, ℤ, FitsSigned, length, take, sym, subst, rules, arith, w64, append-nil}
 use Rattle.std.proofs.lemmas.Int.{to_z-of_z}
 use Rattle.announcing.specs.Telling.{IsTold}
 use Rattle.announcing.proofs.Hearing.{all_of, one_more}

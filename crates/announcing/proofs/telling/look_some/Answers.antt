@@ -1,4 +1,4 @@
-use Rattle.std.proofs.Common.{◌≡◌, [], ◌∷◌, ◌++◌, List, Option, ℤ, FitsSigned, sym, subst, rules, w64, append-nil}
+use Rattle.std.proofs.Common.{[], ◌∷◌, ◌++◌, List, Option, ℤ, FitsSigned, sym, subst, rules, w64, append-nil}
 use Rattle.std.proofs.lemmas.Int.{to_z-of_z}
 use Rattle.std.specs.Option.{option_to_list}
 use Rattle.announcing.specs.Telling.{IsTold}
