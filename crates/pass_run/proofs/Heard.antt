@@ -28,7 +28,7 @@ use Rattle.pass_ends.specs.declared.answers.PassEnd.{PassEnd}
 use Rattle.pass_ends.specs.declared.answers.PassEnd.TheVariants as ends
 use Rattle.pass_ledger.proofs.Lists.{has_cases, has_head, has_left, has_map, has_none, has_right}
 use Rattle.pass_ledger.specs.Passes.{Pass, word_of}
-use Rattle.pass_run.specs.Announcements.{EndsAnnounced, HasAnnounced, HasLast, HasSettled, RanOut, WasHeard, best_in, cost_in, forgotten, last_or}
+use Rattle.pass_run.specs.Announcements.{EndsAnnounced, HasAnnounced, HasLast, HasLooked, HasSettled, RanOut, WasHeard, best_in, cost_in, forgotten, last_or}
 use Rattle.pass_run.specs.Callers.{AreLastCallers}
 use Rattle.pass_run.specs.declared.announced.AnnouncedEnd.{AnnouncedEnd}
 use Rattle.pass_run.specs.declared.announced.Heard.{Heard}
@@ -181,6 +181,12 @@ module _ (p : Pass) (was now : View) (queue : QueueFacts) (heard : Heard) (w : W
       has_announced p.model minimize last (costs_cried heard.crier.taken) before after faults faults_after told lost.1 same (λ c has. (cried_solved c has).0) r last_told count_told failed_told,
       λ _ going _. absurd (going (subst RanOut (sym lost.0) (forgotten_ran heard.over.end))),
     )
+
+-- what was looked at are the costs that were left
+pub settled_by : (queue : QueueFacts) (callers : List CallerFacts) (crier : CrierFacts) (minimize : Bool) (last : Option ℤ) (before after : Option (List ℕ)) (faults faults_after : ℕ) (told : Told) (end result : PassEnd) (left : List ℤ) → AreLeft queue.senders callers crier.taken left
+    → HasLooked minimize last (costs_cried crier.taken) left before after faults faults_after told end result → HasSettled queue callers crier minimize last before after faults faults_after told end result
+settled_by queue callers crier minimize last before after faults faults_after told end result left are (inl all) = inl (left, are, all.0, all.1)
+settled_by queue callers crier minimize last before after faults faults_after told end result left are (inr lost) = inr lost
 
 -- ---- a pass that announced nothing
 

@@ -22,7 +22,7 @@ ghost use Rattle.pass_run.specs.Crews.{KeepAll};
 ghost use Rattle.pass_run.specs.Passes.{MayPass};
 
 use crate::ending::Over;
-use crate::stages::{Begun, begin_pass, end_pass};
+use crate::stages::{Begun, begin_pass, end_pass, not_begun};
 use announcer::{AnnounceQueue, Caller, Crier};
 use announcing::{Ear, MOST_HEARD, Told, look_all, look_some};
 use board_words::{Board, BoardSeat};
@@ -331,7 +331,7 @@ fn run_shards_announced<
     ensures answer { (some : 1 ≤ options.now.workers) → EndsAnnounced (pass_of model.now options.now share some) seat.old.view seat.new.view last (S.taken out.old) (S.taken out.new) (S.faults out.old) (S.faults out.new) result }
 {
     let Ok((queue, callers, crier)) = AnnounceQueue::new(alloc, options.workers()) else {
-        return silent(out_of_memory(0, 0), last);
+        return silent(not_begun(board, seat, options), last);
     };
     match hear_pass::<L, K, R, G, S>(
         rt, alloc, model, options, share, board, seat, gate, &queue, callers, crier, out, last,

@@ -78,6 +78,17 @@ pub(crate) fn begin_pass<'m, L: CostLaw, K: Covers>(
     })
 }
 
+/// The answer of a pass for which memory ran out before its shards were made. Nothing was drawn, and the seat knows what it knew.
+pub(crate) fn not_begun(board: &Board, seat: &mut BoardSeat, options: &Options) -> PassEnd
+    requires { IsSeatOf board.now seat.old }
+    ensures same { seat.new ≡ seat.old }
+    ensures memory { RanOut result }
+    ensures answer { (p : Pass) → IsWhole seat.old.view → IsPassEnd p seat.old.view seat.old.view result }
+{
+    visits_so_far(board, seat, options);
+    out_of_memory(0, 0)
+}
+
 /// The answer of a pass whose shards have ended, and the callers of those that call. The seat is whole again.
 pub(crate) fn end_pass<'m, L: CostLaw, K: Covers, R: Wait>(
     rt: &R,

@@ -45,5 +45,6 @@ returns-clause-called g c = λ p was queue begun call.
     let made = left.ensures.left p begun.keep in
     let over = is_over p c.args.board.now c.args.options.now.budget b.before was c.args.seat.now b.shards.items b.boxes b.room begun left.new.seat.view left.result.ends.items left.result.logs.items left.ensures.view made.0 in
     subst (λ (s : SeatFacts). AreLastCallers p (best_known was) (best_known s.view) queue c.tell.result.callers.items) (sym c.tell.ensures.same)
-    (subst (AreLastCallers p (best_known was) (best_known left.new.seat.view) queue) (sym (ap (λ v. v.items) c.tell.ensures.callers ∙ left.ensures.callers))
-    (last_callers p (best_known was) (best_known left.new.seat.view) queue b.shards.items made.0.records made.0.together (is_best p c.args.options.now.budget b.before was left.new.seat.view (seats_of b.shards.items) left.result.ends.items left.result.logs.items over) begun.keep.long call made.1))
+    (subst (AreLastCallers p (best_known was) (best_known left.new.seat.view) queue) (sym (c.tell.ensures.callers ∙ left.ensures.callers))
+    (last_callers p queue b.shards.items made.0.records call made.1 (best_known was) (best_known left.new.seat.view) made.0.together
+    (is_best p c.args.options.now.budget b.before was left.new.seat.view (seats_of b.shards.items) left.result.ends.items left.result.logs.items over) begun.keep.long))
