@@ -1,5 +1,5 @@
 -- A shard that goes on after a step of its turn, and one that has ended.
-use Rattle.std.proofs.Common.{◌≡◌, ℕ, ◌+◌, ◌≤◌, ◌<◌, ◌⊎◌, min, inl, inr, suc, true, false, List, [], ◌∷◌, ◌++◌, length, get_or, slice_get, Option, Some, None, refl, sym, ap, subst, ◌∙◌, arith}
+use Rattle.std.proofs.Common.{◌≡◌, ℕ, ◌+◌, ◌^◌, ◌≤◌, ◌<◌, ◌⊎◌, min, inl, inr, suc, true, false, List, [], ◌∷◌, ◌++◌, length, get_or, slice_get, Option, Some, None, refl, sym, ap, subst, ◌∙◌, arith}
 use Rattle.std.proofs.lemmas.Bool.{cases_eq}
 use Rattle.std.proofs.lemmas.List.{length_push}
 use Rattle.std.proofs.lemmas.Option.{slice_get_read}
@@ -21,7 +21,6 @@ use Rattle.pass_ledger.specs.Letters.{of}
 use Rattle.pass_ledger.specs.Passes.{Pass}
 use Rattle.pass_ledger.specs.Records.{Own, Done}
 use Rattle.pass_ledger.specs.declared.mail.Letter.{Letter}
-use Rattle.pass_ledger.specs.declared.records.Held.{Held}
 use Rattle.pass_ledger.specs.declared.records.LedgerRow.{LedgerRow}
 use Rattle.pass_ledger.specs.declared.records.ShardRecord.{ShardRecord}
 use Rattle.pass_ledger.proofs.Appends.{append_same}
@@ -171,7 +170,7 @@ module _ {A B : Type 0} where
           taker = subst (λ (i : ℕ). IsTakerFor p boxes i taker) (sym me) takes;
           posters = subst (λ (i : ℕ). ArePostersFor p boxes i posters.items) (sym me) post;
           mail = mail;
-          calls = subst (λ (i : ℕ). CallsFor p i r calling) (sym me) calls;
+          calls = subst (λ (i : ℕ). CallsFor p i r t.calling) (sym me) calls;
         }
 
     halts_with : (new : Shard A B) → new.me ≡ t.shard.me → (r : ShardRecord) → EndsAs p new r → (taker : TakerFacts Envelope) → IsTakerFor p boxes t.shard.me taker → (posters : Vec (PosterFacts Envelope)) → ArePostersFor p boxes t.shard.me posters.items

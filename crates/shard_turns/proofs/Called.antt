@@ -1,10 +1,10 @@
 -- What is known of the calls of a shard, from step to step.
-use Rattle.std.proofs.Common.{◌≡◌, ℕ, ◌+◌, ◌^◌, ◌≤◌, ◌<◌, ◌⊎◌, inl, inr, List, [], ◌∷◌, ◌++◌, length, Option, Some, None, ℤ, Result, Ok, Err, refl, sym, ap, subst, ◌∙◌, arith}
+use Rattle.std.proofs.Common.{◌≡◌, ℕ, ◌+◌, ◌^◌, ◌≤◌, ◌<◌, ◌⊎◌, inl, inr, List, length, Option, Some, None, ℤ, Result, Ok, Err, refl, sym, ap, subst, ◌∙◌, arith}
 use Rattle.std.specs.Prelude.{OnOk, IfErr}
 use Rattle.std.proofs.lemmas.List.{length_push}
 use Rattle.announce_laws.specs.Called.{WasHeld, AreCalled}
 use Rattle.announce_laws.proofs.Calls.{called_law}
-use Rattle.announcer.specs.Ends.{CallerFacts, QueueFacts, IsCallerOf, WasFull, posted_by, refused_by}
+use Rattle.announcer.specs.Ends.{CallerFacts, QueueFacts, WasFull, posted_by, refused_by}
 use Rattle.pass_ledger.specs.Events.{visit, CanVisit}
 use Rattle.pass_ledger.specs.Passes.{Pass}
 use Rattle.pass_ledger.specs.Records.{visit_of, IsHeld, Own, Reaches}
