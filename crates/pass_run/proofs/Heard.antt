@@ -38,8 +38,8 @@ use Rattle.solve_report.specs.Puts.{Puts}
 -- ---- how a pass ended
 
 forgotten_end : (p : Pass) (was now : View) (end : PassEnd) → IsPassEnd p was now end → IsPassEnd p was now (forgotten end)
-forgotten_end p was now (ends.Closed visited dropped floor best) h = (h.0, tt, record { cause_is = tt; best_is = λ other. absurd (other refl) })
-forgotten_end p was now (ends.Halted cause visited dropped best) h = (h.0, tt, record { cause_is = tt; best_is = λ other. absurd (other refl) })
+forgotten_end p was now (ends.Closed visited dropped floor best) h = (h.0, tt, record { cause_is = tt; best_is = λ other. absurd (other refl) }, λ other. absurd (other refl))
+forgotten_end p was now (ends.Halted cause visited dropped best) h = (h.0, tt, record { cause_is = tt; best_is = λ other. absurd (other refl) }, λ other. absurd (other refl))
 
 forgotten_ran : (end : PassEnd) → RanOut (forgotten end)
 forgotten_ran (ends.Closed visited dropped floor best) = refl

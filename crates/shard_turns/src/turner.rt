@@ -208,14 +208,7 @@ impl<'m, L: CostLaw, K: Covers> Turner<'m, L, K> {
         }
         match self.shard.visit(best) {
             Visited::Done { offer: Some(word) } => {
-                offer_held(
-                    rt,
-                    board,
-                    seat,
-                    word,
-                    &self.shard.held,
-                    &mut self.calling,
-                );
+                offer_held(rt, board, seat, word, &self.shard.held, &mut self.calling);
                 Ok(())
             }
             Visited::Done { offer: None } => Ok(()),
