@@ -91,6 +91,18 @@ pub record AreGiven {A B : Type 0} (queue : QueueFacts) (callers left : List Cal
   pub same : (i : ℕ) (s : Seated (Turner A B)) → i < length left → slice_get old i ≡ Some s → slice_get new i ≡ Some s
   pub each : (i : ℕ) (s : Seated (Turner A B)) (c : CallerFacts) → length left ≤ i → slice_get old i ≡ Some s → slice_get callers i ≡ Some c → (t : Seated (Turner A B)) × (slice_get new i ≡ Some t) × IsGiven queue c s t
 
+-- a caller that has called nothing, whatever the shard's record is
+begins_to : (queue : QueueFacts) (p : Pass) (i : ℕ) → i < queue.senders → (d : Calling) → d.queue.now ≡ queue → d.caller ≡ new_caller queue i → (r : ShardRecord) → IsCalling p i r d
+begins_to queue p i within d queue_is caller_is r = record {
+  caller = (
+    ap (λ (c : CallerFacts). c.queue) caller_is ∙ sym queue_is,
+    subst (λ (q : QueueFacts). d.caller.number < q.senders) (sym queue_is) (subst (λ (k : ℕ). k < queue.senders) (sym (ap (λ (c : CallerFacts). c.number) caller_is)) within),
+  );
+  number = ap (λ (c : CallerFacts). c.number) caller_is;
+  called = subst (λ (c : CallerFacts). AreCalled p i r c.posted) (sym caller_is) (called_law.none p i r);
+  few = (let none = ap (λ (c : CallerFacts). c.refused) caller_is in omega (arith, none));
+}
+
 module _ {A B : Type 0} (queue : QueueFacts) where
   given_more : (callers left less : List CallerFacts) (old new : List (Seated (Turner A B))) (c : CallerFacts) (s t : Seated (Turner A B)) → AreGiven queue callers left old new → left ≡ less ++ c ∷ [] → length left ≡ length less + 1
       → slice_get old (length less) ≡ Some s → IsGiven queue c s t → AreGiven queue callers less old (slice_set new (length less) t)
@@ -129,17 +141,6 @@ module _ {A B : Type 0} (queue : QueueFacts) where
   -- ---- a shard with its caller
 
   module _ (p : Pass) (board : BoardFacts) (boxes : List MailboxFacts) (i : ℕ) (within : i < queue.senders) (d : Calling) (queue_is : d.queue.now ≡ queue) (caller_is : d.caller ≡ new_caller queue i) where
-    begins_to : (r : ShardRecord) → IsCalling p i r d
-    begins_to r = record {
-      caller = (
-        ap (λ (c : CallerFacts). c.queue) caller_is ∙ sym queue_is,
-        subst (λ (q : QueueFacts). d.caller.number < q.senders) (sym queue_is) (subst (λ (k : ℕ). k < queue.senders) (sym (ap (λ (c : CallerFacts). c.number) caller_is)) within),
-      );
-      number = ap (λ (c : CallerFacts). c.number) caller_is;
-      called = subst (λ (c : CallerFacts). AreCalled p i r c.posted) (sym caller_is) (called_law.none p i r);
-      few = (let none = ap (λ (c : CallerFacts). c.refused) caller_is in omega (arith, none));
-    }
-
     keeps_with : (t : Turner A B) (seat : SeatFacts) → t.shard.me ≡ i → (e : Option Ended) → KeepsAs p board boxes e t seat → KeepsAs p board boxes e (record t { calling = Some d }) seat
     keeps_with t seat me None a = record {
       shard_record = a.shard_record;
@@ -150,7 +151,7 @@ module _ {A B : Type 0} (queue : QueueFacts) where
       taker = a.taker;
       posters = a.posters;
       mail = a.mail;
-      calls = subst (λ (k : ℕ). IsCalling p k a.shard_record d) (sym me) (begins_to a.shard_record);
+      calls = subst (λ (k : ℕ). IsCalling p k a.shard_record d) (sym me) (begins_to queue p i within d queue_is caller_is a.shard_record);
     }
     keeps_with t seat me (Some end) l = record {
       shard_record = l.shard_record;
@@ -161,7 +162,7 @@ module _ {A B : Type 0} (queue : QueueFacts) where
       taker = l.taker;
       posters = l.posters;
       mail = l.mail;
-      calls = subst (λ (k : ℕ). IsCalling p k l.shard_record d) (sym me) (begins_to l.shard_record);
+      calls = subst (λ (k : ℕ). IsCalling p k l.shard_record d) (sym me) (begins_to queue p i within d queue_is caller_is l.shard_record);
     }
 
   -- ---- all of them

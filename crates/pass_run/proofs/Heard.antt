@@ -58,23 +58,20 @@ lowered_in p was now (ends.Halted cause visited dropped best) h fine = h.2.best_
 -- the announced costs were looked at
 announced_from : (minimize : Bool) (last : Option ℤ) (costs : List ℤ) (c : ℤ) → Has (announced minimize last costs) c → Has costs c
 announced_from minimize last [] c has = has
-announced_from minimize last (x ∷ costs) c has = by_test (is_announced minimize last x) (last_after minimize last x) has
+announced_from minimize last (x ∷ costs) c has = by_test (λ l h. has_right (x ∷ []) costs c (announced_from minimize l costs c h)) (is_announced minimize last x) (last_after minimize last x) has
   where
-    later : (l : Option ℤ) → Has (announced minimize l costs) c → Has (x ∷ costs) c
-    later l h = has_right (x ∷ []) costs c (announced_from minimize l costs c h)
-
-    by_test : (t : Bool) (l : Option ℤ) → Has ((if t then x ∷ [] else []) ++ announced minimize l costs) c → Has (x ∷ costs) c
-    by_test true l h = elim (has_head x (announced minimize l costs) c h) [ inl e ↦ (0, ap (λ (z : ℤ). Some z) e) | inr more ↦ later l more ]
-    by_test false l h = later l h
+    by_test : ((l : Option ℤ) → Has (announced minimize l costs) c → Has (x ∷ costs) c) → (t : Bool) (l : Option ℤ) → Has ((if t then x ∷ [] else []) ++ announced minimize l costs) c → Has (x ∷ costs) c
+    by_test later true l h = elim (has_head x (announced minimize l costs) c h) [ inl e ↦ (0, ap (λ (z : ℤ). Some z) e) | inr more ↦ later l more ]
+    by_test later false l h = later l h
 
 -- the last of the announced costs
 last_is : (minimize : Bool) (last : Option ℤ) (costs : List ℤ) → last_of minimize last costs ≡ last_or last (announced minimize last costs)
 last_is minimize last [] = refl
-last_is minimize last (x ∷ costs) = by_test (is_announced minimize last x)
+last_is minimize last (x ∷ costs) = by_test (λ l. last_is minimize l costs) (is_announced minimize last x)
   where
-    by_test : (t : Bool) → last_of minimize (if t then Some x else last) costs ≡ last_or last ((if t then x ∷ [] else []) ++ announced minimize (if t then Some x else last) costs)
-    by_test true = last_is minimize (Some x) costs
-    by_test false = last_is minimize last costs
+    by_test : ((l : Option ℤ) → last_of minimize l costs ≡ last_or l (announced minimize l costs)) → (t : Bool) → last_of minimize (if t then Some x else last) costs ≡ last_or last ((if t then x ∷ [] else []) ++ announced minimize (if t then Some x else last) costs)
+    by_test later true = later (Some x)
+    by_test later false = later last
 
 -- ---- what was written
 

@@ -1,6 +1,6 @@
 //! A pass that announces the costs of better solutions while it runs.
 
-ghost use Rattle.std.specs.Prelude.{◌≡◌, ◌<◌, ◌≤◌, ◌^◌, ℕ, List, Option, ℤ, length, option_map, slice_get, IfErr, IfOk};
+ghost use Rattle.std.specs.Prelude.{◌≡◌, ◌<◌, ◌≤◌, ◌^◌, ℕ, List, Option, Some, ℤ, false, length, option_map, slice_get, IfErr, IfOk};
 ghost use Rattle.announcer.specs.Ends.{AreCallersOf, AreNewCallers, IsBegunOf, IsCrierOf, new_crier};
 ghost use Rattle.announcer.specs.declared.view.CalledCost.{CalledCost};
 ghost use Rattle.announcing.specs.Hearing.{costs_cried};
@@ -127,47 +127,55 @@ fn hear_pass<
     ensures crier { IfOk result (λ heard. IsCrierOf queue.now heard.crier × (heard.told.count ≤ 2 ^ 62) × ((k : ℕ) (x : CalledCost) → slice_get heard.crier.taken k ≡ Some x → x.from < queue.now.senders)) }
     ensures told { IfOk result (λ heard. IsTold model.now.minimize last (costs_cried heard.crier.taken) (S.taken out.old) (S.taken out.new) (S.faults out.old) (S.faults out.new) heard.told) }
 {
-    let begun = begin_pass::<L, K>(alloc, model, options, share, board, seat)?;
-    let Begun {
-        before,
-        shards,
-        boxes,
-        room,
-    } = begun;
-    let shards = give_callers(queue, callers, shards);
-    let told = Told {
-        last,
-        count: 0,
-        failed: false,
-    };
-    let ear = Ear {
-        queue,
-        crier,
-        out,
-        told,
-        minimize: model.minimize(),
-    };
-    let floor = Floor {
-        board,
-        boxes: &boxes,
-        gate,
-    };
-    let (shards, ear) = turn_in_threads(rt, alloc, &floor, shards, ear);
-    let Ear {
-        queue: _,
-        crier,
-        out: _,
-        told,
-        minimize: _,
-    } = ear;
-    let ended = Begun {
-        before,
-        shards,
-        boxes,
-        room,
-    };
-    let over = end_pass(rt, alloc, options, share, board, seat, ended);
-    Ok(Heard { over, crier, told })
+    match begin_pass::<L, K>(alloc, model, options, share, board, seat) {
+        Ok(begun) => {
+            let Begun {
+                before,
+                shards,
+                boxes,
+                room,
+            } = begun;
+            let shards = give_callers(queue, callers, shards);
+            let ear = Ear {
+                queue,
+                crier,
+                out,
+                told: Told {
+                    last,
+                    count: 0,
+                    failed: false,
+                },
+                minimize: model.minimize(),
+            };
+            let (shards, ear) = turn_in_threads(
+                rt,
+                alloc,
+                &Floor {
+                    board,
+                    boxes: &boxes,
+                    gate,
+                },
+                shards,
+                ear,
+            );
+            let Ear {
+                queue: _,
+                crier,
+                out: _,
+                told,
+                minimize: _,
+            } = ear;
+            let ended = Begun {
+                before,
+                shards,
+                boxes,
+                room,
+            };
+            let over = end_pass(rt, alloc, options, share, board, seat, ended);
+            Ok(Heard { over, crier, told })
+        }
+        Err(end) => Err(end),
+    }
 }
 
 /// The same pass, where memory ran out at its end.
