@@ -123,7 +123,7 @@ none_may m options true (Some claim) e = absurd cc
 some_may : (m : Model) (options : Options) (claimed : Option Claim) (claim : Claim) (behind : Behind) → claimed ≡ Some claim → RightBehind m options claim behind → IsBehind true m options claimed behind
 some_may m options claimed claim behind e right = subst (λ (x : Option Claim). IsBehind true m options x behind) (sym e) right
 
-module _ (m : Model) (options : Options) (gap : Bool) (first second : Option (List ℕ)) (solved : Solved) (c : Concluded m options gap All first second solved) where
+module _ (m : Model) (options : Options) (gap : Bool) (first second : Option (List ℕ)) (solved : Solved) (c : Concluded m options gap (All false) first second solved) where
   -- the claim that is answered is of a legal list
   pub claim_holds : (claim : Claim) → solved.claim ≡ Some claim → ClaimHolds m claim
   claim_holds claim is = elim c.printed [
@@ -132,18 +132,18 @@ module _ (m : Model) (options : Options) (gap : Bool) (first second : Option (Li
   ]
 
   -- nothing is written behind a record
-  alone : (certificate : Bool) → IsBehind certificate m options (claim_of c.run) Nothing → Writes first second (record_text All m c.run) (ending_status c.run.ending) solved.status → Solves m options gap certificate first second solved.status
+  alone : (certificate : Bool) → IsBehind certificate m options (claim_of c.run) Nothing → Writes first second (record_text (All false) m c.run) (ending_status c.run.ending) solved.status → Solves m options gap certificate first second solved.status
   alone certificate may writes = record {
     run = c.run;
     behind = Nothing;
     right = c.right;
     word = c.word;
     is_behind = may;
-    printed = as_text first second (record_text All m c.run) (record_text All m c.run ++ []) (ending_status c.run.ending) solved.status (sym (append-nil (record_text All m c.run))) writes;
+    printed = as_text first second (record_text (All false) m c.run) (record_text (All false) m c.run ++ []) (ending_status c.run.ending) solved.status (sym (append-nil (record_text (All false) m c.run))) writes;
   }
 
   -- the record was not written whole
-  broken : (certificate : Bool) → solved.status ≡ statuses.WriteFault → TakesFront first second (record_text All m c.run) → Solves m options gap certificate first second solved.status
+  broken : (certificate : Bool) → solved.status ≡ statuses.WriteFault → TakesFront first second (record_text (All false) m c.run) → Solves m options gap certificate first second solved.status
   broken certificate is front =
       let any = any_may m options certificate (claim_of c.run) in
       record {
@@ -152,7 +152,7 @@ module _ (m : Model) (options : Options) (gap : Bool) (first second : Option (Li
         right = c.right;
         word = c.word;
         is_behind = any.1;
-        printed = inr (is, TakesFront-longer first second (record_text All m c.run) (behind_text m options any.0) front);
+        printed = inr (is, TakesFront-longer first second (record_text (All false) m c.run) (behind_text m options any.0) front);
       }
 
   -- no certificate is asked for
@@ -172,8 +172,8 @@ module _ (m : Model) (options : Options) (gap : Bool) (first second : Option (Li
       right = c.right;
       word = c.word;
       is_behind = some_may m options (claim_of c.run) claim w.0 (sym h.2 ∙ is) w.1;
-      printed = subst (λ (s : Status). Writes first third (record_text All m c.run ++ behind_text m options w.0) (behind_status s w.0) status) h.0
-          (then_writes first second third (record_text All m c.run) (behind_text m options w.0) (behind_status solved.status w.0) status h.1 w.2);
+      printed = subst (λ (s : Status). Writes first third (record_text (All false) m c.run ++ behind_text m options w.0) (behind_status s w.0) status) h.0
+          (then_writes first second third (record_text (All false) m c.run) (behind_text m options w.0) (behind_status solved.status w.0) status h.1 w.2);
     }
     | inr h ↦ let clash : None ≡ Some claim = sym h.2 ∙ is in absurd cc
   ]

@@ -97,5 +97,5 @@ pub record Solves (m : Model) (options : Options) (gap certificate : Bool) (befo
   pub right : Right m options gap run
   pub word : KeepsWord m options run.bound run.ending
   pub is_behind : IsBehind certificate m options (claim_of run) behind
-  pub printed : ((status ≡ behind_status (ending_status run.ending) behind) × Takes before after (record_text All m run ++ behind_text m options behind))
-      ⊎ ((status ≡ statuses.WriteFault) × TakesFront before after (record_text All m run ++ behind_text m options behind))
+  pub printed : ((status ≡ behind_status (ending_status run.ending) behind) × Takes before after (record_text (All false) m run ++ behind_text m options behind))
+      ⊎ ((status ≡ statuses.WriteFault) × TakesFront before after (record_text (All false) m run ++ behind_text m options behind))

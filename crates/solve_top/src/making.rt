@@ -55,7 +55,7 @@ pub fn solve_and_certify<R: Threads + Wait + Sync, S: Sink, G: Gate>(
     ensures read_fault { result ≡ statuses.ReadFault → ⊥ }
     ensures failed { result ≡ statuses.WriteFault → Rose (S.faults out.old) (S.faults out.new) }
 {
-    let solved = solve(rt, alloc, out, model, options, gap, Printing::All, gate);
+    let solved = solve(rt, alloc, out, model, options, gap, Printing::All { announce: false }, gate);
     if !certificate {
         return solved.status;
     }
