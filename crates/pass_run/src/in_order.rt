@@ -9,7 +9,6 @@ ghost use Rattle.pass_ends.specs.Ends.{IsPassEnd};
 ghost use Rattle.pass_ends.specs.Passes.{AreOptions, pass_of};
 ghost use Rattle.pass_run.specs.Passes.{MayPass};
 
-use crate::by_law::by_law;
 use crate::stages::{Begun, begin_pass, end_pass};
 use board_words::{Board, BoardSeat};
 use cost_laws::CostLaw;
@@ -19,6 +18,7 @@ use dp_model::{Model as DpModel, Options};
 use dp_outside::Gate;
 use pass_ends::PassEnd;
 use shard_threads::{Floor, turn_in_order};
+use solve_start::by_law;
 use std::alloc::Global;
 use std::sync::Wait;
 

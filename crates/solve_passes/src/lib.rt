@@ -2,7 +2,6 @@
 //! it is found, and at last what is known of all lists.
 #![tactic(auto)]
 
-mod by_law;
 mod progress;
 mod solving;
 mod turns;

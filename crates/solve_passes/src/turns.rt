@@ -4,10 +4,10 @@ ghost use Rattle.std.specs.Prelude.{◌≡◌, ◌<◌, IfSome, Some};
 ghost use Rattle.cost_laws.specs.Orders.{InWideRange};
 ghost use Rattle.width_loop.specs.Gaps.{bound_after as next_bound, gap_share, gap_turn};
 
-use crate::by_law::by_law;
 use crate::progress::Progress;
 use cost_laws::CostLaw;
 use dp_model::Model;
+use solve_start::by_law;
 use width_loop::{GapSummary, Turn, bound_after};
 
 /// What follows a closed pass, under a law of costs; its bound is counted in.

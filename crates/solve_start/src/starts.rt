@@ -7,8 +7,9 @@ ghost use Rattle.successors.specs.Starts.{StartFits};
 ghost use Rattle.successors.specs.Starts as begins;
 ghost use Rattle.solve_start.specs.Targets.{IsTarget};
 
-use cost_laws::{CostLaw, MaxLeast, MaxMost, MaxPlus, MinLeast, MinMost, MinPlus};
-use dp_model::{JoinOp, Model as DpModel, Options};
+use crate::by_law;
+use cost_laws::CostLaw;
+use dp_model::{Model as DpModel, Options};
 use state_layout::{Layout, Node};
 use std::alloc::{AllocError, Global};
 use successors::{ExpandEnd, Expander, Start};
@@ -35,14 +36,7 @@ pub fn start_at(alloc: Global, model: &DpModel, prune: bool) -> Result<Start, Ex
     ensures start { Answers result (begins.start_at model.now prune) }
     ensures fits { IfOk result (StartFits model.now) }
 {
-    match (model.minimize(), model.join()) {
-        (true, JoinOp::Plus) => start_by::<MinPlus>(alloc, model, prune),
-        (true, JoinOp::Most) => start_by::<MinMost>(alloc, model, prune),
-        (true, JoinOp::Least) => start_by::<MinLeast>(alloc, model, prune),
-        (false, JoinOp::Plus) => start_by::<MaxPlus>(alloc, model, prune),
-        (false, JoinOp::Most) => start_by::<MaxMost>(alloc, model, prune),
-        (false, JoinOp::Least) => start_by::<MaxLeast>(alloc, model, prune),
-    }
+    by_law!(model, start_by(alloc, model, prune))
 }
 
 /// The node of the target, which is an inner state, and the shard that owns it. Only memory can be wanting.
