@@ -2,6 +2,8 @@
 use Rattle.std.proofs.Common.{◌≡◌, ℕ, ◌≤◌, Bool, List, [], ◌∷◌, length, Option, Some, None, ◌⊎◌, inl, inr, refl, sym, ◌∙◌, subst, arith}
 use Rattle.std.specs.Prelude.{IfSome, IfOk, IfErr, Result, Ok, Err}
 use Rattle.std.specs.Result.{IsErrAnd}
+use Rattle.command_line.specs.declared.jobs.Engine.{Engine}
+use Rattle.command_line.specs.declared.jobs.Engine.TheVariants as engines
 use Rattle.command_line.specs.declared.jobs.Job.{Job}
 use Rattle.command_line.specs.declared.jobs.Job.TheVariants as jobs
 use Rattle.dp_model.specs.declared.answers.Options.{Options}
@@ -19,9 +21,9 @@ use Rattle.run_ends.specs.declared.status.Status.{Status}
 use Rattle.run_ends.specs.declared.status.Status.TheVariants as statuses
 use Rattle.cert_types.specs.declared.cert.Cert.{Cert}
 use Rattle.cert_laws.specs.Checks.{checked}
-use Rattle.solve_top.specs.Behind.{Solves}
+use Rattle.solve_top.specs.Behind.{SolvesBy}
 use Rattle.solve_top.specs.Jobs.{Asks, names_of, third_of}
-use Rattle.solve_top.specs.Outcomes.{NoMemory, Solving, Replayed, Checked, Shown, ComesOf, Does, Printed}
+use Rattle.solve_top.specs.Outcomes.{NoMemory, Solving, SolvingBest, Replayed, Checked, Shown, ComesOf, Does, Printed}
 use Rattle.solve_top.specs.Runs.{outcome_of, RefusedBy, IsUnread, GiveNothing}
 use Rattle.solve_top.specs.Texts.{Means, IsRefused, MeanCert, MeanModel, MeanSteps, AreRefused, Third}
 use Rattle.solve_top.specs.declared.causes.NoModel.{NoModel}
@@ -33,9 +35,12 @@ pub as_printed : {m : Model} {options : Options} {gap : Bool} {printing : Printi
 as_printed c = elim c.printed [ inl h ↦ inl (h.0, h.1) | inr h ↦ inr (h.0, h.1) ]
 
 -- a model that was loaded was searched
-pub searched : (files : List ℕ → Option (List ℕ)) (domain problem : List ℕ) (options : Options) (gap certificate : Bool) (m : Model) (before after : Option (List ℕ)) (status : Status) →
-    OfTexts files (domain ∷ problem ∷ []) (λ texts. MeanModel texts m) → Solves m options gap certificate before after status → Does (jobs.Solve domain problem options gap certificate) files before after status
-searched files domain problem options gap certificate m before after status texts s = λ words asks. (Solving m options gap s.run s.behind, (domain, problem, certificate, asks, texts, s.right, s.word, s.is_behind), s.printed)
+pub searched : (files : List ℕ → Option (List ℕ)) (domain problem : List ℕ) (options : Options) (gap certificate : Bool) (engine : Engine) (announce : Bool) (m : Model) (before after : Option (List ℕ)) (status : Status) →
+    OfTexts files (domain ∷ problem ∷ []) (λ texts. MeanModel texts m) → SolvesBy engine m options gap announce certificate before after status → Does (jobs.Solve domain problem options gap certificate engine announce) files before after status
+searched files domain problem options gap certificate engines.Beam announce m before after status texts s =
+    λ words asks. (Solving m options gap announce s.run s.follows.0, (domain, problem, certificate, asks, texts, s.right, s.word, s.follows.1), s.follows.2)
+searched files domain problem options gap certificate engines.Best announce m before after status texts s =
+    λ words asks. (SolvingBest m options s.run s.follows.0, (domain, problem, gap, certificate, announce, asks, texts, s.right, s.word, s.follows.1), s.follows.2)
 
 -- a list was replayed, or memory ran out
 pub was_replayed : (files : List ℕ → Option (List ℕ)) (domain problem list : List ℕ) (m : Model) (steps : List ℕ) (before after : Option (List ℕ)) (status : Status) →
