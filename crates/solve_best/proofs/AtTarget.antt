@@ -30,11 +30,10 @@ module _ (m : Model) (options : Options) where
     λ trusted steps other s better. is.none_better steps other s better,
   )
 
-  pub base_target : (run : Run) (found : Found) (cost : ℤ) (verdict : Verdict) → IsBaseTarget m found → cost ≡ found.cost → verdict ≡ verdicts.Optimal cost → run ≡ bare (Some found) verdict → IsRight m options run
-  base_target run found cost verdict is same told known =
+  pub base_target : (run : Run) (found : Found) (cost : ℤ) → IsBaseTarget m found → cost ≡ found.cost → run ≡ bare (Some found) (verdicts.Optimal cost) → IsRight m options run
+  base_target run found cost is same known =
       let whole : ℤ → Run = λ (c : ℤ). bare (Some found) (verdicts.Optimal c) in
-      let by : Verdict → Run = bare (Some found) in
-      subst (IsRight m options) (sym (known ∙ ap by told ∙ ap whole same)) (optimal found is)
+      subst (IsRight m options) (sym (known ∙ ap whole same)) (optimal found is)
 
   -- the target is not allowed
   infeasible : IsForbiddenTarget m → IsRight m options (bare None verdicts.Infeasible)

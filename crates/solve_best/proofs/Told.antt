@@ -16,14 +16,15 @@ use Rattle.run_ends.specs.declared.status.Status.TheVariants as statuses
 use Rattle.solve_best.specs.Texts.{IsPrinted, claim_of, ending_status, ending_text, front_text}
 use Rattle.solve_report.proofs.Written.{TakesFront-append, TakesFront-longer}
 
--- what is known of an answer that is a failure, or is none
-pub of_err : {A : Type 0} {P : Type 0} (r : Result A Failed) → is_err r ≡ true → OnErr r P → P
-of_err (Ok done) failed known = absurd (cc)
+-- what is known where a call failed
+pub of_err : {P : Type 0} (r : Result (Unit {0}) Failed) → true ≡ is_err r → OnErr r P → P
+of_err (Ok done) failed known = absurd (grind (arith, failed))
 of_err (Err e) failed known = known
 
-pub of_ok : {A : Type 0} {P : Type 0} (r : Result A Failed) → is_err r ≡ false → OnOk r P → P
+-- what is known where a call did not fail
+pub of_ok : {P : Type 0} (r : Result (Unit {0}) Failed) → false ≡ is_err r → OnOk r P → P
 of_ok (Ok done) well known = known
-of_ok (Err e) well known = absurd (cc)
+of_ok (Err e) well known = absurd (grind (arith, well))
 
 module _ (m : Model) (run : BestRun) (before mid after : Option (List ℕ)) where
   abbrev front : List ℕ

@@ -1,5 +1,5 @@
 -- What follows for all lists of what the target is found to be.
-use Rattle.std.proofs.Common.{◌≡◌, ℕ, Bool, true, false, List, [], ◌∷◌, refl, sym, ap, ◌∙◌, subst, Option, None, ℤ, Ok, Err, arith, fold}
+use Rattle.std.proofs.Common.{◌≡◌, ℕ, Bool, true, false, List, [], ◌∷◌, refl, sym, ap, ◌∙◌, subst, None, ℤ, Ok, Err, arith, fold}
 use Rattle.std.proofs.lemmas.Int.{ints}
 use Rattle.dp_model.specs.Costs.{InRange, IsBetter, better_of}
 use Rattle.dp_model.specs.declared.answers.FaultAt.{FaultAt}
