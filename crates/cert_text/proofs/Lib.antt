@@ -6,3 +6,4 @@ pub mod Spelled
 pub mod ReadBack
 pub mod Only
 pub mod FirstBad
+pub mod Holding

@@ -3,6 +3,7 @@
 
 mod ends;
 mod heads;
+mod held;
 mod laws;
 mod layers;
 mod reading;

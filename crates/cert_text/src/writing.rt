@@ -1,11 +1,14 @@
-//! The lines of a certificate, written to a sink one after another, without memory.
+//! The lines of a certificate, written to a sink one after another. The lines of a layer's nodes are written many at once; what is
+//! held of them takes no memory but the stack's.
 
 ghost use Rattle.std.specs.Prelude.{◌≡◌, ◌++◌, length};
 ghost use Rattle.std.specs.List.{flat_map};
 ghost use Rattle.dp_base.specs.Bytes.{line};
+ghost use Rattle.solve_report.specs.Adding.{Adds};
 ghost use Rattle.solve_report.specs.Puts.{Puts};
 ghost use Rattle.cert_text.specs.Texts.{claim_lines, end_line, flag_word, head_lines, keep_line, layer_lines, listed_lines, node_line, prune_line, text_of_lines};
 
+use crate::held::{Held, write_held};
 use cert_types::CertNode;
 use dp_base::Seq;
 use dp_model::{Claim, Found, Keep, Model};
@@ -139,15 +142,64 @@ fn put_node<S: Sink>(out: &mut S, model: &Model, node: CertNode) -> Result<(), F
     }
 }
 
+/// Writes what is held of lines, and then the line of a node.
+fn add_behind<S: Sink>(
+    out: &mut S,
+    held: &mut Held,
+    model: &Model,
+    node: CertNode,
+) -> Result<(), Failed>
+    ensures { Adds (S.taken out.old) (S.taken out.new) (S.faults out.old) (S.faults out.new)
+        held.old.bytes.items held.new.bytes.items (line (node_line model.now node)) result }
+{
+    write_held(out, held)?;
+    put_node(out, model, node)
+}
+
+/// Adds the line of a node to those that are held, which are written where it has no room.
+fn add_node<S: Sink>(
+    out: &mut S,
+    held: &mut Held,
+    model: &Model,
+    node: CertNode,
+) -> Result<(), Failed>
+    ensures { Adds (S.taken out.old) (S.taken out.new) (S.faults out.old) (S.faults out.new)
+        held.old.bytes.items held.new.bytes.items (line (node_line model.now node)) result }
+{
+    let before = held.bytes.len();
+    match put_node(held, model, node) {
+        Ok(()) => Ok(()),
+        Err(_) => {
+            held.bytes.truncate(before);
+            add_behind(out, held, model, node)
+        }
+    }
+}
+
+/// Adds the lines of nodes.
+fn add_nodes<S: Sink>(
+    out: &mut S,
+    held: &mut Held,
+    model: &Model,
+    nodes: &[CertNode],
+) -> Result<(), Failed>
+    ensures { Adds (S.taken out.old) (S.taken out.new) (S.faults out.old) (S.faults out.new)
+        held.old.bytes.items held.new.bytes.items (flat_map (λ n. line (node_line model.now n)) nodes.now) result }
+{
+    for node in nodes {
+        add_node(out, held, model, *node)?;
+    }
+    Ok(())
+}
+
 /// Writes the lines of nodes.
 fn put_nodes<S: Sink>(out: &mut S, model: &Model, nodes: &[CertNode]) -> Result<(), Failed>
     ensures { Puts (S.taken out.old) (S.taken out.new) (S.faults out.old) (S.faults out.new)
         (flat_map (λ n. line (node_line model.now n)) nodes.now) result }
 {
-    for node in nodes {
-        put_node(out, model, *node)?;
-    }
-    Ok(())
+    let mut held = Held::new();
+    add_nodes(out, &mut held, model, nodes)?;
+    write_held(out, &mut held)
 }
 
 /// How many nodes there are.

@@ -1,6 +1,7 @@
 -- What the answer of a pass says.
-use Rattle.std.proofs.Common.{◌≡◌, ℕ, ◌+◌, ◌-◌, ◌≤◌, ◌<◌, ◌^◌, zero, List, [], ◌∷◌, ◌++◌, length, take, drop, Option, None, refl, sym, subst, ◌∙◌, arith}
-use Rattle.std.specs.Prelude.{ℤ}
+use Rattle.std.proofs.Common.{◌≡◌, ℕ, ◌+◌, ◌-◌, ◌≤◌, ◌<◌, ◌^◌, ◌⊎◌, inl, inr, Bool, true, false, zero, List, [], ◌∷◌, ◌++◌, length, take, drop, Option, None, refl, sym, subst, ◌∙◌, arith}
+use Rattle.std.specs.Prelude.{ℤ, IsTrue, ◌↔◌}
+use Rattle.std.proofs.lemmas.Bool.{cases_lt}
 use Rattle.std.proofs.lemmas.List.{take-append-drop, length-take-le}
 use Rattle.dp_model.specs.declared.answers.Keep.{Keep}
 use Rattle.board_words.specs.Steps.{best_known}
@@ -19,7 +20,7 @@ use Rattle.pass_ledger.proofs.Lists.{has_left}
 use Rattle.pass_ledger.proofs.Pairs.{enough}
 use Rattle.state_layout.specs.declared.node.Node.{Node}
 use Rattle.shard_core.specs.declared.shard.ShardEnd.{ShardEnd}
-use Rattle.pass_ends.specs.Ends.{HasDrawn, IsBestOf, IsCause, IsLowered, IsClosed, IsPassEnd, IsLegal, dropped_of}
+use Rattle.pass_ends.specs.Ends.{HasDrawn, HasLeft, IsBestOf, IsCause, IsLowered, IsClosed, IsPassEnd, IsLegal, dropped_of}
 use Rattle.pass_ends.specs.Left.{AreDropped, AreEnds, AreLeft}
 use Rattle.pass_ends.specs.declared.answers.PassEnd.{PassEnd}
 use Rattle.pass_ends.specs.declared.answers.PassEnd.TheVariants as ends
@@ -48,6 +49,14 @@ few_reached m keep pairs are n le =
 some_there : (xs : List Node) → 0 < length xs → (n : Node) × Has xs n
 some_there [] lt = absurd (omega (arith, lt))
 some_there (x ∷ xs) lt = (x, (zero, refl))
+
+below_or_not : (n s : ℕ) → (b : Bool) → ((0 < n) × (2 ^ 56 ≤ s) → b ≡ true) → b ≡ false → 0 < n → (s < 2 ^ 56) ⊎ (2 ^ 56 ≤ s) → s < 2 ^ 56
+below_or_not n s b says is some (inl less) = less
+below_or_not n s b says is some (inr more) = let clash : true ≡ false = sym (says (some, more)) ∙ is in absurd (cc)
+
+-- a share that memory can hold, where a node was dropped
+pub share_below : (b : Bool) (n s : ℕ) → IsTrue b ↔ ((0 < n) × (2 ^ 56 ≤ s)) → b ≡ false → 0 < n → s < 2 ^ 56
+share_below b n s says is some = below_or_not n s b says.1 is some (cases_lt s (2 ^ 56))
 
 module _ (p : Pass) (records : List ShardRecord) (before after : View) (tally : Tally) (cause : ℕ) (left : AreLeft p records before after tally cause) where
   counted : IsCounted p records
@@ -95,13 +104,24 @@ module _ (p : Pass) (records : List ShardRecord) (before after : View) (tally : 
   -- where memory ran out nothing is told but the numbers
   pub without_memory : (dropped : ℕ) (end : PassEnd) → end ≡ ends.Halted causes.Memory tally.visited dropped None → IsPassEnd p before after end
   without_memory dropped end is =
-      let h : IsPassEnd p before after (ends.Halted causes.Memory tally.visited dropped None) = (drew, tt, record { cause_is = tt; best_is = λ other. absurd (other refl) }) in
+      let h : IsPassEnd p before after (ends.Halted causes.Memory tally.visited dropped None) = (drew, tt, record { cause_is = tt; best_is = λ other. absurd (other refl) }, λ other. absurd (other refl)) in
       subst (λ (e : PassEnd). IsPassEnd p before after e) (sym is) h
 
-  pub halts : (dropped : ℕ) (why : Cause) → IsCause p before after why → (best : Option Found) → IsLegal p.model best → IsLowered p (best_known before) best (best_known after)
-      → (end : PassEnd) → end ≡ ends.Halted why tally.visited dropped best → IsPassEnd p before after end
-  halts dropped why cause_is best legal lowered end is =
-      let h : IsPassEnd p before after (ends.Halted why tally.visited dropped best) = (drew, legal, record { cause_is = cause_is; best_is = λ other. lowered }) in
+  what_is_left : (dropped : ℕ) (floor : Option ℤ) → AreDropped p records dropped floor → (best : Option Found) → IsBestOf p records best → HasLeft p before after dropped best
+  what_is_left dropped floor drops best held =
+      record {
+        records = records;
+        long = left.long;
+        together = left.together;
+        drops = drops.count_is;
+        held_is = held;
+        best_is = left.best_is;
+      }
+
+  pub halts : (dropped : ℕ) (floor : Option ℤ) → AreDropped p records dropped floor → (why : Cause) → IsCause p before after why → (best : Option Found) → IsLegal p.model best → IsLowered p (best_known before) best (best_known after)
+      → IsBestOf p records best → (end : PassEnd) → end ≡ ends.Halted why tally.visited dropped best → IsPassEnd p before after end
+  halts dropped floor drops why cause_is best legal lowered held end is =
+      let h : IsPassEnd p before after (ends.Halted why tally.visited dropped best) = (drew, legal, record { cause_is = cause_is; best_is = λ other. lowered }, λ other. what_is_left dropped floor drops best held) in
       subst (λ (e : PassEnd). IsPassEnd p before after e) (sym is) h
 
   pub ends_left : (xs : List ShardEnd) → xs ≡ tally.ends.items → AreEnds p records xs tally.logs.items

@@ -1,6 +1,6 @@
 //! The answer of a pass.
 
-ghost use Rattle.std.specs.Prelude.{◌≡◌, ◌≤◌, ℕ, List, None, IfOk};
+ghost use Rattle.std.specs.Prelude.{◌≡◌, ◌≤◌, ◌<◌, ◌↔◌, IsTrue, ℕ, List, None, IfOk};
 ghost use Rattle.cost_laws.specs.Orders.{IsLawOf};
 ghost use Rattle.board_words.specs.declared.seat.View.{View};
 ghost use Rattle.pass_ledger.specs.Passes.{Pass};
@@ -25,7 +25,8 @@ const MOST_SHARE: u64 = 72_057_594_037_927_936;
 ///
 /// `visited` is how many of the numbers that it drew are below the budget, `dropped` how many nodes its shards dropped, and `best`
 /// the best solution that they hold, of the first shard among those that hold one as good. `least_floor` is the best floor of the
-/// dropped nodes: `None` where none was dropped, or where one has no floor. Of a halted pass `dropped` is only told: no clause ties it.
+/// dropped nodes: `None` where none was dropped, or where one has no floor. Of a pass that was halted for want of memory `dropped` is only told: no
+/// clause ties it.
 #[derive(Debug, Drop)]
 pub enum PassEnd {
     /// Each shard closed all its layers.
@@ -56,6 +57,13 @@ pub fn out_of_memory(visited: u64, dropped: u64) -> PassEnd
     }
 }
 
+/// Whether no memory can hold what a shard of the pass kept: it dropped a node, so it kept as many as the share.
+fn is_beyond_memory(tally: &Tally, dropped: Dropped) -> bool
+    ensures { IsTrue result ↔ ((0 < dropped.count) × (MOST_SHARE ≤ tally.now.share)) }
+{
+    dropped.count > 0 && tally.share >= MOST_SHARE
+}
+
 /// The answer of a pass that was not halted.
 fn closed<L: CostLaw>(
     alloc: Global,
@@ -68,7 +76,7 @@ fn closed<L: CostLaw>(
     ensures { (p : Pass) (records : List ShardRecord) (before after : View) → IsLawOf p.model L.minimize L.operator → AreLeft p records before after tally.now cause
         → AreDropped p records dropped.count dropped.least_floor → IfOk result (IsPassEnd p before after) }
 {
-    if dropped.count > 0 && tally.share >= MOST_SHARE {
+    if is_beyond_memory(tally, dropped) {
         return Err(AllocError);
     }
     Ok(PassEnd::Closed {

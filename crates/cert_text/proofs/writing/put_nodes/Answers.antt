@@ -1,13 +1,8 @@
-use Rattle.dp_base.specs.Bytes.{line}
-use Rattle.solve_report.proofs.Written.{Puts-item, Puts-item_stop}
-use Rattle.cert_text.specs.Texts.{node_line}
-use Rattle.cert_types.specs.declared.nodes.CertNode.{CertNode}
+use Rattle.cert_text.proofs.Holding.{Puts-added, Puts-added_stop}
 use Rattle.cert_text.proofs.writing.put_nodes.Goals as goal
 
-pub loop-node-preserved : goal.loop-node-preserved
-loop-node-preserved g c =
-    Puts-item (λ (n : CertNode). line (node_line c.args.model.now n)) c.args.nodes.now c.loop-node.node-index _ c.loop-node-test.true c.loop-node.invariant c.in_ok-put_node.ensures
+pub returns-in_err-add_nodes : goal.returns-in_err-add_nodes
+returns-in_err-add_nodes g c = Puts-added_stop c.new-held.ensures c.in_err-add_nodes.ensures c.from_residual.ensures.0
 
-pub returns-in_err-put_node : goal.returns-in_err-put_node
-returns-in_err-put_node g c =
-    Puts-item_stop (λ (n : CertNode). line (node_line c.args.model.now n)) c.args.nodes.now c.loop-node.node-index _ c.loop-node-test.true c.loop-node.invariant c.in_err-put_node.ensures c.from_residual.ensures.0
+pub returns : goal.returns
+returns g c = Puts-added c.new-held.ensures c.in_ok-add_nodes.ensures c.write_held.ensures.wrote

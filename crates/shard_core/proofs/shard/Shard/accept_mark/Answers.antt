@@ -12,4 +12,4 @@ returns-in-Err-clause-same g c = λ p r st. accept_none p c.args.self.now r st c
 pub returns-clause-taken : goal.returns-clause-taken
 returns-clause-taken g c = λ p r suited st can.
     mark_of p c.args.self.now r st c.args.from c.args.layer c.args.to_you c.args.total can c.note_total.new.layers c.note_total.ensures.layouts
-    c.note_total.ensures.nodes c.in_default-note_total.ensures.marked c.note_total.ensures.none c.note_total.ensures.others _ (ap (λ (n : ℕ). slice_set c.args.self.now.open_layers.items c.args.from n) c.in-Ok.ensures)
+    c.note_total.ensures.nodes c.in_default-note_total.ensures.marked c.note_total.ensures.none c.note_total.ensures.others _ (ap (λ (n : ℕ). slice_set c.args.self.now.open_layers.items c.args.from n) c.in-Ok.ensures.sum)

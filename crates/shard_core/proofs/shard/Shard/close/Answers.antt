@@ -21,6 +21,6 @@ returns-clause-closed g c = λ p r suited st ready.
     c.remember.new.past c.remember.ensures.layout
     (c.in_ok-remember.ensures.nodes ∙ ap (λ (ns : List Node). c.args.self.now.past.nodes ++ map past_node (past_with c.args.self.now.keep ns)) (c.deref.ensures.value ∙ c.list-2.ensures))
     c.take_layer.new.layers c.take_layer.ensures.layouts c.in_ok-best.ensures.nodes c.in_ok-best.ensures.busy
-    c.from_vec.result (search rules) c.clear_counts.new.counts c.clear_counts.ensures.zero c.clear_counts.ensures.long c.in_ok-layer.layer c.in_ok-layer.ensures
-    (record { kept = c.len.result; dropped = c.in_ok-best.best.dropped; least_floor = c.in_ok-best.best.least_floor }) (search rules) split.1 refl c.in_ok-dropped.dropped c.in_ok-dropped.ensures
+    c.from_vec.result (search rules) c.clear_counts.new.counts c.clear_counts.ensures.zero c.clear_counts.ensures.long c.in_ok-layer.layer c.in_ok-layer.ensures.sum
+    (record { kept = c.len.result; dropped = c.in_ok-best.best.dropped; least_floor = c.in_ok-best.best.least_floor }) (search rules) split.1 refl c.in_ok-dropped.dropped c.in_ok-dropped.ensures.sum
     g.L.CostLaw.minimize g.L.CostLaw.operator suited.law c.merged_floor-self.result c.merged_floor-self.ensures
