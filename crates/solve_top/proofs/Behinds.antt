@@ -1,9 +1,9 @@
 -- What was written behind a verdict, and a search with its certificate.
-use Rattle.std.proofs.Common.{◌≡◌, ℕ, ◌⊎◌, inl, inr, Bool, true, false, List, [], ◌∷◌, ◌++◌, Option, Some, None, Result, Ok, Err, refl, sym, subst, ◌∙◌}
+use Rattle.std.proofs.Common.{◌≡◌, ℕ, ◌⊎◌, inl, inr, Bool, true, false, List, [], ◌∷◌, ◌++◌, Option, Some, None, Result, Ok, Err, refl, sym, subst, ◌∙◌, ◌≤◌, arith}
 use Rattle.std.specs.Prelude.{codes, IfSome, OnOk, OnErr}
 use Rattle.std.specs.List.{AllByRecursion}
 use Rattle.std.proofs.lemmas.List.{append-nil}
-use Rattle.dp_outside.specs.Outside.{Takes, TakesFront}
+use Rattle.dp_outside.specs.Outside.{Rose, Takes, TakesFront}
 use Rattle.dp_outside.specs.declared.failing.Failed.{Failed}
 use Rattle.dp_outside.proofs.Steps.{Takes-more}
 use Rattle.dp_base.specs.Bytes.{line}
@@ -166,6 +166,17 @@ follows_as m options others certificate before after text claimed wanted status 
 pub held_claim : (m : Model) (o : Option Claim) (claim : Claim) → IfSome o (ClaimHolds m) → o ≡ Some claim → ClaimHolds m claim
 held_claim m o claim holds is = rw is at holds
 
+-- where a failed write claims nothing, it was a later write that failed
+pub rose_behind : (o : Option Claim) (claim : Claim) (status : Status) (f g : ℕ) → (status ≡ statuses.WriteFault → o ≡ None) → o ≡ Some claim → (status ≡ statuses.WriteFault) ⊎ Rose f g → ((status ≡ statuses.WriteFault) × (g ≡ f)) ⊎ Rose f g
+rose_behind o claim status f g none some (inl fault) = let clash : None ≡ Some claim = sym (none fault) ∙ some in absurd cc
+rose_behind o claim status f g none some (inr rose) = inr rose
+
+-- a write of the text or of what stands behind it failed
+pub rose_in_all : (status : Status) (first second third : ℕ) → (status ≡ statuses.WriteFault → Rose first second) → first ≤ second → ((status ≡ statuses.WriteFault) × (third ≡ second)) ⊎ Rose second third → Rose first third
+rose_in_all status first second third before count (inl h) = subst (λ (n : ℕ). Rose first n) (sym h.1) (before h.0)
+rose_in_all status first second third before count (inr (inl rose)) = inl (omega (arith, count, rose))
+rose_in_all status first second third before count (inr (inr most)) = inr most
+
 each_claim : (m : Model) (o : Option Claim) → ((claim : Claim) → o ≡ Some claim → ClaimHolds m claim) → IfSome o (ClaimHolds m)
 each_claim m None h = tt
 each_claim m (Some claim) h = h claim refl
@@ -190,6 +201,15 @@ claim_legal m ss (Ended (verdicts.Legal cost)) claim all is = absurd cc
 claim_legal m ss (Ended (verdicts.Illegal done reason)) claim all is = absurd cc
 claim_legal m ss OutOfMemory claim all is = absurd cc
 
+no_write_fault : (e : Ending) → ending_status e ≡ statuses.WriteFault → ⊥
+no_write_fault (Ended (verdicts.Optimal cost)) h = absurd cc
+no_write_fault (Ended verdicts.Infeasible) h = absurd cc
+no_write_fault (Ended (verdicts.Stopped v)) h = absurd cc
+no_write_fault (Ended (verdicts.Fault f)) h = absurd cc
+no_write_fault (Ended (verdicts.Legal cost)) h = absurd cc
+no_write_fault (Ended (verdicts.Illegal n r)) h = absurd cc
+no_write_fault OutOfMemory h = absurd cc
+
 module _ (m : Model) (options : Options) (gap : Bool) (first second : Option (List ℕ)) (solved : Solved) (c : Concluded m options gap All first second solved) where
   -- the claim that is answered is of a legal list
   pub claims_hold : IfSome solved.claim (ClaimHolds m)
@@ -197,6 +217,10 @@ module _ (m : Model) (options : Options) (gap : Bool) (first second : Option (Li
     | inl h ↦ claim_legal m (solutions c.run) c.run.ending claim c.right.legal (sym h.2 ∙ is)
     | inr h ↦ let clash : None ≡ Some claim = sym h.2 ∙ is in absurd cc
   ])
+
+  -- after a failed write nothing is claimed
+  pub unclaimed : solved.status ≡ statuses.WriteFault → solved.claim ≡ None
+  unclaimed is = elim c.printed [ inl h ↦ absurd (no_write_fault c.run.ending (sym h.0 ∙ is)) | inr h ↦ h.2 ]
 
   -- the record was printed, and this behind it
   pub solves : (announce certificate : Bool) (third : Option (List ℕ)) (status : Status) → Follows certificate m options first third (record_text All m c.run) (claim_of c.run) (ending_status c.run.ending) status → Solves m options gap announce certificate first third status
@@ -218,12 +242,24 @@ claim_with_legal m statuses.TooLong found claim legal is = absurd cc
 claim_with_legal m statuses.Stopped found claim legal is = absurd cc
 claim_with_legal m statuses.Fault found claim legal is = absurd cc
 
+no_best_write_fault : (e : BestEnding) → bests.ending_status e ≡ statuses.WriteFault → ⊥
+no_best_write_fault (best.Ended (verdicts.Optimal cost)) h = absurd cc
+no_best_write_fault (best.Ended verdicts.Infeasible) h = absurd cc
+no_best_write_fault (best.Ended (verdicts.Stopped v)) h = absurd cc
+no_best_write_fault (best.Ended (verdicts.Fault f)) h = absurd cc
+no_best_write_fault (best.Ended (verdicts.Legal cost)) h = absurd cc
+no_best_write_fault (best.Ended (verdicts.Illegal n r)) h = absurd cc
+no_best_write_fault best.OutOfMemory h = absurd cc
+
 module _ (m : Model) (options : Options) (first second : Option (List ℕ)) (solved : Solved) (c : bests.Concluded m options first second solved) where
   pub best_claims_hold : IfSome solved.claim (ClaimHolds m)
   best_claims_hold = each_claim m solved.claim (λ claim is. elim c.printed [
     | inl h ↦ claim_with_legal m (bests.ending_status c.run.ending) c.run.found claim c.right.legal (sym h.2 ∙ is)
     | inr h ↦ let clash : None ≡ Some claim = sym h.2 ∙ is in absurd cc
   ])
+
+  pub best_unclaimed : solved.status ≡ statuses.WriteFault → solved.claim ≡ None
+  best_unclaimed is = elim c.printed [ inl h ↦ absurd (no_best_write_fault c.run.ending (sym h.0 ∙ is)) | inr h ↦ h.2 ]
 
   pub solves_best : (certificate : Bool) (third : Option (List ℕ)) (status : Status) → Follows certificate m (keeping_all options) first third (bests.run_text m c.run) (bests.claim_of c.run) (bests.ending_status c.run.ending) status → SolvesBest m options certificate first third status
   solves_best certificate third status follows = record { run = c.run; right = c.right; word = c.word; follows = follows }

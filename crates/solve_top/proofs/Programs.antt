@@ -1,6 +1,6 @@
 -- What a run of the program came to.
 use Rattle.std.proofs.Common.{◌≡◌, ℕ, ◌≤◌, Bool, List, [], ◌∷◌, length, Option, Some, None, ◌⊎◌, inl, inr, refl, sym, ◌∙◌, subst, arith}
-use Rattle.std.specs.Prelude.{IfSome, IfOk, IfErr, Result, Ok, Err}
+use Rattle.std.specs.Prelude.{IfSome, IfOk, IfErr, OnOk, OnErr, Result, Ok, Err}
 use Rattle.std.specs.Result.{IsErrAnd}
 use Rattle.command_line.specs.declared.jobs.Engine.{Engine}
 use Rattle.command_line.specs.declared.jobs.Engine.TheVariants as engines
@@ -14,7 +14,11 @@ use Rattle.solve_top.specs.Files.{IsText, IsShort, IsLong, AreTexts, OfTexts}
 use Rattle.solve_passes.specs.Ongoing.{Concluded}
 use Rattle.solve_passes.specs.Records.{Ending, Ended, OutOfMemory, ending_status, record_text}
 use Rattle.run_ends.specs.declared.solved.Solved.{Solved}
+use Rattle.dp_base.specs.declared.place.Place.{Place}
 use Rattle.dp_outside.specs.Outside.{Takes, TakesFront}
+use Rattle.dp_outside.specs.declared.failing.Failed.{Failed}
+use Rattle.solve_report.specs.Lines.{refusal_text}
+use Rattle.solve_report.specs.Puts.{Puts}
 use Rattle.run_ends.specs.Statuses.{code_of}
 use Rattle.solve_passes.specs.declared.progress.Printing.{Printing}
 use Rattle.run_ends.specs.declared.status.Status.{Status}
@@ -70,6 +74,12 @@ gave_nothing files job words causes.Memory asks h = tt
 
 pub did_nothing : (files : List ℕ → Option (List ℕ)) (job : Job) (e : NoModel) (before after : Option (List ℕ)) (status : Status) → GiveNothing (third_of job) files (names_of job) e → Printed before after (outcome_of e) status → Does job files before after status
 did_nothing files job e before after status h printed = λ words asks. (outcome_of e, gave_nothing files job words e asks h, printed)
+
+-- a refusal was printed
+pub refused_printed : (before after : Option (List ℕ)) (f g : ℕ) (cause : NoModel) (number : ℕ) (place : Place) (offset : Option ℕ) (put : Result (Unit {0}) Failed) (status : Status) → cause ≡ causes.Refused number place offset →
+    Puts before after f g (refusal_text place offset number) put → OnOk put (status ≡ statuses.Refused) → OnErr put (status ≡ statuses.WriteFault) → Printed before after (outcome_of cause) status
+refused_printed before after f g cause number place offset (Ok done) status is puts ok err = subst (λ (e : NoModel). Printed before after (outcome_of e) status) (sym is) (inl (ok, puts.ok))
+refused_printed before after f g cause number place offset (Err failed) status is puts ok err = subst (λ (e : NoModel). Printed before after (outcome_of e) status) (sym is) (inr (err, puts.err))
 
 not_read_fault : (e : Ending) → ending_status e ≡ statuses.ReadFault → ⊥
 not_read_fault (Ended (verdicts.Optimal c)) h = absurd cc

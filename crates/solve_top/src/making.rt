@@ -1,6 +1,6 @@
 //! A search, and the certificate behind its verdict.
 
-ghost use Rattle.std.specs.Prelude.{◌≡◌, ◌⊎◌, List, ℕ, IfSome, Option};
+ghost use Rattle.std.specs.Prelude.{◌≡◌, ◌⊎◌, List, ℕ, IfSome, Option, None};
 ghost use Rattle.dp_outside.specs.Outside.{Rose};
 ghost use Rattle.dp_model.specs.declared.answers.Claim.{Claim};
 ghost use Rattle.pass_ends.specs.Passes.{AreOptions};
@@ -61,11 +61,12 @@ fn certify<S: Sink>(
     certificate: bool,
     solved: &Solved,
 ) -> Status
-    requires { IfSome solved.now.claim (ClaimHolds model.now) }
+    requires holds { IfSome solved.now.claim (ClaimHolds model.now) }
+    requires unclaimed { solved.now.status ≡ statuses.WriteFault → solved.now.claim ≡ None }
     ensures printed { (before : Option (List ℕ)) (text : List ℕ) (claimed : Option Claim) (wanted : Status) → WasPrinted before (S.taken out.old) text claimed wanted solved.now
         → Follows certificate model.now options.now before (S.taken out.new) text claimed wanted result }
     ensures read_fault { result ≡ statuses.ReadFault → solved.now.status ≡ statuses.ReadFault }
-    ensures failed { result ≡ statuses.WriteFault → (solved.now.status ≡ statuses.WriteFault) ⊎ Rose (S.faults out.old) (S.faults out.new) }
+    ensures failed { result ≡ statuses.WriteFault → ((solved.now.status ≡ statuses.WriteFault) × (S.faults out.new ≡ S.faults out.old)) ⊎ Rose (S.faults out.old) (S.faults out.new) }
 {
     if !certificate {
         return solved.status;

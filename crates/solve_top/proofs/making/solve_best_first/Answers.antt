@@ -1,10 +1,10 @@
 use Rattle.solve_best.specs.Texts.{claim_of, ending_status, run_text}
-use Rattle.solve_top.proofs.Behinds.{best_claims_hold, best_no_read_fault, follows_as, solves_best}
+use Rattle.solve_top.proofs.Behinds.{best_claims_hold, best_no_read_fault, best_unclaimed, follows_as, rose_in_all, solves_best}
 use Rattle.solve_top.proofs.making.solve_best_first.Goals as goal
 use Rattle.solve_top.specs.Jobs.{keeping_all}
 
-pub certify-requires : goal.certify-requires
-certify-requires g c = best_claims_hold c.args.model.now c.args.options.now (g.S.Sink.taken c.args.out.now) (g.S.Sink.taken c.solve_best-solved.new.out) c.solve_best-solved.result c.solve_best-solved.ensures.concluded
+pub certify-requires-clause-holds : goal.certify-requires-clause-holds
+certify-requires-clause-holds g c = best_claims_hold c.args.model.now c.args.options.now (g.S.Sink.taken c.args.out.now) (g.S.Sink.taken c.solve_best-solved.new.out) c.solve_best-solved.result c.solve_best-solved.ensures.concluded
 
 pub returns-clause-printed : goal.returns-clause-printed
 returns-clause-printed g c =
@@ -17,3 +17,10 @@ returns-clause-printed g c =
 
 pub returns-clause-read_fault : goal.returns-clause-read_fault
 returns-clause-read_fault g c = λ is. best_no_read_fault c.args.model.now c.args.options.now (g.S.Sink.taken c.args.out.now) (g.S.Sink.taken c.solve_best-solved.new.out) c.solve_best-solved.result c.solve_best-solved.ensures.concluded (c.certify.ensures.read_fault is)
+
+pub certify-requires-clause-unclaimed : goal.certify-requires-clause-unclaimed
+certify-requires-clause-unclaimed g c = best_unclaimed c.args.model.now c.args.options.now (g.S.Sink.taken c.args.out.now) (g.S.Sink.taken c.solve_best-solved.new.out) c.solve_best-solved.result c.solve_best-solved.ensures.concluded
+
+pub returns-clause-failed : goal.returns-clause-failed
+returns-clause-failed g c = λ is.
+    rose_in_all c.solve_best-solved.result.status (g.S.Sink.faults c.args.out.now) (g.S.Sink.faults c.solve_best-solved.new.out) (g.S.Sink.faults c.certify.new.out) c.solve_best-solved.ensures.failed c.solve_best-solved.ensures.count (c.certify.ensures.failed is)

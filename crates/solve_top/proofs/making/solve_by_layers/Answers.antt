@@ -1,11 +1,11 @@
 use Rattle.solve_passes.specs.Records.{claim_of, ending_status, record_text}
 use Rattle.solve_passes.specs.declared.progress.Printing.TheVariants.{All}
-use Rattle.solve_top.proofs.Behinds.{claims_hold, solves}
+use Rattle.solve_top.proofs.Behinds.{claims_hold, rose_in_all, solves, unclaimed}
 use Rattle.solve_top.proofs.Programs.{no_read_fault}
 use Rattle.solve_top.proofs.making.solve_by_layers.Goals as goal
 
-pub certify-requires : goal.certify-requires
-certify-requires g c = claims_hold c.args.model.now c.args.options.now c.args.wanted.gap (g.S.Sink.taken c.args.out.now) (g.S.Sink.taken c.solve-solved.new.out) c.solve-solved.result c.solve-solved.ensures.concluded
+pub certify-requires-clause-holds : goal.certify-requires-clause-holds
+certify-requires-clause-holds g c = claims_hold c.args.model.now c.args.options.now c.args.wanted.gap (g.S.Sink.taken c.args.out.now) (g.S.Sink.taken c.solve-solved.new.out) c.solve-solved.result c.solve-solved.ensures.concluded
 
 pub returns-clause-printed : goal.returns-clause-printed
 returns-clause-printed g c =
@@ -15,3 +15,10 @@ returns-clause-printed g c =
 
 pub returns-clause-read_fault : goal.returns-clause-read_fault
 returns-clause-read_fault g c = λ is. no_read_fault c.args.model.now c.args.options.now c.args.wanted.gap All (g.S.Sink.taken c.args.out.now) (g.S.Sink.taken c.solve-solved.new.out) c.solve-solved.result c.solve-solved.ensures.concluded (c.certify.ensures.read_fault is)
+
+pub certify-requires-clause-unclaimed : goal.certify-requires-clause-unclaimed
+certify-requires-clause-unclaimed g c = unclaimed c.args.model.now c.args.options.now c.args.wanted.gap (g.S.Sink.taken c.args.out.now) (g.S.Sink.taken c.solve-solved.new.out) c.solve-solved.result c.solve-solved.ensures.concluded
+
+pub returns-clause-failed : goal.returns-clause-failed
+returns-clause-failed g c = λ is.
+    rose_in_all c.solve-solved.result.status (g.S.Sink.faults c.args.out.now) (g.S.Sink.faults c.solve-solved.new.out) (g.S.Sink.faults c.certify.new.out) c.solve-solved.ensures.failed c.solve-solved.ensures.count (c.certify.ensures.failed is)
