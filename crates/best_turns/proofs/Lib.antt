@@ -1,4 +1,4 @@
-mod Mail
+pub mod Mail
 mod Sitting
 mod Acting
 mod Working

@@ -1,3 +1,4 @@
 pub mod Envelopes
 pub mod Turners
 pub mod Works
+pub mod Plays

@@ -3,6 +3,7 @@
 #![tactic(auto)]
 
 mod envelope;
+mod player;
 mod turner;
 mod work;
 

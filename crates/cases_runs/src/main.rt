@@ -13,7 +13,7 @@ use std::thread::{Builder, Threads};
 use std::{fs, io, thread};
 
 /// The files of cases, in the order in which they are run.
-const FILES: [&str; 18] = [
+const FILES: [&str; 19] = [
     "one_variable.txt",
     "first_form.txt",
     "refusals.txt",
@@ -31,6 +31,7 @@ const FILES: [&str; 18] = [
     "orders.txt",
     "models.txt",
     "guide.txt",
+    "certificates.txt",
     "hostile.txt",
 ];
 

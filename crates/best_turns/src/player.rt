@@ -1,0 +1,47 @@
+//! A shard as threads turn it.
+
+use crate::turner::BestTurner;
+use crate::work::BestBoxes;
+use board_words::{Board, BoardSeat};
+use cost_laws::CostLaw;
+use dom_store::Covers;
+use shard_threads::{Player, Pulse};
+use std::sync::Wait;
+
+impl<'m, L: CostLaw, K: Covers> Player for BestTurner<'m, L, K> {
+    ghost use Rattle.std.specs.Prelude.{ℕ, is_some};
+    ghost use Rattle.pass_ledger.specs.Passes.{Pass};
+    ghost use Rattle.best_turns.specs.Plays.{plays_by};
+
+    type Boxes = BestBoxes;
+
+    ghost Terms = { Pass × ℕ };
+
+    ghost keeps = { plays_by L.minimize L.operator K.prune K.minimize K.operator };
+
+    ghost has_ended = { λ t. is_some t.ended };
+
+    fn turn<R: Wait>(&mut self, rt: &R, board: &Board, boxes: &BestBoxes, seat: &mut BoardSeat) {
+        self.take_turn(rt, board, boxes, seat);
+    }
+
+    fn number(&self) -> u32 {
+        self.shard.me
+    }
+
+    fn turns(&self) -> u64 {
+        self.turns
+    }
+
+    fn has_ended(&self) -> bool {
+        self.ended.is_some()
+    }
+
+    fn pulse(&self) -> Pulse {
+        Pulse {
+            waits: self.shard.waits(),
+            posts: self.shard.visited,
+            letters: self.letters,
+        }
+    }
+}
