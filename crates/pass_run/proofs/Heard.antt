@@ -235,3 +235,10 @@ module _ {A : Type 0} (taken : A → Option (List ℕ)) (faults : A → ℕ) (qu
   -- what it has heard when the turns are over
   pub heard_all : (ear after : Ear A) → ((h : HeardBy) → Hears taken faults h ear → Hears taken faults h after) → IsNewEar queue minimize last ear → Hears taken faults (held_to ear) after
   heard_all ear after between new = between (held_to ear) (hears_new ear new)
+
+  -- the same, by what the sink is when the ear has let it go
+  pub told_at : (ear after : Ear A) (x : A) (m : Bool) → Hears taken faults (held_to ear) after → minimize ≡ m → (ear.out.ghost_name ≡ after.out.ghost_name → x ≡ after.out.now)
+      → IsTold m last (costs_cried after.crier.taken) (taken ear.out.now) (taken x) (faults ear.out.now) (faults x) after.told
+  told_at ear after x m h same follows =
+      subst (λ (s : A). IsTold m last (costs_cried after.crier.taken) (taken ear.out.now) (taken s) (faults ear.out.now) (faults s) after.told) (sym (follows (sym h.sink_is)))
+      (subst (λ (b : Bool). IsTold b last (costs_cried after.crier.taken) (taken ear.out.now) (taken after.out.now) (faults ear.out.now) (faults after.out.now) after.told) same h.told)

@@ -5,7 +5,7 @@ use Rattle.shard_core.specs.Stands.{Suited}
 use Rattle.announcing.specs.Hearing.{costs_cried}
 use Rattle.announcing.specs.Telling.{IsTold}
 use Rattle.pass_ends.specs.Passes.{pass_of}
-use Rattle.pass_run.proofs.Heard.{heard_all, may_hear}
+use Rattle.pass_run.proofs.Heard.{heard_all, may_hear, told_at}
 use Rattle.pass_run.proofs.Playing.{are_held, call_still}
 use Rattle.pass_run.proofs.Running.{regrouped, turned}
 use Rattle.pass_run.proofs.Crosses.{of-turner}
@@ -44,8 +44,7 @@ end_pass-over-requires-clause-begun g c =
     (p, c.args.seat.now.view, c.requires.law, refl, after)
 
 pub returns-in-Ok-clause-answer : goal.returns-in-Ok-clause-answer
-returns-in-Ok-clause-answer g c = λ _.
-    let some = c.requires.may.options_fit.some_workers in
+returns-in-Ok-clause-answer g c = λ some.
     let p = pass_of c.args.model.now c.args.options.now c.args.share some in
     let suited : Suited p g.L.CostLaw.minimize g.L.CostLaw.operator g.K.Covers.prune g.K.Covers.minimize g.K.Covers.operator = record { law = c.requires.law; covering = c.requires.covering; prune_is = c.requires.prune } in
     let b = c.in-Ok.begun in
@@ -71,12 +70,9 @@ pub returns-in-Ok-clause-told : goal.returns-in-Ok-clause-told
 returns-in-Ok-clause-told g c =
     let after = c.turn_in_threads-shards.result.1 in
     let heard = heard_all g.S.Sink.taken g.S.Sink.faults c.args.queue.now c.minimize.result c.args.last _ after c.turn_in_threads-shards.ensures.between (refl, c.requires.crier, refl, refl) in
-    let name = heard.sink_is in
-    let told = subst (λ (b : Bool). IsTold b c.args.last (costs_cried after.crier.taken) (g.S.Sink.taken c.args.out.now) (g.S.Sink.taken after.out.now) (g.S.Sink.faults c.args.out.now) (g.S.Sink.faults after.out.now) after.told) c.minimize.ensures heard.told in
-    let same : c.out-1.given ≡ after.out.now = search rules in
-    subst (λ (s : g.row.S.Denot). IsTold c.args.model.now.minimize c.args.last (costs_cried after.crier.taken) (g.S.Sink.taken c.args.out.now) (g.S.Sink.taken s) (g.S.Sink.faults c.args.out.now) (g.S.Sink.faults s) after.told) (sym same) told
+    told_at g.S.Sink.taken g.S.Sink.faults c.args.queue.now c.minimize.result c.args.last _ after _ c.args.model.now.minimize heard c.minimize.ensures (search rules)
 
 -- a shard may be sent
 pub turn_in_threads-shards-requires-send-P : goal.turn_in_threads-shards-requires-send-P
-turn_in_threads-shards-requires-send-P g c κs within = param_send 0 (lts.arg-7-0 g.row.L g.row.K g.row.R g.row.G g.row.S g.L.laws g.K.laws g.R.laws g.G.laws g.S.laws g.L.CostLaw g.L.CostLaw-dict g.K.Covers g.K.Covers-dict g.R.Threads g.R.Threads-dict g.R.Wait g.R.Wait-dict g.G.Gate g.G.Gate-dict g.S.Sink g.S.Sink-dict κs)
+turn_in_threads-shards-requires-send-P g c κs within = param_send 0 (lts.arg-3-0 g.row.L g.row.K g.row.R g.row.G g.row.S g.L.laws g.K.laws g.R.laws g.G.laws g.S.laws g.L.CostLaw g.L.CostLaw-dict g.K.Covers g.K.Covers-dict g.R.Threads g.R.Threads-dict g.R.Wait g.R.Wait-dict g.G.Gate g.G.Gate-dict g.S.Sink g.S.Sink-dict κs)
     (arg_send _ no _ (of-turner _ _ _ g.L.CostLaw g.K.Covers c.type_bounds.send-L c.type_bounds.send-K))
