@@ -3,7 +3,8 @@
 ghost use Rattle.std.specs.Prelude.{◌≡◌, ◌<◌, ◌≤◌, ◌^◌, ℕ, List, Option, Some, ℤ, false, length, option_map, slice_get, IfErr, IfOk};
 ghost use Rattle.announcer.specs.Ends.{AreCallersOf, AreNewCallers, IsBegunOf, IsCrierOf, new_crier};
 ghost use Rattle.announcer.specs.declared.view.CalledCost.{CalledCost};
-ghost use Rattle.announcing.specs.Hearing.{costs_cried};
+ghost use Rattle.announcing.specs.Hearing.{Hears, costs_cried};
+ghost use Rattle.announcing.specs.Hearing.{Heard as HeardBy};
 ghost use Rattle.announcing.specs.Telling.{IsTold};
 ghost use Rattle.board_words.specs.Rules.{IsWhole};
 ghost use Rattle.board_words.specs.Seats.{BoardFacts, IsSeatOf};
@@ -16,9 +17,11 @@ ghost use Rattle.pass_ends.specs.Ends.{IsPassEnd};
 ghost use Rattle.pass_ends.specs.Passes.{AreOptions, pass_of};
 ghost use Rattle.pass_ledger.specs.Passes.{Pass};
 ghost use Rattle.shard_mail.specs.Ends.{MailboxFacts};
+ghost use Rattle.shard_threads.specs.Players.{AreHeld, AllStay};
+ghost use Rattle.shard_turns.specs.Plays.{plays_by};
 ghost use Rattle.pass_run.specs.Announcements.{EndsAnnounced, HasAnnounced, HasLast, HasLooked, HasSettled, RanOut, WasHeard, cost_in, forgotten};
 ghost use Rattle.pass_run.specs.Callers.{AreLastCallers, CallTo};
-ghost use Rattle.pass_run.specs.Crews.{KeepAll};
+ghost use Rattle.pass_run.specs.Crews.{AllEnded, KeepAll};
 ghost use Rattle.pass_run.specs.Passes.{MayPass};
 
 use crate::ending::Over;
@@ -32,8 +35,9 @@ use dp_base::Seq;
 use dp_model::{Found, Model as DpModel, Options};
 use dp_outside::{Gate, Sink};
 use pass_ends::{PassEnd, out_of_memory};
+use shard_mail::Mailbox;
 use shard_threads::{Floor, Seated, turn_in_threads};
-use shard_turns::{Calling, Turner};
+use shard_turns::{Calling, Envelope, Turner};
 use solve_start::by_law;
 use std::alloc::Global;
 use std::sync::Wait;
@@ -87,9 +91,9 @@ fn give_callers<'m, L: CostLaw, K: Covers>(
     shards
 }
 
-/// Makes a pass whose shards call costs to a queue. The calling thread announces them between its turns. `Err` is the answer of a
-/// pass that could not begin.
-fn hear_pass<
+/// Turns the shards until each has ended, and hears what they call between two rounds of the calling thread's turns.
+fn turn_and_hear<
+    'a,
     'm,
     L: CostLaw + Send,
     K: Covers + Send,
@@ -97,6 +101,25 @@ fn hear_pass<
     G: Gate,
     S: Sink,
 >(
+    rt: &R,
+    alloc: Global,
+    floor: &Floor<Vec<Mailbox<Envelope>>, G>,
+    shards: Vec<Seated<Turner<'m, L, K>>>,
+    ear: Ear<'a, S>,
+) -> (Vec<Seated<Turner<'m, L, K>>>, Ear<'a, S>)
+    requires players { AreHeld (plays_by L.minimize L.operator K.prune K.minimize K.operator) floor.now.board.now floor.now.boxes.now shards.items }
+    requires ear { (h : HeardBy) × Hears S.taken S.faults h ear }
+    ensures stay { AllStay (plays_by L.minimize L.operator K.prune K.minimize K.operator) floor.now.board.now floor.now.boxes.now shards.entry.items result.0.items }
+    ensures ended { AllEnded result.0.items }
+    ensures ear { (h : HeardBy) → Hears S.taken S.faults h ear.entry → Hears S.taken S.faults h result.1 }
+    ensures sink { result.1.out.ghost_name ≡ ear.entry.out.ghost_name }
+{
+    turn_in_threads(rt, alloc, floor, shards, ear)
+}
+
+/// Makes a pass whose shards call costs to a queue. The calling thread announces them between its turns. `Err` is the answer of a
+/// pass that could not begin.
+fn hear_pass<'m, L: CostLaw + Send, K: Covers + Send, R: Threads + Wait + Sync, G: Gate, S: Sink>(
     rt: &R,
     alloc: Global,
     model: &'m DpModel,
@@ -147,7 +170,7 @@ fn hear_pass<
                 },
                 minimize: model.minimize(),
             };
-            let (shards, ear) = turn_in_threads(
+            let (shards, ear) = turn_and_hear(
                 rt,
                 alloc,
                 &Floor {
@@ -184,10 +207,14 @@ fn forget(end: PassEnd) -> PassEnd
 {
     match end {
         PassEnd::Closed {
-            visited, dropped, ..
+            visited,
+            dropped,
+            ..
         } => out_of_memory(visited, dropped),
         PassEnd::Halted {
-            visited, dropped, ..
+            visited,
+            dropped,
+            ..
         } => out_of_memory(visited, dropped),
     }
 }

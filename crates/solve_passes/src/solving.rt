@@ -15,7 +15,7 @@ ghost use Rattle.pass_ends.specs.Passes.{AreOptions, pass_of};
 ghost use Rattle.run_ends.specs.Claims.{solved_by as solved};
 ghost use Rattle.solve_passes.specs.Announcing as announced;
 ghost use Rattle.solve_passes.specs.Announcing.{IsMade};
-ghost use Rattle.solve_passes.specs.Ongoing as floors;
+ghost use Rattle.solve_passes.specs.Ongoing as ongoing;
 ghost use Rattle.solve_passes.specs.Records.{Ended};
 ghost use Rattle.solve_passes.specs.Ongoing.{Concluded, HasWord, HistoryOf, IsFollowed, IsImproved, IsOngoing, IsTold, LosesNothing, going_on, halt_ending, halt_in, held_cost, printed_bound, rest_text, tally_in, verdict_of};
 
@@ -116,7 +116,7 @@ fn after_halt<S: Sink>(
 
 /// The best floor of the dropped nodes, where the gap is asked for.
 fn floor_for(gap: bool, least_floor: Option<i64>) -> Option<i64>
-    ensures { result ≡ floors.floor_for gap least_floor }
+    ensures { result ≡ ongoing.floor_for gap least_floor }
 {
     if gap { least_floor } else { None }
 }
@@ -211,7 +211,7 @@ pub struct Made {
 
 /// Whether costs are announced.
 fn announces(printing: Printing) -> bool
-    ensures { result ≡ announced.announces printing }
+    ensures { result ≡ ongoing.announces printing }
 {
     match printing {
         Printing::All { announce } => announce,
