@@ -5,6 +5,7 @@ from functools import cache
 from heapq import heappop, heappush
 from itertools import permutations
 
+import field_problems
 import model_problems
 from model_problems import Problem, rows, without
 
@@ -186,4 +187,4 @@ class ElectricVan(Problem):
         return None
 
 
-PROBLEMS = [*model_problems.PROBLEMS, LotSizing(), MatrixChain(), SetupTimes(), ElectricVan()]
+PROBLEMS = [*model_problems.PROBLEMS, LotSizing(), MatrixChain(), SetupTimes(), ElectricVan(), *field_problems.PROBLEMS]

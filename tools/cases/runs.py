@@ -4,8 +4,9 @@ repository. Those whose texts are made when they run are written by made_runs.py
 
 VECTORS is a folder with the files that TABLES names: lists of models, each with the words of a run and with the output
 and the status that a program which shares no code with the solver worked out. The other runs, with their answers, stand
-in small_runs.py and rule_runs.py, written by hand; in docs/GUIDE.md, from where guide_runs.py takes them; and models_check.py
-works out those of the models of models/. Texts and words that mean no good are in hostile_runs.py.
+in small_runs.py, rule_runs.py and certificate_runs.py, written by hand; in docs/GUIDE.md and docs/LANGUAGE.md, from where guide_runs.py
+and language_runs.py take them; and models_check.py works out those of the models of models/. Texts and words that mean no good are in
+hostile_runs.py.
 
 A case is its title, its texts, its runs (words, output, status), and its runs of which the last line is shown alone, since
 the lines before it depend on how the workers of a search take turns."""
@@ -14,8 +15,10 @@ import json
 from collections import Counter
 from pathlib import Path
 
+import certificate_runs
 import guide_runs
 import hostile_runs
+import language_runs
 import models_check
 import stored
 from asked import asked
@@ -35,6 +38,8 @@ TABLES = [
     ("pruned", "pruned", 3),
     ("keep", "keep", 4),
     ("gap", "gap", 1),
+    ("best", "best", 2),
+    ("announce", "announce", 2),
     ("checks", "check", 8),
     ("field", "field", None),
     ("profile", "profile2", 4),
@@ -123,7 +128,8 @@ def main(folder):
     out.append(write("small", RUNS))
     out.append(write("orders", ORDERS + RULES))
     out.append(write("models", of_models()))
-    out.append(write("guide", guide_runs.cases()))
+    out.append(write("guide", [*guide_runs.cases(), *language_runs.cases()]))
+    out.append(write("certificates", certificate_runs.RUNS))
     out.append(hostile_runs.write(f"{CRATE}/data/hostile.txt", hostile_runs.plain()))
     stored.write_front("".join(out))
 

@@ -838,6 +838,99 @@ RULES = [
     ),
 ]
 
+# ---- the best node first, and announced costs
+
+BEST = words("solve d p --engine best")
+TOUR_BEST = told("solution 14 4", "visit 2", "visit 3", "visit 1", "return", "search visited 6", "verdict optimal 14")
+JUMP_BEST = told("solution 5 1", "jump", "search visited 3", "verdict optimal 5")
+# No search is made there, so no visits are told.
+WITHOUT_SEARCH = [(run, "solution 0 0\nverdict optimal 0\n", 0) for run in (BEST, [*BEST, "--prune", "off"])]
+ANNOUNCED = words("solve d p --prune off --announce on")
+ENGINE_MISUSES = [
+    "solve d p --engine",
+    "solve d p --engine Best",
+    "solve d p --engine bes",
+    "solve d p --engine best --engine best",
+    "solve d p --engine best --gap on",
+    "solve d p --gap on --engine=best",
+    "solve d p --engine best --announce on",
+    "solve d p --announce on --engine best --gap on",
+    "solve d p --announce",
+    "solve d p --announce yes",
+    "solve d p --announce on --announce off",
+    "replay d p l --engine best",
+    "gen path 2 0 --engine best",
+    "gen path 2 0 --announce on",
+]
+
+ENGINES = [
+    (
+        "two ways, the best node first",
+        [("domain", TWO_WAYS), ("problem", problem("b", "a", 0))],
+        [
+            (words("solve d p --prune off --engine best"), told("solution 3 2", "q", "d", "search visited 3", "verdict optimal 3"), 0),
+            # The target and the state of cost 1 are visited, and lead to the way of cost 11.
+            (words("solve d p --engine best --budget 2"), told("solution 11 2", "p", "e", "search visited 2", "verdict stopped 2"), 11),
+            (words("solve d p --engine best --budget 1"), told("search visited 1", "verdict stopped 1"), 11),
+        ],
+    ),
+    (
+        "a tour, the best node first",
+        [("domain", TOUR), ("problem", TOUR_OF_FOUR)],
+        [
+            (BEST, TOUR_BEST, 0),
+            (words("solve --engine best d p --budget 6"), TOUR_BEST, 0),
+            (words("solve d p --engine best --gap off --announce off"), TOUR_BEST, 0),
+            (words("solve d p --engine=best --keep all"), TOUR_BEST, 0),
+            (words("solve d p --engine best --budget 5"), told("search visited 5", "verdict stopped 5"), 11),
+            (words("solve d p --engine beam"), TOUR_OUT, 0),
+        ],
+        [
+            *((words(f"solve d p --engine best --workers {workers}"), *OPTIMAL_TOUR) for workers in (1, 2, 7, 64)),
+            *((words(f"solve d p --announce on --workers {workers}"), *OPTIMAL_TOUR) for workers in (1, 2, 7)),
+        ],
+    ),
+    (
+        "to and fro, the best node first",
+        [("domain", FLIP), ("problem", problem("flip", "x", 0))],
+        [
+            (words("solve d p --engine best --budget 10"), told("search visited 2", "verdict infeasible"), 10),
+            (words("solve d p --engine best --budget 1"), told("search visited 1", "verdict stopped 1"), 11),
+        ],
+        [(words(f"solve d p --engine best --workers {workers}"), "verdict infeasible\n", 10) for workers in (1, 2, 7, 64)],
+    ),
+    (
+        "the climb or the jump, the best node first",
+        [("domain", CLIMB), ("problem", problem("a", "x", 0))],
+        [
+            (BEST, JUMP_BEST, 0),
+            (words("solve d p --engine best --budget 2"), told("solution 5 1", "jump", "search visited 2", "verdict stopped 2"), 11),
+            (words("solve d p --engine beam --announce off"), JUMP_OUT, 0),
+            *((words(text), USAGE, 2) for text in ENGINE_MISUSES),
+        ],
+    ),
+    ("a target that is a base state, without a search", [("problem", problem("a", "x", 3))], WITHOUT_SEARCH),
+    ("a target that is not allowed, without a search", [("domain", NOT_ALLOWED), ("problem", problem("a", "x", 0))], [(BEST, "verdict infeasible\n", 10)]),
+    # The cost of the second step is out of range; the node that meets it was drawn.
+    ("a fault, the best node first", [("domain", BIG), ("problem", problem("big", "x", 0))], [(BEST, told("search visited 2", "verdict fault Range at big cost after 1", "big"), 12)]),
+    (
+        "an announced jump",
+        [("domain", CLIMB), ("problem", problem("a", "x", 0))],
+        [(ANNOUNCED, told("announce 5", "solution 5 1", "jump", "announced 1 refused 0", "pass 1 share 1 visited 3 dropped 0", "verdict optimal 5"), 0)],
+    ),
+    (
+        "a jump and then a climb, announced",
+        [("domain", FALSE_BOUND)],
+        [
+            (
+                ANNOUNCED,
+                told("announce 7", "announce 6", "solution 6 3", "inc", "inc", "inc", "announced 2 refused 0", "pass 1 share 1 visited 3 dropped 0", "verdict optimal 6"),
+                0,
+            )
+        ],
+    ),
+]
+
 # ---- generated models
 
 GENERATED = [
@@ -1027,6 +1120,7 @@ RUNS = [
     *WRONG_CLIMB_RUNS,
     *PROFILE_RUNS,
     *GEN_RUNS,
+    *ENGINES,
 ]
 
 

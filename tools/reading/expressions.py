@@ -13,7 +13,8 @@ WHOLE = re.compile(r"[+-]?[0-9]+\Z")
 BEGINS_NUMBER = re.compile(r"[+-]?[0-9]")
 CONTROL = re.compile("[\x00-\x1f\x7f-\x9f]")
 TOKEN = re.compile(rb"[()|]|[^()| \t\r\n]+")
-CELL = re.compile(r"(\w+)\[")
+CELL = re.compile(r"(\w+)\[([^\[\]]*)\]?\Z")
+DASHES = "\u2010\u2011\u2012\u2013\u2014\u2212"
 BLANK = re.compile("[\u00a0\u2000-\u200b\u202f\u3000\ufeff]")
 
 NUM_OPS = {"+": None, "*": None, "max": None, "min": None, "-": 2, "/": 2, "%": 2, "if": 3, "sum": None}
@@ -29,7 +30,7 @@ KINDS = {"num": "a number", "set": "a set", "cond": "a condition"}
 # How other languages call some operators.
 ELSEWHERE = {
     "in": "is_in", "member": "is_in", "contains": "is_in", "subset": "is_subset", "empty": "is_empty", "<>": "!=", "/=": "!=", "==": "=", "&&": "and",
-    "&": "and", "!": "not", "=<": "<=", "=>": ">=", "mod": "%", "rem": "%", "div": "/", "\u2212": "-", "\u2013": "-", "\u00d7": "*", "\u2264": "<=",
+    "&": "and", "!": "not", "=<": "<=", "=>": ">=", "mod": "%", "rem": "%", "div": "/", "\u00d7": "*", "\u2264": "<=",
     "\u2265": ">=", "\u2260": "!=", "len": "|S|", "size": "|S|", "card": "|S|", "setminus": "difference", "minus": "difference", "intersect": "intersection",
 }
 
@@ -148,6 +149,11 @@ def near(word, known):
     return f"; did you mean `{close[0]}`?" if close else "."
 
 
+def blank_in(word):
+    """A hint at a character that is no blank."""
+    return " There is a character in it that looks like a blank and is none: write a plain blank." if BLANK.search(word) else ""
+
+
 def listed(words):
     words = list(words)
     return ", ".join(words[:12]) + (", .." if len(words) > 12 else "") if words else "none"
@@ -178,14 +184,14 @@ class Scope:
             why = f"`{word}` is a variable, and only operators and tables stand at the head of a list"
         elif head:
             close = f"; did you mean `{ELSEWHERE[word]}`?" if word in ELSEWHERE else near(word, [*OPERATORS, *self.tables])
+            close = "; it is a dash, and the minus sign is the short `-` of the keyboard." if word in DASHES else close
             why = f"`{word}` is no operator and no table{close} The tables here: {listed(self.tables)}"
         elif any(word == o.name for o in self.objects):
             why = f"`{word}` is an object type, and no value. Known here: {listed(self.known())}"
         else:
             cell = CELL.match(word)
-            close = f"; a cell is written ({cell.group(1)} ..)." if cell and cell.group(1) in self.tables else near(word, self.known())
-            blank = " There is a character in it that looks like a blank and is none." if BLANK.search(word) else ""
-            why = f"`{word}` is no name in force{close}{blank} Known here: {listed(self.known())}"
+            close = f"; a cell is written ({' '.join([cell.group(1), *cell.group(2).split(',')])})." if cell and cell.group(1) in self.tables else near(word, self.known())
+            why = f"`{word}` is no name in force{close}{blank_in(word)} Known here: {listed(self.known())}"
         return self.refuse(30, form, why)
 
     def wrong(self, form, wanted, found):
@@ -258,6 +264,9 @@ class Scope:
             wanted = f"{least} or more operands" if count is None else f"{count} operand{'s' * (count > 1)}"
             called = next((a.word for a, b in zip(form.parts[1:], form.parts[2:]) if a.kind == "word" and b.kind == "list" and a.end == b.offset), None)
             hint = f"; `{called}(..)` are two operands, and the cell of a table is ({called} ..)" if called else ""
+            if form.parts[0].word == "-" and given == 1:
+                hint = "; the negative of n is (- 0 n)"
+            hint += next((f".{blank_in(part.word)}" for part in form.parts if part.kind == "word" and blank_in(part.word)), "")
             self.refuse(32, form, f"`{form.parts[0].word}` takes {wanted}, and {given} stand{'s' * (given == 1)} here{hint}")
         return form.parts[1:]
 

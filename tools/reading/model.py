@@ -53,6 +53,8 @@ def keyed(node, kind):
             shown = f"`{name}`" if name is not None else "a list"
             other = {"domain": "problem", "problem": "domain"}.get(kind)
             close = f"; it is one of the {other}." if other and name in KEYS[other][0] else near(name or "", known)
+            if other and all(part.kind == "scalar" and part.text in KEYS[other][0] for part, _ in pairs):
+                close = f"; all keys here are of a {other}: do the two files stand in each other's place?"
             refuse(41, key, f"{shown} is no key of a {kind}{close} Its keys are: {listed(known)}")
         entries[name] = value
     for name in needed:

@@ -1,11 +1,14 @@
-"""Pictures of plans: a route through places, and bars over time; as SVG and as lines of a terminal."""
+"""Pictures of plans: a route through places, a way over a plane, bars over time, a table of sets; as SVG and as lines of a terminal."""
 
 import math
+import textwrap
 from xml.sax.saxutils import escape
 
 COLOURS = ["#1f6fb4", "#d9822b", "#2f9e5f", "#b5413c", "#7a5aa6", "#86653f", "#c45a9e", "#5f6b73", "#9a9a1f", "#1fa3a8"]
 FONT = 'font-family="sans-serif" font-size="12"'
 MOST_COLUMNS = 96
+LEAST_COLUMNS = 16
+TOP = 44
 
 
 def svg(width, height, parts):
@@ -51,38 +54,72 @@ def axis_of(gram, count, start, before):
     return [x * math.sqrt(size) for x in v]
 
 
-def fitted(points, side, margin):
-    """The points in a square of that side."""
+def fitted(points, width, height, radius):
+    """The points in a frame of that width and at most that height, so far apart that circles do not cover each other; and how high the
+    frame is."""
     spans = [max(p[k] for p in points) - min(p[k] for p in points) for k in (0, 1)]
-    scale = (side - 2 * margin) / (max(spans) or 1)
-    least = [min(p[k] for p in points) for k in (0, 1)]
-    return [tuple(margin + (p[k] - least[k]) * scale + (side - 2 * margin - spans[k] * scale) / 2 for k in (0, 1)) for p in points]
+    if spans[1] > spans[0] and height < width:
+        points, spans = [(y, x) for x, y in points], spans[::-1]
+    scale = min(side / span for side, span in zip((width, height), spans) if span > 0) if any(spans) else 1
+    at = pushed_apart([(x * scale, y * scale) for x, y in points], 2 * radius + 16)
+    least = [min(p[k] for p in at) for k in (0, 1)]
+    spans = [max(p[k] for p in at) - least[k] for k in (0, 1)]
+    shrunk = min(1, width / (spans[0] or 1))
+    return [((x - least[0]) * shrunk + (width - spans[0] * shrunk) / 2, (y - least[1]) * shrunk) for x, y in at], spans[1] * shrunk
 
 
-def route_svg(points, tours, labels, title, notes):
+def pushed_apart(points, least):
+    """The points, those that are nearer than that moved away from each other."""
+    at = [list(p) for p in points]
+    for _ in range(200 if len(at) <= 100 else 20):
+        moved = False
+        for i, a in enumerate(at):
+            for j, b in enumerate(at[:i]):
+                dx, dy = a[0] - b[0], a[1] - b[1]
+                gap = math.hypot(dx, dy)
+                if gap < least - 0.01:
+                    dx, dy = (dx / gap, dy / gap) if gap > 1e-6 else (math.cos(i + j), math.sin(i + j))
+                    step = (least - gap) / 2
+                    a[0], a[1], b[0], b[1] = a[0] + dx * step, a[1] + dy * step, b[0] - dx * step, b[1] - dy * step
+                    moved = True
+        if not moved:
+            break
+    return [tuple(p) for p in at]
+
+
+def route_svg(points, tours, labels, title):
     """Tours are lists of places; each has a colour."""
-    side, radius = 480, 13
-    at = fitted(points, side, 40)
+    radius, margin = 13, 34
+    wide = max(480, 2 * margin + 73 * math.sqrt(len(points)))
+    at, high = fitted(points, wide - 2 * margin, wide - 2 * margin, radius)
+    at = [(x + margin, y + TOP + margin - 14) for x, y in at]
     parts = [text(16, 24, title, 'font-weight="bold"')]
     used = {}
     for t, tour in enumerate(tours):
         colour = COLOURS[t % len(COLOURS)]
         for a, b in zip(tour, tour[1:]):
             used[(a, b)] = used.get((a, b), 0) + 1
-            parts.append(arrow(at[a], at[b], radius, colour, 9 * used[(a, b)] if (b, a) in used else 0))
+            hidden = any(k not in (a, b) and distance_to(p, at[a], at[b]) < radius + 2 for k, p in enumerate(at))
+            parts.append(arrow(at[a], at[b], radius, colour, 9 * used[(a, b)] if (b, a) in used else 18 if hidden else 0))
     start = tours[0][0] if tours else None
     for k, (x, y) in enumerate(at):
         fill = "#ffe9a8" if k == start else "white"
-        parts.append(f'<circle cx="{x:.1f}" cy="{y + 30:.1f}" r="{radius}" fill="{fill}" stroke="#333"/>')
-        parts.append(text(x, y + 34, labels[k], 'text-anchor="middle"'))
-    for k, note in enumerate(notes):
-        parts.append(text(16, side + 46 + 16 * k, note, 'fill="#555"'))
-    return svg(side, side + 50 + 16 * len(notes), parts)
+        parts.append(f'<circle cx="{x:.1f}" cy="{y:.1f}" r="{radius}" fill="{fill}" stroke="#333"/>')
+        parts.append(text(x, y + 4, labels[k], 'text-anchor="middle"'))
+    return svg(max(wide, 32 + 7 * len(title)), high + TOP + 2 * margin - 14, parts)
+
+
+def distance_to(p, a, b):
+    """How far a point is from the line between two others."""
+    dx, dy = b[0] - a[0], b[1] - a[1]
+    share = ((p[0] - a[0]) * dx + (p[1] - a[1]) * dy) / (dx * dx + dy * dy or 1)
+    share = max(0, min(1, share))
+    return math.hypot(p[0] - a[0] - share * dx, p[1] - a[1] - share * dy)
 
 
 def arrow(a, b, radius, colour, bend):
     """A line with a head from one place to another."""
-    (x1, y1), (x2, y2) = (a[0], a[1] + 30), (b[0], b[1] + 30)
+    (x1, y1), (x2, y2) = a, b
     length = math.hypot(x2 - x1, y2 - y1) or 1
     ux, uy = (x2 - x1) / length, (y2 - y1) / length
     mx, my = (x1 + x2) / 2 - uy * 2 * bend, (y1 + y2) / 2 + ux * 2 * bend
@@ -90,29 +127,59 @@ def arrow(a, b, radius, colour, bend):
     size = math.hypot(dx, dy) or 1
     dx, dy = dx / size, dy / size
     ex, ey = x2 - dx * (radius + 2), y2 - dy * (radius + 2)
-    head = f"{ex:.1f},{ey:.1f} {ex - 9 * dx - 4 * dy:.1f},{ey - 9 * dy + 4 * dx:.1f} {ex - 9 * dx + 4 * dy:.1f},{ey - 9 * dy - 4 * dx:.1f}"
     path = f"M {x1 + ux * radius:.1f} {y1 + uy * radius:.1f} Q {mx:.1f} {my:.1f} {ex:.1f} {ey:.1f}"
-    return f'<path d="{path}" fill="none" stroke="{colour}" stroke-width="2"/><polygon points="{head}" fill="{colour}"/>'
+    return f'<path d="{path}" fill="none" stroke="{colour}" stroke-width="2"/>{head(ex, ey, dx, dy, colour)}'
 
 
-def way_svg(points, title, notes):
-    """A way over a plane, from point to point; y grows downward."""
-    least = [min(p[k] for p in points) for k in (0, 1)]
-    spans = [max(p[k] for p in points) - least[k] for k in (0, 1)]
-    unit = max(4, min(48, 560 / (max(spans) + 1)))
-    at = [(30 + (x - least[0] + 0.5) * unit, 44 + (y - least[1] + 0.5) * unit) for x, y in points]
+def head(x, y, dx, dy, colour):
+    """The head of an arrow that comes to a point in a direction."""
+    corners = f"{x:.1f},{y:.1f} {x - 9 * dx - 4 * dy:.1f},{y - 9 * dy + 4 * dx:.1f} {x - 9 * dx + 4 * dy:.1f},{y - 9 * dy - 4 * dx:.1f}"
+    return f'<polygon points="{corners}" fill="{colour}"/>'
+
+
+# ---- a way over a plane
+
+def way_svg(points, title, plane):
+    """A way over a plane, from point to point; y grows downward. Each cell has the numbers of the steps that end there."""
+    (left, right), (low, high) = plane.spans
+    unit = max(8, min(52, 620 / (right - left + 1)))
+
+    def corner(x, y):
+        return 16 + (x - left) * unit, TOP + (y - low) * unit
+
     parts = [text(16, 24, title, 'font-weight="bold"')]
-    for i in range(spans[0] + 1):
-        for j in range(spans[1] + 1):
-            parts.append(f'<rect x="{30 + i * unit:.1f}" y="{44 + j * unit:.1f}" width="{unit:.1f}" height="{unit:.1f}" fill="none" stroke="#ddd"/>')
-    line = " ".join(f"{x:.1f},{y:.1f}" for x, y in at)
-    parts.append(f'<polyline points="{line}" fill="none" stroke="{COLOURS[0]}" stroke-width="3" stroke-linejoin="round"/>')
-    parts.append(f'<circle cx="{at[0][0]:.1f}" cy="{at[0][1]:.1f}" r="{unit / 4:.1f}" fill="#ffe9a8" stroke="#333"/>')
-    parts.append(f'<circle cx="{at[-1][0]:.1f}" cy="{at[-1][1]:.1f}" r="{unit / 4:.1f}" fill="{COLOURS[1]}" stroke="#333"/>')
-    bottom = 44 + (spans[1] + 1) * unit
-    for k, note in enumerate(notes):
-        parts.append(text(16, bottom + 24 + 16 * k, note, 'fill="#555"'))
-    return svg(max(60 + (spans[0] + 1) * unit, 420), bottom + 34 + 16 * len(notes), parts)
+    for y in range(low, high + 1):
+        for x in range(left, right + 1):
+            (cx, cy), fill = corner(x, y), "#5f6b73" if (x, y) in plane.walls else "white"
+            parts.append(f'<rect x="{cx:.1f}" y="{cy:.1f}" width="{unit:.1f}" height="{unit:.1f}" fill="{fill}" stroke="#ddd"/>')
+            if (x, y) in plane.labels and unit >= 40:
+                parts.append(text(cx + 3, cy + unit - 4, plane.labels[x, y], 'style="font-size:9px" fill="#86653f"'))
+    for (x, y), fill in ((points[0], "#ffe9a8"), (points[-1], "#bfe3cc")):
+        cx, cy = corner(x, y)
+        parts.append(f'<rect x="{cx + 2:.1f}" y="{cy + 2:.1f}" width="{unit - 4:.1f}" height="{unit - 4:.1f}" fill="{fill}"/>')
+        if (x, y) in plane.labels and unit >= 40:
+            parts.append(text(cx + 3, cy + unit - 4, plane.labels[x, y], 'style="font-size:9px" fill="#86653f"'))
+    parts += [leg(corner(*a), corner(*b), unit) for a, b in zip(points, points[1:]) if a != b]
+    if unit >= 24:
+        for (x, y), steps in plane.steps(points).items():
+            cx, cy = corner(x, y)
+            parts.append(text(cx + 3, cy + 11, " ".join(map(str, steps)), 'style="font-size:10px" fill="#333"'))
+    width = max(32 + (right - left + 1) * unit, 32 + 7 * len(title))
+    bottom = TOP + (high - low + 1) * unit
+    caption = textwrap.wrap("The numbers are those of the steps that end in a cell; 0 is the beginning, and the last cell is green.", int((width - 32) / 6.2))
+    parts += [text(16, bottom + 20 + 16 * k, line, 'fill="#555"') for k, line in enumerate(caption)]
+    return svg(width, bottom + 14 + 16 * len(caption), parts)
+
+
+def leg(a, b, unit):
+    """An arrow from the middle of a cell to that of another, a little to the right of the way, so that the way back does not cover it."""
+    length = math.hypot(b[0] - a[0], b[1] - a[1])
+    dx, dy = (b[0] - a[0]) / length, (b[1] - a[1]) / length
+    side, half = unit / 9, unit / 2
+    x1, y1 = a[0] + half - dy * side, a[1] + half + dx * side
+    x2, y2 = b[0] + half - dy * side, b[1] + half + dx * side
+    line = f'<line x1="{x1:.1f}" y1="{y1:.1f}" x2="{x2 - 5 * dx:.1f}" y2="{y2 - 5 * dy:.1f}" stroke="{COLOURS[0]}" stroke-width="2"/>'
+    return line + head(x2, y2, dx, dy, COLOURS[0])
 
 
 # ---- bars over time
@@ -125,19 +192,19 @@ def ticks(end):
     return list(range(0, int(end) + 1, step))
 
 
-def bars_svg(lanes, title, notes):
+def bars_svg(lanes, title, axis):
     """Lanes are pairs of a name and bars: start, end, label, colour's number."""
     end = max((bar[1] for _, bars in lanes for bar in bars), default=1) or 1
     left, height, wide = 30 + 7 * max(len(name) for name, _ in lanes), 30, 640
-    scale, top = wide / end, 44
-    bottom = top + height * len(lanes)
+    scale = wide / end
+    bottom = TOP + height * len(lanes)
     parts = [text(16, 24, title, 'font-weight="bold"')]
     for tick in ticks(end):
         x = left + tick * scale
-        parts.append(f'<line x1="{x:.1f}" y1="{top - 4}" x2="{x:.1f}" y2="{bottom + 4}" stroke="#ddd"/>')
+        parts.append(f'<line x1="{x:.1f}" y1="{TOP - 4}" x2="{x:.1f}" y2="{bottom + 4}" stroke="#ddd"/>')
         parts.append(text(x, bottom + 18, str(tick), 'text-anchor="middle" fill="#555"'))
     for k, (name, bars) in enumerate(lanes):
-        y = top + height * k
+        y = TOP + height * k
         parts.append(text(left - 8, y + 19, name, 'text-anchor="end"'))
         for start, stop, label, colour in bars:
             w = (stop - start) * scale
@@ -145,15 +212,21 @@ def bars_svg(lanes, title, notes):
             shown = label if 7 * len(label) <= w else label.split(" ")[-1]
             if 7 * len(shown) <= w + 2:
                 parts.append(text(left + (start + stop) / 2 * scale, y + 19, shown, 'text-anchor="middle" fill="white"'))
-    for k, note in enumerate(notes):
-        parts.append(text(16, bottom + 42 + 16 * k, note, 'fill="#555"'))
-    return svg(left + wide + 24, bottom + 46 + 16 * len(notes), parts)
+    parts.append(text(left + wide / 2, bottom + 36, axis, 'text-anchor="middle" fill="#555"'))
+    return svg(left + wide + 24, bottom + 46, parts)
 
 
-def bars_text(lanes):
+def columns_of_bars(lanes, end, columns):
+    """How many columns a unit has: four, or as many as the labels need, where there are so many."""
+    width = max(len(name) for name, _ in lanes)
+    wanted = max(((len(label) + 1) / (stop - start) for _, bars in lanes for start, stop, label, _ in bars if stop > start), default=4)
+    return min(max(4.0, min(10.0, wanted)), max(LEAST_COLUMNS, min(MOST_COLUMNS, columns - width - 3)) / end)
+
+
+def bars_text(lanes, axis, columns):
     """The same in a terminal: each lane a line, each bar between `|`, with as much of its label as fits."""
     end = max((bar[1] for _, bars in lanes for bar in bars), default=1) or 1
-    scale = min(4.0, MOST_COLUMNS / end)
+    scale = columns_of_bars(lanes, end, columns)
     width = max(len(name) for name, _ in lanes)
     out = []
     for name, bars in lanes:
@@ -166,9 +239,50 @@ def bars_text(lanes):
                 middle = a + 1 + (b - a - 1 - len(shown)) // 2
                 row[middle : middle + len(shown)] = list(shown)
         out.append(f"{name.rjust(width)}  {''.join(row).rstrip()}")
-    marks = ticks(end)
-    axis = [" "] * (int(end * scale) + 8)
-    for mark in marks:
+    marks = [" "] * (int(end * scale) + 8)
+    free = 0
+    for mark in ticks(end):
         at = int(mark * scale)
-        axis[at : at + len(str(mark))] = list(str(mark))
-    return [*out, " " * width + "  " + "".join(axis).rstrip()]
+        if at >= free and at + len(str(mark)) <= len(marks):
+            marks[at : at + len(str(mark))] = list(str(mark))
+            free = at + len(str(mark)) + 1
+    line = " " * width + "  " + "".join(marks).rstrip()
+    named = f"{line}  {axis}"
+    return [*out, *([named] if len(named) <= columns else [line, " " * width + "  " + axis])]
+
+
+# ---- a table of sets
+
+def sets_text(columns, rows, most):
+    """A row for each step, and a column for each member that a set may have: `*` where it has it. Columns are pairs of a set's name and
+    its members; rows are pairs of a step and its sets."""
+    widths = [[len(str(k)) for k in members] for _, members in columns]
+    left = max([len(name) for name, _ in rows] + [4])
+    blocks = [max(sum(w) + len(w) - 1, len(name)) for w, (name, _) in zip(widths, columns)]
+    if left + sum(blocks) + 3 * len(blocks) > most:
+        return [f"{name.ljust(left)}   " + "   ".join("{" + ", ".join(map(str, sorted(value))) + "}" for value in sets) for name, sets in rows]
+
+    def line(name, cells):
+        return (name.ljust(left) + "".join("   " + cell.ljust(block) for cell, block in zip(cells, blocks))).rstrip()
+
+    out = [line("", [name for name, _ in columns]), line("step", [" ".join(map(str, members)) for _, members in columns])]
+    for name, sets in rows:
+        cells = [" ".join(("*" if k in value else ".").rjust(w) for k, w in zip(members, wide)) for value, (_, members), wide in zip(sets, columns, widths)]
+        out.append(line(name, cells))
+    return out
+
+
+def sets_svg(columns, rows, title):
+    """The same as a picture: a square is full where the set has the member."""
+    left, unit, gap = 30 + 7 * max(len(name) for name, _ in rows), 22, 26
+    parts, x = [text(16, 24, title, 'font-weight="bold"')], left
+    for number, (name, members) in enumerate(columns):
+        parts.append(text(x, TOP + 6, name, 'font-weight="bold"'))
+        for k, member in enumerate(members):
+            parts.append(text(x + k * unit + unit / 2, TOP + 24, str(member), 'text-anchor="middle" fill="#555"'))
+            for j, (_, sets) in enumerate(rows):
+                fill = COLOURS[number % len(COLOURS)] if member in sets[number] else "white"
+                parts.append(f'<rect x="{x + k * unit:.1f}" y="{TOP + 32 + j * unit:.1f}" width="{unit}" height="{unit}" fill="{fill}" stroke="#ddd"/>')
+        x += max(len(members) * unit, 8 * len(name)) + gap
+    parts += [text(left - 10, TOP + 47 + j * unit, name, 'text-anchor="end"') for j, (name, _) in enumerate(rows)]
+    return svg(max(x, 32 + 7 * len(title)), TOP + 48 + unit * len(rows), parts)

@@ -3,6 +3,7 @@
 import argparse
 import os
 import re
+import signal
 import subprocess
 import sys
 
@@ -29,7 +30,7 @@ class Words(argparse.ArgumentParser):
 
 
 def run(name, main):
-    """Runs a tool: whatever ends it is told in one line, with status 2."""
+    """Runs a tool: whatever ends it is told in one line, with status 2; a closed pipe and Ctrl-C end it as they end other programs."""
     sys.setrecursionlimit(30000)
     status = 2
     try:
@@ -41,12 +42,22 @@ def run(name, main):
         what = "list" if refused.file == "list" else "model"
         tell(name, f"the {what} is refused: {refused.line_printed()}" + (f" ({refused.why})" if refused.why else ""))
     except BrokenPipeError:
-        os.dup2(os.open(os.devnull, os.O_WRONLY), sys.stdout.fileno())
+        status = 128 + signal.SIGPIPE
+        forget_output()
     except KeyboardInterrupt:
+        status = 128 + signal.SIGINT
         tell(name, "interrupted")
-    except (OSError, UnicodeError, RecursionError, MemoryError) as error:
+    except OSError as error:
+        tell(name, f"{error.filename or 'standard output'}: {error.strerror}")
+        forget_output()
+    except (UnicodeError, RecursionError, MemoryError) as error:
         tell(name, f"{type(error).__name__}: {error}")
     sys.exit(status)
+
+
+def forget_output():
+    """What was not written is not tried again."""
+    os.dup2(os.open(os.devnull, os.O_WRONLY), sys.stdout.fileno())
 
 
 def tell(name, what):
@@ -110,12 +121,20 @@ def gap(best, bound):
     return f"a gap of {100 * abs(best - bound) / abs(best):.1f} %" if best else f"a gap of {abs(bound)}"
 
 
+def program_of(path):
+    """The whole path of a program."""
+    if not os.path.isfile(path):
+        raise Stop(f"{path}: no such program")
+    if not os.access(path, os.X_OK):
+        raise Stop(f"{path}: it is no program that can be run")
+    return os.path.abspath(path)
+
+
 def run_program(program, words):
     """What a build of the solver prints for these words, and its status."""
-    if not os.path.isfile(program):
-        raise Stop(f"{program}: no such program")
+    program = program_of(program)
     try:
-        done = subprocess.run([os.path.abspath(program), *words], stdout=subprocess.PIPE, stderr=subprocess.DEVNULL, stdin=subprocess.DEVNULL, check=False)
+        done = subprocess.run([program, *words], stdout=subprocess.PIPE, stderr=subprocess.DEVNULL, stdin=subprocess.DEVNULL, check=False)
     except OSError as error:
         raise Stop(f"{program}: {error.strerror}: it is no program that can be run") from None
     return done.stdout.decode("utf-8", "replace"), done.returncode

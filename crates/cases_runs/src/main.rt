@@ -13,7 +13,7 @@ use std::thread::{Builder, Threads};
 use std::{fs, io, thread};
 
 /// The files of cases, in the order in which they are run.
-const FILES: [&str; 16] = [
+const FILES: [&str; 19] = [
     "one_variable.txt",
     "first_form.txt",
     "refusals.txt",
@@ -22,6 +22,8 @@ const FILES: [&str; 16] = [
     "pruned.txt",
     "keep.txt",
     "gap.txt",
+    "best.txt",
+    "announce.txt",
     "checks.txt",
     "field.txt",
     "profile.txt",
@@ -29,6 +31,7 @@ const FILES: [&str; 16] = [
     "orders.txt",
     "models.txt",
     "guide.txt",
+    "certificates.txt",
     "hostile.txt",
 ];
 

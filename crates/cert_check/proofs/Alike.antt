@@ -1,7 +1,6 @@
 -- Nodes that others cover may be left out: what is left covers the same.
 use Rattle.std.proofs.Common.{◌≡◌, ℕ, ◌+◌, zero, suc, take, arith, Bool, true, false, ◌||◌, List, [], ◌∷◌, ◌++◌, Option, Some, None, Result, Ok, Err, refl, sym, ap, subst, ◌∙◌, append_assoc}
 use Rattle.std.specs.Prelude.{ℤ, if◌then◌else◌, OnOk}
-use Rattle.std.specs.List.{list_any}
 use Rattle.std.proofs.lemmas.List.{append-nil}
 use Rattle.std.proofs.lemmas.List.Folds.{list_any-append}
 use Rattle.dp_model.specs.StepTexts.{ground_of}

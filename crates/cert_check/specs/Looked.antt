@@ -13,7 +13,7 @@ use Rattle.dp_model.specs.declared.answers.Keep.TheVariants.{Layer, All}
 use Rattle.cert_types.specs.declared.cert.Cert.{Cert}
 use Rattle.cert_types.specs.declared.nodes.CertStep.{CertStep}
 use Rattle.cert_laws.specs.Shown.{layer_of}
-use Rattle.cert_laws.specs.Checks.{if_stands, is_covered, node_at, start, stepped}
+use Rattle.cert_laws.specs.Checks.{if_stands, is_covered, node_at, start, step_fails, stepped}
 use Rattle.cert_laws.specs.declared.answers.CertReason.{CertReason}
 use Rattle.cert_laws.specs.declared.answers.CertReason.TheVariants as reasons
 use Rattle.cert_check.specs.declared.standings.Standing.{Standing}
@@ -66,6 +66,11 @@ is_no_better false cost n = int_le n cost
 abbrev pub with_new : Model → (prune : Bool) → List PastNode → List PastNode → List PastNode
 with_new m prune past [] = past
 with_new m prune past (n ∷ ns) = with_new m prune (if is_covered m prune past n.state n.cost then past else past ++ n ∷ []) ns
+
+-- why the transition that was picked rejects the line of an open node, if one was and does
+abbrev pub pick_fails : Model → Cert → List PastNode → Reached → Option ℕ → Option CertReason
+pick_fails m cert past here None = None
+pick_fails m cert past here (Some g) = step_fails m cert past here g
 
 -- these cover the same states, at the same costs so far, as those
 abbrev pub CoverAlike : Model → (prune : Bool) → List PastNode → List PastNode → Type 0

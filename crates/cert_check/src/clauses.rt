@@ -1,15 +1,16 @@
 //! The clauses at the line of a node.
 
-ghost use Rattle.std.specs.Prelude.{◌≡◌, ◌<◌, Some, IfOk, IfSome, length};
+ghost use Rattle.std.specs.Prelude.{◌≡◌, ◌<◌, Some, None, Ok, IfOk, IfSome, length};
 ghost use Rattle.eval_room.specs.Needs.{ServesModel};
 ghost use Rattle.dp_model.specs.Costs.{InRange};
 ghost use Rattle.dp_model.specs.StepTexts.{ground_of};
 ghost use Rattle.dp_model.specs.declared.whole.Model.{Model as DpModel};
 ghost use Rattle.cost_laws.specs.Orders.{InWideRange, IsLawOf};
 ghost use Rattle.state_layout.specs.Conditions.{IsLayoutOf, IsNodeOf};
+ghost use Rattle.spot_eval.specs.Moves.{first_enabled, forced_of, is_forced};
 ghost use Rattle.spot_eval.specs.declared.looks.Look.TheVariants as looks;
 ghost use Rattle.cert_laws.specs.Checks.{base_fails, cut_fails, is_high, looked_fails, must, node_fails_at, step_fails, steps_fail, successor_fails, taken_fails};
-ghost use Rattle.cert_check.specs.Looked.{StandingFits, found, is_no_better, reached_by};
+ghost use Rattle.cert_check.specs.Looked.{StandingFits, found, is_no_better, pick_fails, reached_by};
 
 use crate::looker::Looker;
 use crate::standings::Standing;
@@ -17,7 +18,7 @@ use cert_laws::CertReason;
 use cert_types::{Cert, CertNode};
 use cost_laws::CostLaw;
 use dom_store::{Covers, PastStore};
-use dp_model::{Claim, Found, Spot};
+use dp_model::{Claim, Found, Model, Spot};
 use spot_eval::{Look, SpotEnd};
 use state_layout::Node;
 use std::alloc::{AllocError, Global};
@@ -179,7 +180,17 @@ fn taken_fails<L: CostLaw, K: Covers>(
     }
 }
 
-/// Why a transition rejects the line of an open node, if it does.
+/// Whether the ground transition with this number is forced.
+fn is_forced(model: &Model, number: u32) -> bool
+    ensures { result ≡ is_forced model.now number }
+{
+    let Some((transition, _)) = model.step(number) else {
+        return false;
+    };
+    transition.forced()
+}
+
+/// Why a transition rejects the line of an open node, if it does, where no forced one is enabled.
 fn step_fails<L: CostLaw, K: Covers>(
     looker: &Looker<'_>,
     alloc: Global,
@@ -195,17 +206,82 @@ fn step_fails<L: CostLaw, K: Covers>(
     requires layout { IsLayoutOf looker.now past.now.layout }
     requires node { IsNodeOf looker.now here.now }
     requires room { ServesModel looker.now (length stack.old) }
+    requires clear { first_enabled looker.now here.now.state (forced_of looker.now) ≡ Ok None }
     ensures { IfOk result (λ fails. fails ≡ step_fails looker.now cert.now past.now.nodes (reached_by here.now) number) }
 {
-    match looker.may_step(&here.state, number, stack) {
+    if is_forced(looker.model(), number) {
+        return Ok(None);
+    }
+    match looker.is_enabled(&here.state, number, stack) {
         Ok(true) => taken_fails::<L, K>(looker, alloc, cert, past, here, number, stack),
         Ok(false) => Ok(None),
         Err(_) => Ok(None),
     }
 }
 
-/// Why the line of an open node is rejected, if it is: by the first transition that does so.
-#[tactic(auto, using(spot_eval::proofs::Limits::few_grounds, crate::proofs::Tests::none_of, crate::proofs::Tests::first_at))]
+/// The same of a transition that was picked, if one was.
+#[tactic(auto, using(spot_eval::proofs::Limits::few_grounds))]
+fn picked_fails<L: CostLaw, K: Covers>(
+    looker: &Looker<'_>,
+    alloc: Global,
+    cert: &Cert,
+    past: &PastStore<K>,
+    here: &Node,
+    pick: Option<usize>,
+    stack: &mut [u64],
+) -> Result<Option<CertReason>, AllocError>
+    requires law { IsLawOf looker.now L.minimize L.operator }
+    requires covering { IsLawOf looker.now K.minimize K.operator }
+    requires prune { K.prune ≡ cert.now.prune }
+    requires layout { IsLayoutOf looker.now past.now.layout }
+    requires node { IsNodeOf looker.now here.now }
+    requires room { ServesModel looker.now (length stack.old) }
+    requires clear { first_enabled looker.now here.now.state (forced_of looker.now) ≡ Ok None }
+    requires there { IfSome pick (λ k. k < length looker.now.dp_ground) }
+    ensures { IfOk result (λ fails. fails ≡ pick_fails looker.now cert.now past.now.nodes (reached_by here.now) pick) }
+{
+    match pick {
+        Some(number) => {
+            step_fails::<L, K>(looker, alloc, cert, past, here, number as u32, stack)
+        }
+        None => Ok(None),
+    }
+}
+
+/// Why the line of an open node is rejected, if it is, where no forced transition is enabled: by the first transition that does so.
+/// Rows of transitions that want one number each are passed over by one look.
+fn others_fail<L: CostLaw, K: Covers>(
+    looker: &Looker<'_>,
+    alloc: Global,
+    cert: &Cert,
+    past: &PastStore<K>,
+    here: &Node,
+    stack: &mut [u64],
+) -> Result<Option<CertReason>, AllocError>
+    requires law { IsLawOf looker.now L.minimize L.operator }
+    requires covering { IsLawOf looker.now K.minimize K.operator }
+    requires prune { K.prune ≡ cert.now.prune }
+    requires layout { IsLayoutOf looker.now past.now.layout }
+    requires node { IsNodeOf looker.now here.now }
+    requires room { ServesModel looker.now (length stack.old) }
+    requires clear { first_enabled looker.now here.now.state (forced_of looker.now) ≡ Ok None }
+    ensures { IfOk result (λ fails. fails ≡ steps_fail looker.now cert.now past.now.nodes (reached_by here.now)) }
+{
+    let count = looker.model().ground().list().len();
+    let mut place = 0;
+    while place < count {
+        let leap = looker.leap_at(&here.state, place);
+        let fails = picked_fails::<L, K>(looker, alloc, cert, past, here, leap.pick, stack)?;
+        if fails.is_some() {
+            return Ok(fails);
+        }
+        place = leap.next;
+    }
+    Ok(None)
+}
+
+/// Why the line of an open node is rejected, if it is: by the first transition that does so. A forced transition that is enabled is
+/// the only one that may be taken, and none may be where one is a fault before.
 fn steps_fail<L: CostLaw, K: Covers>(
     looker: &Looker<'_>,
     alloc: Global,
@@ -222,13 +298,11 @@ fn steps_fail<L: CostLaw, K: Covers>(
     requires room { ServesModel looker.now (length stack.old) }
     ensures { IfOk result (λ fails. fails ≡ steps_fail looker.now cert.now past.now.nodes (reached_by here.now)) }
 {
-    for number in 0..looker.model().ground().list().len() {
-        let fails = step_fails::<L, K>(looker, alloc, cert, past, here, number as u32, stack)?;
-        if fails.is_some() {
-            return Ok(fails);
-        }
+    match looker.first_forced(&here.state, stack) {
+        Ok(Some(number)) => taken_fails::<L, K>(looker, alloc, cert, past, here, number, stack),
+        Ok(None) => others_fail::<L, K>(looker, alloc, cert, past, here, stack),
+        Err(_) => Ok(None),
     }
-    Ok(None)
 }
 
 /// Why the line of a node is rejected, if it is.

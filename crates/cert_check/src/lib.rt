@@ -7,6 +7,7 @@ mod clauses;
 mod layers;
 mod looker;
 mod standings;
+mod wants;
 
 pub use cert_laws::{CertReason, Checked, law_checked, law_shown};
 pub use checking::check;

@@ -1,6 +1,6 @@
 //! What looks at the packed states of a model.
 
-ghost use Rattle.std.specs.Prelude.{◌≡◌, Some, IfOk, IfSome, length};
+ghost use Rattle.std.specs.Prelude.{◌≡◌, ◌<◌, Some, IfOk, IfSome, length};
 ghost use Rattle.eval_room.specs.Needs.{ServesModel};
 ghost use Rattle.dp_model.specs.Costs.{InRange};
 ghost use Rattle.dp_model.specs.StepTexts.{ground_of};
@@ -10,11 +10,13 @@ ghost use Rattle.state_layout.specs.Conditions.{IsLayoutOf, IsNodeOf, IsPackedOf
 ghost use Rattle.state_layout.specs.Packing.{state_in};
 ghost use Rattle.spot_eval.specs.Answers.{AnswersBy};
 ghost use Rattle.spot_eval.specs.Looks.{floor_at, looked_at};
-ghost use Rattle.spot_eval.specs.Moves.{may_step_at};
+ghost use Rattle.spot_eval.specs.Moves.{first_enabled, forced_of, may_step_at, number_enabled};
 ghost use Rattle.spot_eval.specs.Ranges.{LookFits};
 ghost use Rattle.cert_laws.specs.Checks.{moved};
 ghost use Rattle.cert_check.specs.Looked.{reached_by};
+ghost use Rattle.cert_check.specs.Wants.{LeavesOne};
 
+use crate::wants::{Leap, Row, leap_at, rows_of};
 use cost_laws::CostLaw;
 use dp_model::{Model as DpModel, Seq, Transition};
 use eval_room::room_for;
@@ -25,13 +27,15 @@ use state_layout::{Layout, Node, Packed};
 use std::alloc::{AllocError, Global};
 use std::marker::Model;
 
-/// What looks at the packed states of a model: its layout, what evaluation needs of its tables, and its forced transitions.
+/// What looks at the packed states of a model: its layout, what evaluation needs of its tables, its forced transitions, and which
+/// ground transitions want a variable to have one number.
 #[derive(Drop)]
 pub(crate) struct Looker<'m> {
     model: &'m DpModel,
     layout: Layout,
     tables: Tables,
     forced: Vec<u32>,
+    rows: Vec<Row>,
 }
 
 impl<'m> Model for Looker<'m> {
@@ -41,6 +45,7 @@ impl<'m> Model for Looker<'m> {
     ghost use Rattle.spot_eval.specs.Moves.{forced_of};
     ghost use Rattle.packed_words.specs.Tables.{AreTablesOf};
     ghost use Rattle.cert_check.specs.Lookers.{model_code};
+    ghost use Rattle.cert_check.specs.Wants.{AreRows};
 
     ghost Value = { Seen };
 
@@ -48,7 +53,7 @@ impl<'m> Model for Looker<'m> {
 
     ghost view = { λ e. e.model.now };
 
-    ghost invariant = { λ e. IsLayoutOf e.model.now e.layout × (e.forced.items ≡ forced_of e.model.now) × AreTablesOf e.model.now e.tables };
+    ghost invariant = { λ e. IsLayoutOf e.model.now e.layout × (e.forced.items ≡ forced_of e.model.now) × AreTablesOf e.model.now e.tables × AreRows e.model.now e.rows.items };
 }
 
 impl<'m> Looker<'m> {
@@ -61,6 +66,7 @@ impl<'m> Looker<'m> {
             layout: Layout::of(alloc, model)?,
             tables: Tables::of(alloc, model)?,
             forced: spot_eval::forced_of(alloc, model)?,
+            rows: rows_of(alloc, model)?,
         })
     }
 
@@ -147,6 +153,45 @@ impl<'m> Looker<'m> {
     {
         let at = self.scene(p, &[]);
         packed_spots::may_step(&at, number, &self.forced, stack)
+    }
+
+    /// The first enabled one of the forced transitions.
+    pub(crate) fn first_forced(
+        &self,
+        p: &Packed,
+        stack: &mut [u64],
+    ) -> Result<Option<u32>, SpotFault>
+        requires packed { IsPackedOf self.now p.now }
+        requires room { ServesModel self.now (length stack.old) }
+        ensures { result ≡ first_enabled self.now p.now (forced_of self.now) }
+    {
+        let at = self.scene(p, &[]);
+        packed_spots::first_enabled(&at, &self.forced, stack)
+    }
+
+    /// Whether a ground transition is enabled in a state.
+    pub(crate) fn is_enabled(
+        &self,
+        p: &Packed,
+        number: u32,
+        stack: &mut [u64],
+    ) -> Result<bool, SpotFault>
+        requires packed { IsPackedOf self.now p.now }
+        requires room { ServesModel self.now (length stack.old) }
+        ensures { result ≡ number_enabled self.now p.now number }
+    {
+        let at = self.scene(p, &[]);
+        packed_spots::number_enabled(&at, number, stack)
+    }
+
+    /// Which of the ground transitions from a place on has to be tested next in a state.
+    pub(crate) fn leap_at(&self, p: &Packed, place: usize) -> Leap
+        requires packed { IsPackedOf self.now p.now }
+        requires there { place < length self.now.dp_ground }
+        ensures { LeavesOne self.now p.now place result }
+    {
+        let at = self.scene(p, &[]);
+        leap_at(&at, &self.rows, place)
     }
 
     /// The node that a ground transition leads to. Its effects and its weight alone are evaluated.

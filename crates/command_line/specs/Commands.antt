@@ -18,9 +18,9 @@ plain name = on_top (λ s. record s { disable_version_flag = true }) (on_top (λ
 
 unfoldable pub solve : App
 solve =
-    with_rule (with_rule (with_rule (with_rule (with_rule (with_rule (with_rule (with_rule (plain (codes "solve"))
+    with_rule (with_rule (with_rule (with_rule (with_rule (with_rule (with_rule (with_rule (with_rule (with_rule (plain (codes "solve"))
     (word (codes "domain"))) (word (codes "problem"))) (option (codes "workers"))) (option (codes "budget"))) (option (codes "prune"))) (option (codes "keep")))
-    (option (codes "gap"))) (option (codes "certificate"))
+    (option (codes "gap"))) (option (codes "certificate"))) (option (codes "engine"))) (option (codes "announce"))
 
 unfoldable pub replay : App
 replay = with_rule (with_rule (with_rule (plain (codes "replay")) (word (codes "domain"))) (word (codes "problem"))) (word (codes "list"))

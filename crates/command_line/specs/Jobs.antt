@@ -1,5 +1,5 @@
 -- The job that words ask for.
-use Rattle.std.specs.Prelude.{ℕ, Bool, true, false, ◌&&◌, nat_le, nat_lt, if◌then◌else◌, List, [], ◌∷◌, length, codes, Option, Some, None, option_and_then, option_map}
+use Rattle.std.specs.Prelude.{ℕ, Bool, true, false, not, ◌&&◌, ◌||◌, nat_le, nat_lt, if◌then◌else◌, List, [], ◌∷◌, length, codes, Option, Some, None, option_and_then, option_map}
 use Rattle.std.specs.Str.{bytes_eq, all_ascii_digits}
 use Rattle.std.specs.Str.Parse.{digits_value}
 use Rattle.clap.specs.Words.{Kinds}
@@ -9,6 +9,8 @@ use Rattle.dp_model.specs.declared.answers.Options.{Options}
 use Rattle.model_gen.specs.declared.kinds.GenKind.{GenKind}
 use Rattle.model_gen.specs.Kinds.{kind_named, least_size, most_size}
 use Rattle.command_line.specs.Commands.{value_in, faults_in, solve, replay, check, show, generate}
+use Rattle.command_line.specs.declared.jobs.Engine.{Engine}
+use Rattle.command_line.specs.declared.jobs.Engine.TheVariants as engines
 use Rattle.command_line.specs.declared.jobs.Job.{Job}
 use Rattle.command_line.specs.declared.reading.Asked.{Asked}
 use Rattle.command_line.specs.declared.jobs.Job.TheVariants.{Solve, Replay, Check, Show, Gen}
@@ -46,10 +48,23 @@ options_of workers budget prune keep =
     option_and_then (λ w. option_and_then (λ b. option_and_then (λ p. option_map (λ k. record { workers = w; budget = b; prune = p; keep = k })
     (layer_or_all keep)) (on_or_off true prune)) (number_or 10000000 1 1099511627776 budget)) (number_or 1 1 64 workers)
 
--- a bound and a certificate are asked for where `on` is given
-abbrev pub asked_of : Option Options → (gap certificate : Option (List ℕ)) → Option Asked
-asked_of options gap certificate =
-    option_and_then (λ o. option_and_then (λ g. option_map (λ c. record { options = o; gap = g; certificate = c }) (on_or_off false certificate)) (on_or_off false gap)) options
+abbrev pub beam_or_best : Option (List ℕ) → Option Engine
+beam_or_best None = Some engines.Beam
+beam_or_best (Some text) = if bytes_eq text (codes "beam") then Some engines.Beam else (if bytes_eq text (codes "best") then Some engines.Best else None)
+
+-- a search of the best node first has no passes, so it has no bound of passes and announces no costs
+abbrev pub has_such : Engine → (gap announce : Bool) → Bool
+has_such engines.Beam gap announce = true
+has_such engines.Best gap announce = not (gap || announce)
+
+-- what the options of a search ask for, by what is found in the words: a bound, a certificate and announced costs where `on` is
+-- given, and a search by layers where nothing else is
+abbrev pub asked_of : (value : List ℕ → Option (List ℕ)) → Option Asked
+asked_of value =
+    option_and_then (λ o. option_and_then (λ g. option_and_then (λ c. option_and_then (λ e. option_and_then (λ a.
+    if has_such e g a then Some (record { options = o; gap = g; certificate = c; engine = e; announce = a }) else None)
+    (on_or_off false (value (codes "announce")))) (beam_or_best (value (codes "engine")))) (on_or_off false (value (codes "certificate"))))
+    (on_or_off false (value (codes "gap")))) (options_of (value (codes "workers")) (value (codes "budget")) (value (codes "prune")) (value (codes "keep")))
 
 -- ---- jobs
 
@@ -58,11 +73,11 @@ abbrev pub unless_fault : Kinds → Option Job → Option Job
 unless_fault [] job = job
 unless_fault (kind ∷ kinds) job = None
 
-abbrev pub solve_job : (domain problem workers budget prune keep gap certificate : Option (List ℕ)) → Option Job
-solve_job (Some domain) (Some problem) workers budget prune keep gap certificate =
-    option_map (λ asked. Solve domain problem asked.options asked.gap asked.certificate) (asked_of (options_of workers budget prune keep) gap certificate)
-solve_job (Some domain) None workers budget prune keep gap certificate = None
-solve_job None problem workers budget prune keep gap certificate = None
+-- the job of a search, by what is found in the words
+abbrev pub solve_job : (value : List ℕ → Option (List ℕ)) → Option Job
+solve_job value =
+    option_and_then (λ domain. option_and_then (λ problem. option_map (λ asked. Solve domain problem asked.options asked.gap asked.certificate asked.engine asked.announce)
+    (asked_of value)) (value (codes "problem"))) (value (codes "domain"))
 
 abbrev pub replay_job : (domain problem list : Option (List ℕ)) → Option Job
 replay_job (Some domain) (Some problem) (Some list) = Some (Replay domain problem list)
@@ -94,11 +109,7 @@ gen_job (Some kind) None seed workers = None
 gen_job None size seed workers = None
 
 unfoldable pub solve_words : List (List ℕ) → Option Job
-solve_words ws =
-    unless_fault (faults_in solve ws)
-    (solve_job (value_in solve ws (codes "domain")) (value_in solve ws (codes "problem")) (value_in solve ws (codes "workers"))
-    (value_in solve ws (codes "budget")) (value_in solve ws (codes "prune")) (value_in solve ws (codes "keep")) (value_in solve ws (codes "gap"))
-    (value_in solve ws (codes "certificate")))
+solve_words ws = unless_fault (faults_in solve ws) (solve_job (value_in solve ws))
 
 unfoldable pub replay_words : List (List ℕ) → Option Job
 replay_words ws =

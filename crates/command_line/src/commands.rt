@@ -47,7 +47,9 @@ pub(crate) fn solve<'a>(alloc: Global) -> Result<Command<'a>, AllocError>
             .arg(option(alloc, "prune"))?
             .arg(option(alloc, "keep"))?
             .arg(option(alloc, "gap"))?
-            .arg(option(alloc, "certificate"))?,
+            .arg(option(alloc, "certificate"))?
+            .arg(option(alloc, "engine"))?
+            .arg(option(alloc, "announce"))?,
     )
 }
 

@@ -8,6 +8,15 @@ use dp_model::Options;
 use model_gen::GenKind;
 use std::alloc::AllocError;
 
+/// How a search goes over the states of a model.
+#[derive(Clone, Copy, Debug, PartialEq, Eq)]
+pub enum Engine {
+    /// Layer by layer, in passes whose shares double.
+    Beam,
+    /// The best node first, in whatever layer.
+    Best,
+}
+
 /// What the words ask for. The texts are names of files.
 #[derive(Debug, Drop)]
 pub enum Job {
@@ -20,6 +29,10 @@ pub enum Job {
         gap: bool,
         /// Whether a certificate is to be written.
         certificate: bool,
+        /// With `Best`, neither a bound nor announced costs are asked for.
+        engine: Engine,
+        /// Whether the costs of solutions are announced while a pass runs.
+        announce: bool,
     },
     /// Say whether a list of steps is a legal one of a model, and what it costs.
     Replay {

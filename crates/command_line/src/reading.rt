@@ -2,10 +2,10 @@
 
 ghost use Rattle.std.specs.Prelude.{◌≡◌, None, Some, codes, map, option_map, string_bytes, IfOk, IsErrOf};
 ghost use Rattle.clap.specs.Words.{first_value, found_of};
-ghost use Rattle.command_line.specs.Jobs.{asked_of, on_or_off, layer_or_all, options_of, solve_job, solve_words, replay_words, check_words, show_words, gen_words, gen_job, by_command, job_of};
+ghost use Rattle.command_line.specs.Jobs.{asked_of, beam_or_best, has_such, on_or_off, layer_or_all, options_of, solve_job, solve_words, replay_words, check_words, show_words, gen_words, gen_job, by_command, job_of};
 
 use crate::commands::{check, found, generate, replay, show, solve};
-use crate::jobs::{Job, WordsEnd};
+use crate::jobs::{Engine, Job, WordsEnd};
 use crate::numbers::{number_in, number_or};
 use clap::ArgMatches;
 use dp_base::Text;
@@ -27,6 +27,8 @@ struct Asked {
     options: Options,
     gap: bool,
     certificate: bool,
+    engine: Engine,
+    announce: bool,
 }
 
 fn owned(alloc: Global, text: &str) -> Result<Text, AllocError>
@@ -55,6 +57,27 @@ fn layer_or_all(word: Option<&str>) -> Option<Keep>
         None | Some("layer") => Some(Keep::Layer),
         Some("all") => Some(Keep::All),
         Some(_) => None,
+    }
+}
+
+/// How a search goes over the states: layer by layer, where the words say nothing of it.
+fn beam_or_best(word: Option<&str>) -> Option<Engine>
+    ensures { result ≡ beam_or_best (option_map (λ t. t.now) word.entry) }
+{
+    match word {
+        None | Some("beam") => Some(Engine::Beam),
+        Some("best") => Some(Engine::Best),
+        Some(_) => None,
+    }
+}
+
+/// Whether such a search has a bound and announces costs, as they are asked for.
+fn has_such(engine: Engine, gap: bool, announce: bool) -> bool
+    ensures { result ≡ has_such engine gap announce }
+{
+    match engine {
+        Engine::Beam => true,
+        Engine::Best => !(gap || announce),
     }
 }
 
@@ -90,15 +113,19 @@ fn found_options(matches: &ArgMatches<'_>) -> Option<Options>
 
 /// What was found in the words of a search.
 fn found_asked(matches: &ArgMatches<'_>) -> Option<Asked>
-    ensures { result ≡ asked_of (options_of (first_value (found_of matches.now) (codes "workers")) (first_value (found_of matches.now) (codes "budget")) (first_value (found_of matches.now) (codes "prune")) (first_value (found_of matches.now) (codes "keep"))) (first_value (found_of matches.now) (codes "gap")) (first_value (found_of matches.now) (codes "certificate")) }
+    ensures { result ≡ asked_of (first_value (found_of matches.now)) }
 {
     let options = found_options(matches)?;
     let gap = on_or_off(false, matches.get_str("gap"))?;
     let certificate = on_or_off(false, matches.get_str("certificate"))?;
-    Some(Asked {
+    let engine = beam_or_best(matches.get_str("engine"))?;
+    let announce = on_or_off(false, matches.get_str("announce"))?;
+    has_such(engine, gap, announce).then_some(Asked {
         options,
         gap,
         certificate,
+        engine,
+        announce,
     })
 }
 
@@ -113,8 +140,8 @@ fn solve_words(alloc: Global, words: &Vec<String>) -> Result<Job, WordsEnd>
 
 /// The job of a search with what was found in its words.
 fn found_search(alloc: Global, matches: &ArgMatches<'_>) -> Result<Job, WordsEnd>
-    ensures job { IfOk result (λ job. solve_job (first_value (found_of matches.now) (codes "domain")) (first_value (found_of matches.now) (codes "problem")) (first_value (found_of matches.now) (codes "workers")) (first_value (found_of matches.now) (codes "budget")) (first_value (found_of matches.now) (codes "prune")) (first_value (found_of matches.now) (codes "keep")) (first_value (found_of matches.now) (codes "gap")) (first_value (found_of matches.now) (codes "certificate")) ≡ Some job) }
-    ensures usage { IsErrOf result WordsEnd.Usage → solve_job (first_value (found_of matches.now) (codes "domain")) (first_value (found_of matches.now) (codes "problem")) (first_value (found_of matches.now) (codes "workers")) (first_value (found_of matches.now) (codes "budget")) (first_value (found_of matches.now) (codes "prune")) (first_value (found_of matches.now) (codes "keep")) (first_value (found_of matches.now) (codes "gap")) (first_value (found_of matches.now) (codes "certificate")) ≡ None }
+    ensures job { IfOk result (λ job. solve_job (first_value (found_of matches.now)) ≡ Some job) }
+    ensures usage { IsErrOf result WordsEnd.Usage → solve_job (first_value (found_of matches.now)) ≡ None }
 {
     let (Some(domain), Some(problem)) = (matches.get_str("domain"), matches.get_str("problem"))
     else {
@@ -129,6 +156,8 @@ fn found_search(alloc: Global, matches: &ArgMatches<'_>) -> Result<Job, WordsEnd
         options: asked.options,
         gap: asked.gap,
         certificate: asked.certificate,
+        engine: asked.engine,
+        announce: asked.announce,
     })
 }
 

@@ -36,21 +36,21 @@ use Rattle.content_guards.specs.Variables.{word_under, Names, IsOfKind, IsPrefer
 
 -- ---- values of keys
 
-some_refused : {A : Type 0} (number : ℕ) (at : Place) (o : Option A) (x : A) → or_refuse number at o ≡ Ok x → o ≡ Some x
+pub some_refused : {A : Type 0} (number : ℕ) (at : Place) (o : Option A) (x : A) → or_refuse number at o ≡ Ok x → o ≡ Some x
 some_refused number at None x e = absurd (cc e)
 some_refused number at (Some y) x e = ap Some (ok_same y x e)
 
-keys_are : (item : Tree) (entries : List Pair) → keyed variable_keys item ≡ Ok entries → entries ≡ map_entries item
-keys_are item entries e =
-    let a = bound (entries_of item) (known_keys variable_keys) entries e in
-    let b = bound (each (key_step variable_keys) tt a.0) (λ done. Ok a.0) entries a.2 in
+pub keyed_are : (known : List (List ℕ)) (item : Tree) (entries : List Pair) → keyed known item ≡ Ok entries → entries ≡ map_entries item
+keyed_are known item entries e =
+    let a = bound (entries_of item) (known_keys known) entries e in
+    let b = bound (each (key_step known) tt a.0) (λ done. Ok a.0) entries a.2 in
     sym (ok_same a.0 entries b.2) ∙ entries_are item a.0 a.1
 
-text_is : (tree : Tree) (text : List ℕ) → text_of tree ≡ Ok text → scalar_text tree ≡ Some text
+pub text_is : (tree : Tree) (text : List ℕ) → text_of tree ≡ Ok text → scalar_text tree ≡ Some text
 text_is tree text e = some_refused 50 (tree_place tree) (scalar_text tree) text e
 
 -- a text that passed a test
-passed : (test : Bool) (number : ℕ) (at : Place) (text out : List ℕ) → (if test then Ok text else refuse number at) ≡ Ok out → text ≡ out
+pub passed : (test : Bool) (number : ℕ) (at : Place) (text out : List ℕ) → (if test then Ok text else refuse number at) ≡ Ok out → text ≡ out
 passed true number at text out e = ok_same text out e
 passed false number at text out e = absurd (cc e)
 
@@ -58,7 +58,7 @@ failed : (test : Bool) (number : ℕ) (at : Place) (text out : List ℕ) → (if
 failed true number at text out e = absurd (cc e)
 failed false number at text out e = ok_same text out e
 
-name_is : (taken : List (List ℕ)) (tree : Tree) (name : List ℕ) → new_name taken tree ≡ Ok name → scalar_text tree ≡ Some name
+pub name_is : (taken : List (List ℕ)) (tree : Tree) (name : List ℕ) → new_name taken tree ≡ Ok name → scalar_text tree ≡ Some name
 name_is taken tree name e =
     let word = bound (name_by is_word_name tree) (λ word. if is_among taken word then refuse 43 (tree_place tree) else Ok word) name e in
     let text = bound (text_of tree) (λ text. if is_word_name text then Ok text else refuse 51 (tree_place tree)) word.0 word.1 in
@@ -66,12 +66,12 @@ name_is taken tree name e =
     ∙ ap Some (passed (is_word_name text.0) 51 (tree_place tree) text.0 word.0 text.2 ∙ failed (is_among taken word.0) 43 (tree_place tree) word.0 name word.2)
 
 -- the word under a key whose value is known
-word_is : (item : Tree) (entries : List Pair) (key : List ℕ) (tree : Tree) (text : List ℕ) → entries ≡ map_entries item → value_in key entries ≡ Some tree → scalar_text tree ≡ Some text → word_under item key ≡ Some text
+pub word_is : (item : Tree) (entries : List Pair) (key : List ℕ) (tree : Tree) (text : List ℕ) → entries ≡ map_entries item → value_in key entries ≡ Some tree → scalar_text tree ≡ Some text → word_under item key ≡ Some text
 word_is item entries key tree text same under is = ap word_in (sym (ap (value_in key) same) ∙ under) ∙ is
 
 -- ---- kinds
 
-equal_words : (a b : List ℕ) → bytes_eq a b ≡ true → a ≡ b
+pub equal_words : (a b : List ℕ) → bytes_eq a b ≡ true → a ≡ b
 equal_words a b e = (bytes_eq-Decides a b).0 e
 
 module _ (objects : List ObjectType) (item : Tree) (entries : List Pair) (same : entries ≡ map_entries item) where
@@ -178,7 +178,7 @@ module _ (objects : List ObjectType) (taken : List (List ℕ)) (item : Tree) whe
       let name = bound (new_name taken name_tree.0) (on_name entries.0 kind_tree.0) v kind_tree.2 in
       let kind = bound (kind_of objects (tree_place item) entries.0 kind_tree.0) (on_kind entries.0 name.0) v name.2 in
       let preference = bound (preference_of kind.0 (value_in (codes "preference") entries.0)) (made name.0 kind.0) v kind.2 in
-      let same = keys_are item entries.0 entries.1 in
+      let same = keyed_are variable_keys item entries.0 entries.1 in
       let it : Variable = record { name = name.0; kind = kind.0; preference = preference.0 } in
       subst (IsDeclared objects item) {x = it} (ok_same it v preference.2)
       (record {

@@ -1,1 +1,4 @@
 pub mod Variables
+pub mod Transitions
+pub mod Depot
+pub mod Dresses

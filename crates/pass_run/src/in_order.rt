@@ -9,6 +9,7 @@ ghost use Rattle.pass_ends.specs.Ends.{IsPassEnd};
 ghost use Rattle.pass_ends.specs.Passes.{AreOptions, pass_of};
 ghost use Rattle.pass_run.specs.Passes.{MayPass};
 
+use crate::ending::Over;
 use crate::stages::{Begun, begin_pass, end_pass};
 use board_words::{Board, BoardSeat};
 use cost_laws::CostLaw;
@@ -66,7 +67,9 @@ fn run_shards_in_order<L: CostLaw, K: Covers, R: Wait, G: Gate>(
                 boxes,
                 room,
             };
-            end_pass(rt, alloc, options, share, board, seat, ended)
+            let over = end_pass(rt, alloc, options, share, board, seat, ended);
+            let Over { end, callers: _ } = over;
+            end
         }
         Err(end) => end,
     }

@@ -3,17 +3,21 @@
 ghost use Rattle.std.specs.Prelude.{◌≡◌, ◌≤◌, IfErr, IfOk};
 ghost use Rattle.board_words.specs.Rules.{IsWhole};
 ghost use Rattle.board_words.specs.Seats.{IsSeatOf};
+ghost use Rattle.announcer.specs.Ends.{QueueFacts};
+ghost use Rattle.board_words.specs.Steps.{best_known};
 ghost use Rattle.board_words.specs.declared.seat.View.{View};
 ghost use Rattle.cost_laws.specs.Orders.{IsLawOf};
 ghost use Rattle.pass_ledger.specs.Passes.{Pass};
 ghost use Rattle.pass_ends.specs.Ends.{IsPassEnd};
 ghost use Rattle.pass_ends.specs.Passes.{pass_of};
+ghost use Rattle.pass_run.specs.Announcements.{RanOut};
+ghost use Rattle.pass_run.specs.Callers.{AreLastCallers, CallTo};
 ghost use Rattle.pass_run.specs.Crews.{AllEnded};
 ghost use Rattle.pass_run.specs.Passes.{MayPass};
 ghost use Rattle.pass_run.specs.Stages.{IsBegun};
 
 use crate::crew::{Crew, make_crew};
-use crate::ending::{gather, tell, visits_so_far};
+use crate::ending::{Over, gather, tell, visits_so_far};
 use crate::room::Room;
 use board_words::{Board, BoardSeat};
 use cost_laws::CostLaw;
@@ -51,6 +55,7 @@ pub(crate) fn begin_pass<'m, L: CostLaw, K: Covers>(
     requires may { MayPass model.now options.now share board.now seat.old }
     ensures begun { (some : 1 ≤ options.now.workers) → IfOk result (λ b. IsBegun (pass_of model.now options.now share some) board.now options.now.budget seat.old.view seat.new b.before b.shards.items b.boxes.items b.room) }
     ensures seat { IfErr result (λ _. IsSeatOf board.now seat.new × IsWhole seat.new.view) }
+    ensures memory { IfErr result RanOut }
     ensures answer { (some : 1 ≤ options.now.workers) → IfErr result (IsPassEnd (pass_of model.now options.now share some) seat.old.view seat.new.view) }
 {
     let before = visits_so_far(board, seat, options);
@@ -73,7 +78,18 @@ pub(crate) fn begin_pass<'m, L: CostLaw, K: Covers>(
     })
 }
 
-/// The answer of a pass whose shards have ended. The seat is whole again.
+/// The answer of a pass for which memory ran out before its shards were made. Nothing was drawn, and the seat knows what it knew.
+pub(crate) fn not_begun(board: &Board, seat: &mut BoardSeat, options: &Options) -> PassEnd
+    requires { IsSeatOf board.now seat.old }
+    ensures same { seat.new ≡ seat.old }
+    ensures memory { RanOut result }
+    ensures answer { (p : Pass) → IsWhole seat.old.view → IsPassEnd p seat.old.view seat.old.view result }
+{
+    visits_so_far(board, seat, options);
+    out_of_memory(0, 0)
+}
+
+/// The answer of a pass whose shards have ended, and the callers of those that call. The seat is whole again.
 pub(crate) fn end_pass<'m, L: CostLaw, K: Covers, R: Wait>(
     rt: &R,
     alloc: Global,
@@ -82,13 +98,15 @@ pub(crate) fn end_pass<'m, L: CostLaw, K: Covers, R: Wait>(
     board: &Board,
     seat: &mut BoardSeat,
     begun: Begun<'m, L, K>,
-) -> PassEnd
+) -> Over
     requires begun { (p : Pass) × (was : View) × IsLawOf p.model L.minimize L.operator × (share ≡ p.share) × IsBegun p board.now options.now.budget was seat.old begun.before begun.shards.items begun.boxes.items begun.room }
     requires ended { AllEnded begun.shards.items }
     ensures seat { IsSeatOf board.now seat.new }
     ensures whole { IsWhole seat.new.view }
     ensures answer { (p : Pass) (was : View) → IsLawOf p.model L.minimize L.operator → share ≡ p.share → IsBegun p board.now options.now.budget was seat.old begun.entry.before begun.entry.shards.items begun.entry.boxes.items begun.entry.room
-        → IsPassEnd p was seat.new.view result }
+        → IsPassEnd p was seat.new.view result.end }
+    ensures called { (p : Pass) (was : View) (queue : QueueFacts) → IsBegun p board.now options.now.budget was seat.old begun.entry.before begun.entry.shards.items begun.entry.boxes.items begun.entry.room
+        → CallTo queue begun.entry.shards.items → AreLastCallers p (best_known was) (best_known seat.new.view) queue result.callers.items }
 {
     let Begun {
         before,

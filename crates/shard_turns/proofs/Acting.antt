@@ -1,5 +1,5 @@
 -- A shard that goes on after a step of its turn, and one that has ended.
-use Rattle.std.proofs.Common.{◌≡◌, ℕ, ◌+◌, ◌≤◌, ◌<◌, ◌⊎◌, min, inl, inr, suc, true, false, List, [], ◌∷◌, ◌++◌, length, get_or, slice_get, Option, Some, None, refl, sym, ap, subst, ◌∙◌, arith}
+use Rattle.std.proofs.Common.{◌≡◌, ℕ, ◌+◌, ◌^◌, ◌≤◌, ◌<◌, ◌⊎◌, min, inl, inr, suc, true, false, List, [], ◌∷◌, ◌++◌, length, get_or, slice_get, Option, Some, None, refl, sym, ap, subst, ◌∙◌, arith}
 use Rattle.std.proofs.lemmas.Bool.{cases_eq}
 use Rattle.std.proofs.lemmas.List.{length_push}
 use Rattle.std.proofs.lemmas.Option.{slice_get_read}
@@ -16,7 +16,7 @@ use Rattle.board_words.specs.declared.seat.View.{View}
 use Rattle.dp_claims.specs.Enough.{Has}
 use Rattle.dp_model.specs.contracts.whole.Model as models
 use Rattle.pass_ledger.specs.Counts.{row_pairs}
-use Rattle.pass_ledger.specs.Events.{take, CanTake, close, prune, visit, post}
+use Rattle.pass_ledger.specs.Events.{take, CanTake, close, prune, visit, CanVisit, post}
 use Rattle.pass_ledger.specs.Letters.{of}
 use Rattle.pass_ledger.specs.Passes.{Pass}
 use Rattle.pass_ledger.specs.Records.{Own, Done}
@@ -31,13 +31,16 @@ use Rattle.shard_core.specs.declared.shard.Closed.{Closed}
 use Rattle.shard_core.specs.declared.shard.Shard.{Shard}
 use Rattle.shard_mail.specs.Ends.{MailboxFacts, PosterFacts, TakerFacts, IsPosterOf, IsNextFor, posted_by, taken_by}
 use Rattle.shard_mail.specs.Mails.{LawfulUnder}
+use Rattle.shard_turns.specs.Calls.{CallsFor, HasCalled, MayCall}
 use Rattle.shard_turns.specs.Envelopes.{sender_of, are_lawful}
 use Rattle.shard_turns.specs.Turners.{IsOfferOf, Sits, Sat, IsTakerFor, ArePostersFor, HasAllMail, HasSomeMail, Acts, Leaves}
 use Rattle.shard_turns.specs.Works.{HasTaken, HasClosed, HasHandled, HasPostedNext}
+use Rattle.shard_turns.specs.declared.calling.Calling.{Calling}
 use Rattle.shard_turns.specs.declared.envelope.Envelope.{Envelope}
 use Rattle.shard_turns.specs.declared.turner.Ended.{Ended}
 use Rattle.shard_turns.specs.declared.turner.Ended.TheVariants as ends
 use Rattle.shard_turns.specs.declared.turner.Turner.{Turner}
+use Rattle.shard_turns.proofs.Called.{calls_kept, calls_now, calls_visited, may_call}
 use Rattle.shard_turns.proofs.Kept.{fewer_visits}
 use Rattle.shard_turns.proofs.Mail.{enclosed, can_take, takes_mail, some_mail, vain_mail, posters_with, may_post, posts_mail, kept_mail}
 use Rattle.shard_turns.proofs.Sitting.{drawn_at, offered_after, offered_news, sits_same, sits_pruned, sits_visited, sat_met, sat_done, sat_memory, sat_budget, sat_drawn, sat_fault}
@@ -139,8 +142,9 @@ module _ {A B : Type 0} where
     own = a.stands.ends.1.own
 
     abbrev goes_on : (new : Shard A B) → new.me ≡ t.shard.me → (r : ShardRecord) → Stands p new r → (taker : TakerFacts Envelope) → IsTakerFor p boxes t.shard.me taker → (posters : Vec (PosterFacts Envelope)) → ArePostersFor p boxes t.shard.me posters.items
-        → HasAllMail p taker.taken posters.items r → (seat' : SeatFacts) → IsSeatOf board seat' → Sits p t.budget seat'.view r → Acts p board boxes (record t { shard = new; taker = taker; posters = posters }) seat'
-    goes_on new me r st taker takes posters post mail seat' on sits =
+        → HasAllMail p taker.taken posters.items r → (calling : Option Calling) → CallsFor p t.shard.me r calling → (seat' : SeatFacts) → IsSeatOf board seat' → Sits p t.budget seat'.view r
+        → Acts p board boxes (record t { shard = new; taker = taker; posters = posters; calling = calling }) seat'
+    goes_on new me r st taker takes posters post mail calling calls seat' on sits =
         record {
           shard_record = r;
           shared = a.shared;
@@ -150,11 +154,13 @@ module _ {A B : Type 0} where
           taker = subst (λ (i : ℕ). IsTakerFor p boxes i taker) (sym me) takes;
           posters = subst (λ (i : ℕ). ArePostersFor p boxes i posters.items) (sym me) post;
           mail = mail;
+          calls = subst (λ (i : ℕ). CallsFor p i r calling) (sym me) calls;
         }
 
     ends_with : (new : Shard A B) → new.me ≡ t.shard.me → (r : ShardRecord) → EndsAs p new r → (taker : TakerFacts Envelope) → IsTakerFor p boxes t.shard.me taker → (posters : Vec (PosterFacts Envelope)) → ArePostersFor p boxes t.shard.me posters.items
-        → HasSomeMail p taker.taken posters.items r → (seat' : SeatFacts) → IsSeatOf board seat' → (end : Ended) → Sat p t.shard.me end seat'.view r → Leaves p board boxes end (record t { shard = new; taker = taker; posters = posters }) seat'
-    ends_with new me r left taker takes posters post mail seat' on end sat =
+        → HasSomeMail p taker.taken posters.items r → CallsFor p t.shard.me r t.calling → (seat' : SeatFacts) → IsSeatOf board seat' → (end : Ended) → Sat p t.shard.me end seat'.view r
+        → Leaves p board boxes end (record t { shard = new; taker = taker; posters = posters }) seat'
+    ends_with new me r left taker takes posters post mail calls seat' on end sat =
         record {
           shard_record = r;
           below = subst (λ (i : ℕ). i < p.shards) (sym me) a.stands.belongs.below;
@@ -164,13 +170,14 @@ module _ {A B : Type 0} where
           taker = subst (λ (i : ℕ). IsTakerFor p boxes i taker) (sym me) takes;
           posters = subst (λ (i : ℕ). ArePostersFor p boxes i posters.items) (sym me) post;
           mail = mail;
+          calls = subst (λ (i : ℕ). CallsFor p i r t.calling) (sym me) calls;
         }
 
     halts_with : (new : Shard A B) → new.me ≡ t.shard.me → (r : ShardRecord) → EndsAs p new r → (taker : TakerFacts Envelope) → IsTakerFor p boxes t.shard.me taker → (posters : Vec (PosterFacts Envelope)) → ArePostersFor p boxes t.shard.me posters.items
-        → HasSomeMail p taker.taken posters.items r → (before seat' : SeatFacts) (cause : HaltCause) (end : Ended) → Halts board before cause end seat' → (v : View) → before.view ≡ v → Sat p t.shard.me (ends.Halted cause) (after_halt v (halt_number cause)) r
+        → HasSomeMail p taker.taken posters.items r → CallsFor p t.shard.me r t.calling → (before seat' : SeatFacts) (cause : HaltCause) (end : Ended) → Halts board before cause end seat' → (v : View) → before.view ≡ v → Sat p t.shard.me (ends.Halted cause) (after_halt v (halt_number cause)) r
         → Leaves p board boxes end (record t { shard = new; taker = taker; posters = posters }) seat'
-    halts_with new me r left taker takes posters post mail before seat' cause end h v is sat =
-        ends_with new me r left taker takes posters post mail seat' h.on_board end
+    halts_with new me r left taker takes posters post mail calls before seat' cause end h v is sat =
+        ends_with new me r left taker takes posters post mail calls seat' h.on_board end
         (subst (λ (e : Ended). Sat p t.shard.me e seat'.view r) (sym h.ended)
         (subst (λ (w : View). Sat p t.shard.me (ends.Halted cause) w r) (sym (h.view ∙ ap (λ (w : View). after_halt w (halt_number cause)) is)) sat))
 
@@ -182,11 +189,15 @@ module _ {A B : Type 0} where
           posted = λ k q at. a.mail.posted k q at ∙ ap (λ (ls : List (List Letter)). of ls k) (sym posted);
         }
 
+    -- the calls are as before
+    same_calls : (r : ShardRecord) → r.visits ≡ a.shard_record.visits → r.held ≡ a.shard_record.held → CallsFor p t.shard.me r t.calling
+    same_calls r visits held = calls_kept p t.shard.me a.shard_record r visits held t.calling a.calls
+
     -- ---- no halt is met
 
     pub looks : (seat' : SeatFacts) (word : ℕ) → word ≤ 0 → IsSeatOf board seat' → seat'.view ≡ after_halted seat.view word → (b : Acts p board boxes t seat') × (b.shard_record ≡ a.shard_record)
     looks seat' word none on view = (
-      goes_on t.shard refl a.shard_record a.stands t.taker a.taker t.posters a.posters a.mail seat' on
+      goes_on t.shard refl a.shard_record a.stands t.taker a.taker t.posters a.posters a.mail t.calling a.calls seat' on
           (subst (λ (v : View). Sits p t.budget v a.shard_record) (sym view)
           (record {
             part = a.sits.part;
@@ -207,12 +218,12 @@ module _ {A B : Type 0} where
 
     pub meets : (seat' : SeatFacts) (word : ℕ) → 0 < word → IsSeatOf board seat' → seat'.view ≡ after_halted seat.view word → Leaves p board boxes ends.Met t seat'
     meets seat' word some on view =
-        ends_with t.shard refl a.shard_record a.stands.ends t.taker a.taker t.posters a.posters (some_mail p t.taker.taken t.posters.items a.shard_record a.mail) seat' on ends.Met
+        ends_with t.shard refl a.shard_record a.stands.ends t.taker a.taker t.posters a.posters (some_mail p t.taker.taken t.posters.items a.shard_record a.mail) a.calls seat' on ends.Met
         (subst (λ (v : View). Sat p t.shard.me ends.Met v a.shard_record) (sym view) (sat_met p t.shard.me t.budget seat.view a.shard_record own a.sits word some))
 
     pub is_done : Done p t.shard.me a.shard_record → Leaves p board boxes ends.Done t seat
     is_done done =
-        ends_with t.shard refl a.shard_record a.stands.ends t.taker a.taker t.posters a.posters (some_mail p t.taker.taken t.posters.items a.shard_record a.mail) seat a.on_board ends.Done
+        ends_with t.shard refl a.shard_record a.stands.ends t.taker a.taker t.posters a.posters (some_mail p t.taker.taken t.posters.items a.shard_record a.mail) a.calls seat a.on_board ends.Done
         (sat_done p t.shard.me t.budget seat.view a.shard_record own a.sits done)
 
     -- ---- a layer is closed
@@ -220,7 +231,7 @@ module _ {A B : Type 0} where
     pub closes : (new : Shard A B) → new.me ≡ t.shard.me → (closed : Closed) → IsClosed p a.shard_record closed new → (Done p t.shard.me a.shard_record → ⊥)
         → (b : Acts p board boxes (record t { shard = new }) seat) × HasClosed p t.shard.me a.shard_record b.shard_record
     closes new me closed is going = (
-      goes_on new me (close a.shard_record is.row) is.stands t.taker a.taker t.posters a.posters (same_mail (close a.shard_record is.row) refl refl) seat a.on_board
+      goes_on new me (close a.shard_record is.row) is.stands t.taker a.taker t.posters a.posters (same_mail (close a.shard_record is.row) refl refl) t.calling (same_calls (close a.shard_record is.row) refl refl) seat a.on_board
           (sits_same p t.budget seat.view a.shard_record (close a.shard_record is.row) refl refl refl a.sits),
       closed_by p t.shard.me a.shard_record is.row is.can.idle going,
     )
@@ -231,7 +242,7 @@ module _ {A B : Type 0} where
     -- memory ran out, and the shard is only ended
     pub runs_out : (new : Shard A B) → new.me ≡ t.shard.me → EndsAs p new a.shard_record → (seat' : SeatFacts) (end : Ended) → Halts board seat causes.Memory end seat' → Leaves p board boxes end (record t { shard = new }) seat'
     runs_out new me left seat' end h =
-        halts_with new me a.shard_record left t.taker a.taker t.posters a.posters (some_mail p t.taker.taken t.posters.items a.shard_record a.mail) seat seat' causes.Memory end h seat.view refl
+        halts_with new me a.shard_record left t.taker a.taker t.posters a.posters (some_mail p t.taker.taken t.posters.items a.shard_record a.mail) a.calls seat seat' causes.Memory end h seat.view refl
         (sat_memory p t.shard.me t.budget seat.view a.shard_record own a.sits)
 
     -- ---- a node is pruned or visited
@@ -243,32 +254,47 @@ module _ {A B : Type 0} where
         → (b : Acts p board boxes (record t { shard = new }) seat') × HasHandled a.shard_record b.shard_record
     prunes new me best is least seat' on view =
         let r = prune a.shard_record is.node is.rest best in (
-          goes_on new me r is.stands t.taker a.taker t.posters a.posters (same_mail r refl refl) seat' on
+          goes_on new me r is.stands t.taker a.taker t.posters a.posters (same_mail r refl refl) t.calling (same_calls r refl refl) seat' on
               (subst (λ (v : View). Sits p t.budget v r) (sym view) (sits_pruned p t.budget seat.view a.shard_record is.node is.rest best a.sits least)),
           record { handled = λ n rest e. same_rest is.node n is.rest rest (sym is.can.first ∙ e); rows = refl },
         )
 
-    visits_with : (new : Shard A B) → new.me ≡ t.shard.me → (j best number : ℕ) (offer : Option ℕ) → IsVisit p j best a.shard_record offer new → (drawn : SeatFacts) → Drew board seat best number drawn → number < t.budget
+    -- the calls when the node was visited, before a further call
+    visit_can : (new : Shard A B) (j best : ℕ) (offer : Option ℕ) → j ≡ t.shard.me → (is : IsVisit p j best a.shard_record offer new) → CanVisit p t.shard.me a.shard_record is.layer is.node is.rest is.made is.prunes new.held None
+    visit_can new j best offer same is = subst (λ (k : ℕ). CanVisit p k a.shard_record is.layer is.node is.rest is.made is.prunes new.held None) same is.can
+
+    visits_with : (new : Shard A B) → new.me ≡ t.shard.me → (j best number : ℕ) (offer : Option ℕ) → (is : IsVisit p j best a.shard_record offer new) → (calling : Option Calling)
+        → CallsFor p t.shard.me (visit a.shard_record is.layer is.node is.rest is.made is.prunes new.held None) calling → (drawn : SeatFacts) → Drew board seat best number drawn → number < t.budget
         → (seat' : SeatFacts) → IsSeatOf board seat' → (offered : ℕ) → seat'.view ≡ record (drawn_at seat.view best number) { offered = offered } → IsOfferOf p offered new.held
-        → (b : Acts p board boxes (record t { shard = new }) seat') × HasHandled a.shard_record b.shard_record
-    visits_with new me j best number offer is drawn d lt seat' on offered view offers =
+        → (b : Acts p board boxes (record t { shard = new; calling = calling }) seat') × HasHandled a.shard_record b.shard_record
+    visits_with new me j best number offer is calling calls drawn d lt seat' on offered view offers =
         let r = visit a.shard_record is.layer is.node is.rest is.made is.prunes new.held None in (
-          goes_on new me r is.stands t.taker a.taker t.posters a.posters (same_mail r refl refl) seat' on
+          goes_on new me r is.stands t.taker a.taker t.posters a.posters (same_mail r refl refl) calling calls seat' on
               (subst (λ (v : View). Sits p t.budget v r) (sym view)
               (sits_visited p t.budget seat.view a.shard_record best number a.sits d.least d.count lt is.layer is.node is.rest is.made is.prunes is.by_best new.held offered offers)),
           record { handled = λ n rest e. same_rest is.node n is.rest rest (sym is.can.first ∙ e); rows = refl },
         )
 
-    pub visits : (new : Shard A B) → new.me ≡ t.shard.me → (j best number : ℕ) → IsVisit p j best a.shard_record None new → (drawn : SeatFacts) → Drew board seat best number drawn → number < t.budget
+    pub visits : (new : Shard A B) → new.me ≡ t.shard.me → (j best number : ℕ) → j ≡ t.shard.me → IsVisit p j best a.shard_record None new → (drawn : SeatFacts) → Drew board seat best number drawn → number < t.budget
         → (b : Acts p board boxes (record t { shard = new }) drawn) × HasHandled a.shard_record b.shard_record
-    visits new me j best number is drawn d lt =
-        visits_with new me j best number None is drawn d lt drawn d.on_board seat.view.offered d.view (offered_after p seat.view.offered a.shard_record.held new.held a.sits.offered is.offer_is)
+    visits new me j best number same is drawn d lt =
+        visits_with new me j best number None is t.calling (calls_visited p t.shard.me a.shard_record is.layer is.node is.rest is.made is.prunes new.held None (visit_can new j best None same is) t.calling a.calls) drawn d lt drawn d.on_board seat.view.offered d.view (offered_after p seat.view.offered a.shard_record.held new.held a.sits.offered is.offer_is)
 
-    pub visits_news : (new : Shard A B) → new.me ≡ t.shard.me → (j best number word : ℕ) → word ≤ no_word → IsVisit p j best a.shard_record (Some word) new → (drawn : SeatFacts) → Drew board seat best number drawn → number < t.budget
-        → (seat' : SeatFacts) → IsSeatOf board seat' → seat'.view ≡ after_offer drawn.view word → (b : Acts p board boxes (record t { shard = new }) seat') × HasHandled a.shard_record b.shard_record
-    visits_news new me j best number word fits is drawn d lt seat' on view =
-        visits_with new me j best number (Some word) is drawn d lt seat' on (min seat.view.offered word) (view ∙ ap (λ (v : View). after_offer v word) d.view)
+    pub visits_news : (new : Shard A B) → new.me ≡ t.shard.me → (j best number word : ℕ) → j ≡ t.shard.me → word ≤ no_word → IsVisit p j best a.shard_record (Some word) new → (drawn : SeatFacts) → Drew board seat best number drawn → number < t.budget
+        → (seat' : SeatFacts) → IsSeatOf board seat' → seat'.view ≡ after_offer drawn.view word → (calling : Option Calling) → HasCalled new.held t.calling calling
+        → (b : Acts p board boxes (record t { shard = new; calling = calling }) seat') × HasHandled a.shard_record b.shard_record
+    visits_news new me j best number word same fits is drawn d lt seat' on view calling called =
+        visits_with new me j best number (Some word) is calling
+        (calls_now p t.shard.me a.shard_record is.layer is.node is.rest is.made is.prunes new.held None (visit_can new j best (Some word) same is)
+        (subst (λ (k : ℕ). Own p k (visit a.shard_record is.layer is.node is.rest is.made is.prunes new.held None)) me is.stands.ends.1.own) t.calling calling a.calls called) drawn d lt seat' on (min seat.view.offered word) (view ∙ ap (λ (v : View). after_offer v word) d.view)
         (offered_news p seat.view.offered word a.shard_record.held new.held fits a.sits.offered is.offer_is)
+
+    -- before a number was drawn, and after it, the shard may call
+    pub calls_may : MayCall t.calling
+    calls_may = may_call p t.shard.me a.shard_record t.calling a.calls (few_so seat.view.drawn seat.view.top t.budget seat.view.limit board.limit (length a.shard_record.visits) a.sits.drawn a.sits.drawn_below a.sits.top a.sits.limit a.on_board.2 a.shared.limit)
+      where
+        few_so : (drawn top budget own limit visits : ℕ) → drawn ≡ visits → drawn ≤ top → top ≤ budget → own ≡ budget → own ≡ limit → limit ≤ 2 ^ 40 → visits ≤ 2 ^ 40
+        few_so drawn top budget own limit visits a b c d e f = omega (arith, a, b, c, d, e, f)
 
     -- ---- a halt after a number was drawn for a node that waits
 
@@ -278,18 +304,19 @@ module _ {A B : Type 0} where
 
       pub spends : t.budget ≤ number → Halts board drawn causes.Budget end seat' → Leaves p board boxes end t seat'
       spends le h =
-          halts_with t.shard refl a.shard_record a.stands.ends t.taker a.taker t.posters a.posters (some_mail p t.taker.taken t.posters.items a.shard_record a.mail) drawn seat' causes.Budget end h (drawn_at seat.view best number) d.view
+          halts_with t.shard refl a.shard_record a.stands.ends t.taker a.taker t.posters a.posters (some_mail p t.taker.taken t.posters.items a.shard_record a.mail) a.calls drawn seat' causes.Budget end h (drawn_at seat.view best number) d.view
           (sat_budget p t.shard.me t.budget seat.view a.shard_record own a.sits best number d.least room le)
 
       pub loses : (new : Shard A B) → new.me ≡ t.shard.me → number < t.budget → EndsAs p new a.shard_record → Halts board drawn causes.Memory end seat' → Leaves p board boxes end (record t { shard = new }) seat'
       loses new me lt left h =
-          halts_with new me a.shard_record left t.taker a.taker t.posters a.posters (some_mail p t.taker.taken t.posters.items a.shard_record a.mail) drawn seat' causes.Memory end h (drawn_at seat.view best number) d.view
+          halts_with new me a.shard_record left t.taker a.taker t.posters a.posters (some_mail p t.taker.taken t.posters.items a.shard_record a.mail) a.calls drawn seat' causes.Memory end h (drawn_at seat.view best number) d.view
           (sat_drawn p t.shard.me t.budget seat.view a.shard_record own a.sits best number d.least room lt)
 
-      pub faults : (new : Shard A B) → new.me ≡ t.shard.me → number < t.budget → (j : ℕ) (fault : SpotFault) → IsFaulted p j a.shard_record fault new → Halts board drawn causes.Fault end seat' → Leaves p board boxes end (record t { shard = new }) seat'
-      faults new me lt j fault is h =
+      pub faults : (new : Shard A B) → new.me ≡ t.shard.me → number < t.budget → (j : ℕ) → j ≡ t.shard.me → (fault : SpotFault) → IsFaulted p j a.shard_record fault new → Halts board drawn causes.Fault end seat' → Leaves p board boxes end (record t { shard = new }) seat'
+      faults new me lt j same fault is h =
           let r = visit a.shard_record is.layer is.node is.rest [] [] a.shard_record.held (Some is.met) in
-          halts_with new me r is.ends t.taker a.taker t.posters a.posters (some_mail p t.taker.taken t.posters.items r (same_mail r refl refl)) drawn seat' causes.Fault end h (drawn_at seat.view best number) d.view
+          halts_with new me r is.ends t.taker a.taker t.posters a.posters (some_mail p t.taker.taken t.posters.items r (same_mail r refl refl))
+          (calls_visited p t.shard.me a.shard_record is.layer is.node is.rest [] [] a.shard_record.held (Some is.met) (subst (λ (k : ℕ). CanVisit p k a.shard_record is.layer is.node is.rest [] [] a.shard_record.held (Some is.met)) same is.can) t.calling a.calls) drawn seat' causes.Fault end h (drawn_at seat.view best number) d.view
           (sat_fault p t.shard.me t.budget seat.view a.shard_record own a.sits best number d.least room lt is.layer is.node is.rest is.met)
 
     -- ---- a letter is taken
@@ -317,7 +344,7 @@ module _ {A B : Type 0} where
       takes taker is new me st =
           let r = take a.shard_record x.letter in (
             goes_on new me r st taker (took taker is) t.posters a.posters
-                (subst (λ (xs : List Envelope). HasAllMail p xs t.posters.items r) (sym (ap (λ (f : TakerFacts Envelope). f.taken) is)) (takes_mail p t.taker.taken t.posters.items a.shard_record a.mail x own.sizes.0 may_take.from)) seat a.on_board
+                (subst (λ (xs : List Envelope). HasAllMail p xs t.posters.items r) (sym (ap (λ (f : TakerFacts Envelope). f.taken) is)) (takes_mail p t.taker.taken t.posters.items a.shard_record a.mail x own.sizes.0 may_take.from)) t.calling (same_calls r refl refl) seat a.on_board
                 (sits_same p t.budget seat.view a.shard_record r refl refl refl a.sits),
             inr (x.letter, refl),
           )
@@ -326,14 +353,14 @@ module _ {A B : Type 0} where
       pub takes_in_vain : (taker : TakerFacts Envelope) → taker ≡ taken_by t.taker x → (new : Shard A B) → new.me ≡ t.shard.me → EndsAs p new a.shard_record → (seat' : SeatFacts) (end : Ended) → Halts board seat causes.Memory end seat' → Leaves p board boxes end (record t { shard = new; taker = taker }) seat'
       takes_in_vain taker is new me left seat' end h =
           halts_with new me a.shard_record left taker (took taker is) t.posters a.posters
-          (subst (λ (xs : List Envelope). HasSomeMail p xs t.posters.items a.shard_record) (sym (ap (λ (f : TakerFacts Envelope). f.taken) is)) (vain_mail p t.taker.taken t.posters.items a.shard_record a.mail x)) seat seat' causes.Memory end h seat.view refl
+          (subst (λ (xs : List Envelope). HasSomeMail p xs t.posters.items a.shard_record) (sym (ap (λ (f : TakerFacts Envelope). f.taken) is)) (vain_mail p t.taker.taken t.posters.items a.shard_record a.mail x)) a.calls seat seat' causes.Memory end h seat.view refl
           (sat_memory p t.shard.me t.budget seat.view a.shard_record own a.sits)
 
     -- ---- nothing is posted
 
     pub rests : (new : Shard A B) → new.me ≡ t.shard.me → Stands p new a.shard_record → IsQuiet p t.shard.me a.shard_record
         → (b : Acts p board boxes (record t { shard = new }) seat) × HasPostedNext p t.shard.me a.shard_record false b.shard_record
-    rests new me st quiet = (goes_on new me a.shard_record st t.taker a.taker t.posters a.posters a.mail seat a.on_board a.sits, record { posted = record { waiting = refl; rows = refl }; quiet = λ _. quiet })
+    rests new me st quiet = (goes_on new me a.shard_record st t.taker a.taker t.posters a.posters a.mail t.calling a.calls seat a.on_board a.sits, record { posted = record { waiting = refl; rows = refl }; quiet = λ _. quiet })
 
     -- ---- a letter is posted
 
@@ -378,7 +405,7 @@ module _ {A B : Type 0} where
             let r = post a.shard_record to x is.rest in (
               goes_on new same_number r is.stands t.taker a.taker (with_item t.posters to q')
                   (posters_with p t.posters.items to q at boxes t.shard.me a.posters q' (ap (λ (f : PosterFacts Envelope). f.mailbox) same) (ap (λ (f : PosterFacts Envelope). f.number) same) (ap (λ (f : PosterFacts Envelope). f.terms) same))
-                  (posts_mail p t.posters.items to q at t.taker.taken a.shard_record x a.mail within is.rest q' same) seat a.on_board (sits_same p t.budget seat.view a.shard_record r refl refl refl a.sits),
+                  (posts_mail p t.posters.items to q at t.taker.taken a.shard_record x a.mail within is.rest q' same) t.calling (same_calls r refl refl) seat a.on_board (sits_same p t.budget seat.view a.shard_record r refl refl refl a.sits),
               record { posted = record { waiting = refl; rows = refl }; quiet = λ e. absurd (not_false e) },
             )
 
@@ -388,14 +415,14 @@ module _ {A B : Type 0} where
             let r = post a.shard_record to x is.rest in
             halts_with new same_number r is.stands.ends t.taker a.taker (with_item t.posters to q')
             (posters_with p t.posters.items to q at boxes t.shard.me a.posters q' (ap (λ (f : PosterFacts Envelope). f.mailbox) same) (ap (λ (f : PosterFacts Envelope). f.number) same) (ap (λ (f : PosterFacts Envelope). f.terms) same))
-            (kept_mail p t.posters.items to q at t.taker.taken a.shard_record x a.mail within is.rest q' same) seat seat' causes.Memory end h seat.view refl
+            (kept_mail p t.posters.items to q at t.taker.taken a.shard_record x a.mail within is.rest q' same) (same_calls r refl refl) seat seat' causes.Memory end h seat.view refl
             (sat_memory p t.shard.me t.budget seat.view r (subst (λ (i : ℕ). Own p i r) same_number is.stands.ends.1.own) (sits_same p t.budget seat.view a.shard_record r refl refl refl a.sits))
 
   -- ---- the counts of turns and of letters, and why it has ended, change nothing of the rest
 
   abbrev pub turned : (p : Pass) (board : BoardFacts) (boxes : List MailboxFacts) (t : Turner A B) (seat : SeatFacts) → Acts p board boxes t seat → (turns : ℕ) → Acts p board boxes (record t { turns = turns }) seat
   turned p board boxes t seat a turns =
-      record { shard_record = a.shard_record; shared = a.shared; stands = a.stands; on_board = a.on_board; sits = a.sits; taker = a.taker; posters = a.posters; mail = a.mail }
+      record { shard_record = a.shard_record; shared = a.shared; stands = a.stands; on_board = a.on_board; sits = a.sits; taker = a.taker; posters = a.posters; mail = a.mail; calls = a.calls }
 
   -- a shard that has ended leaves the same when it has let go of what it does not hand back
   pub left_gone : (p : Pass) (board : BoardFacts) (boxes : List MailboxFacts) (t : Turner A B) (seat : SeatFacts) (end : Ended) (left : Leaves p board boxes end t seat) (new : Shard A B) → new.me ≡ t.shard.me → EndsAs p new left.shard_record → (ended : Option Ended)
@@ -410,12 +437,13 @@ module _ {A B : Type 0} where
         taker = subst (λ (i : ℕ). IsTakerFor p boxes i t.taker) (sym me) left.taker;
         posters = subst (λ (i : ℕ). ArePostersFor p boxes i t.posters.items) (sym me) left.posters;
         mail = left.mail;
+        calls = subst (λ (i : ℕ). CallsFor p i left.shard_record t.calling) (sym me) left.calls;
       }
 
   abbrev pub counted : (p : Pass) (board : BoardFacts) (boxes : List MailboxFacts) (t : Turner A B) (seat : SeatFacts) → Acts p board boxes t seat → (letters : ℕ) → Acts p board boxes (record t { letters = letters }) seat
   counted p board boxes t seat a letters =
-      record { shard_record = a.shard_record; shared = a.shared; stands = a.stands; on_board = a.on_board; sits = a.sits; taker = a.taker; posters = a.posters; mail = a.mail }
+      record { shard_record = a.shard_record; shared = a.shared; stands = a.stands; on_board = a.on_board; sits = a.sits; taker = a.taker; posters = a.posters; mail = a.mail; calls = a.calls }
 
   pub left_counted : (p : Pass) (board : BoardFacts) (boxes : List MailboxFacts) (t : Turner A B) (seat : SeatFacts) (end : Ended) → Leaves p board boxes end t seat → (letters : ℕ) → Leaves p board boxes end (record t { letters = letters }) seat
   left_counted p board boxes t seat end left letters =
-      record { shard_record = left.shard_record; below = left.below; ends = left.ends; on_board = left.on_board; sat = left.sat; taker = left.taker; posters = left.posters; mail = left.mail }
+      record { shard_record = left.shard_record; below = left.below; ends = left.ends; on_board = left.on_board; sat = left.sat; taker = left.taker; posters = left.posters; mail = left.mail; calls = left.calls }

@@ -1,4 +1,5 @@
 pub mod Kept
+pub mod Called
 pub mod Sitting
 pub mod Mail
 pub mod Acting

@@ -17,6 +17,7 @@ use Rattle.pass_ledger.specs.declared.records.Held.{Held}
 use Rattle.pass_ledger.specs.declared.records.PrunedAt.{PrunedAt}
 use Rattle.pass_ledger.specs.declared.records.ShardRecord.{ShardRecord}
 use Rattle.shard_core.specs.Stands.{Stands, EndsAs}
+use Rattle.shard_turns.specs.Calls.{CallsFor}
 use Rattle.shard_turns.specs.Envelopes.{letters_in, taken_from, terms_of}
 use Rattle.shard_turns.specs.declared.envelope.Envelope.{Envelope}
 use Rattle.shard_turns.specs.declared.turner.Ended.{Ended}
@@ -83,7 +84,8 @@ pub record HasSomeMail (p : Pass) (taken : List Envelope) (posters : List (Poste
 
 -- ---- a shard that goes on
 
--- The shard stands for a record of the pass, and its seat and its ends of the mailboxes tell what that record says.
+-- The shard stands for a record of the pass, and its seat and its ends of the mailboxes tell what that record says. What it called
+-- are costs of solutions that it held.
 pub record Acts {A B : Type 0} (p : Pass) (board : BoardFacts) (boxes : List MailboxFacts) (t : Turner A B) (seat : SeatFacts) : Type 0 where
   pub shard_record : ShardRecord
   pub shared : IsSharedBy p board boxes
@@ -93,6 +95,7 @@ pub record Acts {A B : Type 0} (p : Pass) (board : BoardFacts) (boxes : List Mai
   pub taker : IsTakerFor p boxes t.shard.me t.taker
   pub posters : ArePostersFor p boxes t.shard.me t.posters.items
   pub mail : HasAllMail p t.taker.taken t.posters.items shard_record
+  pub calls : CallsFor p t.shard.me shard_record t.calling
 
 -- ---- a shard that has ended
 
@@ -116,7 +119,7 @@ pub record Sat (p : Pass) (i : ℕ) (end : Ended) (v : View) (r : ShardRecord) :
   pub few_drawn : v.drawn ≤ length (row_pairs 0 r.rows)
   pub cause : HasEnded p i v r end
 
--- What a shard leaves: a record of the pass whose parts it hands back.
+-- What a shard leaves: a record of the pass whose parts it hands back, and which knows what it called.
 pub record Leaves {A B : Type 0} (p : Pass) (board : BoardFacts) (boxes : List MailboxFacts) (end : Ended) (t : Turner A B) (seat : SeatFacts) : Type 0 where
   pub shard_record : ShardRecord
   pub below : t.shard.me < p.shards
@@ -126,6 +129,7 @@ pub record Leaves {A B : Type 0} (p : Pass) (board : BoardFacts) (boxes : List M
   pub taker : IsTakerFor p boxes t.shard.me t.taker
   pub posters : ArePostersFor p boxes t.shard.me t.posters.items
   pub mail : HasSomeMail p t.taker.taken t.posters.items shard_record
+  pub calls : CallsFor p t.shard.me shard_record t.calling
 
 -- ---- either
 

@@ -2,9 +2,11 @@
 //! closes a layer, visits a node, and posts letters. Who turns the shards, and in which order, is not known here.
 #![tactic(auto)]
 
+mod calling;
 mod envelope;
 mod player;
 mod turner;
 
+pub use calling::Calling;
 pub use envelope::Envelope;
 pub use turner::{Ended, Turner};

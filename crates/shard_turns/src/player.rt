@@ -10,13 +10,14 @@ use shard_threads::{Player, Pulse};
 use std::sync::Wait;
 
 impl<'m, L: CostLaw, K: Covers> Player for Turner<'m, L, K> {
-    ghost use Rattle.std.specs.Prelude.{ℕ, is_some};
+    ghost use Rattle.std.specs.Prelude.{ℕ, Option, is_some};
+    ghost use Rattle.announcer.specs.Ends.{QueueFacts};
     ghost use Rattle.pass_ledger.specs.Passes.{Pass};
     ghost use Rattle.shard_turns.specs.Plays.{plays_by};
 
     type Boxes = Vec<Mailbox<Envelope>>;
 
-    ghost Terms = { Pass × ℕ };
+    ghost Terms = { Pass × ℕ × Option QueueFacts };
 
     ghost keeps = { plays_by L.minimize L.operator K.prune K.minimize K.operator };
 

@@ -7,9 +7,11 @@ ghost use Rattle.board_words.specs.Steps.{after_halt};
 ghost use Rattle.pass_ledger.specs.Passes.{Pass};
 ghost use Rattle.shard_core.specs.Calls.{IsQuiet};
 ghost use Rattle.shard_core.specs.Stands.{Suited};
+ghost use Rattle.shard_turns.specs.Calls.{queue_of};
 ghost use Rattle.shard_turns.specs.Turners.{Acts, Leaves, Keeps};
 ghost use Rattle.shard_turns.specs.Works.{HasWorked, HasTaken, HasClosed, HasHandled, HasPosted, HasPostedNext};
 
+use crate::calling::{Calling, offer_held};
 use crate::envelope::Envelope;
 use board_words::{Board, BoardSeat, HaltCause};
 use cost_laws::CostLaw;
@@ -35,6 +37,8 @@ pub struct Turner<'m, L: CostLaw, K: Covers> {
     pub shard: Shard<'m, L, K>,
     pub taker: Taker<Envelope>,
     pub posters: Vec<Poster<Envelope>>,
+    /// By what it calls the costs of better solutions; `None` where they are not announced.
+    pub calling: Option<Calling<'m>>,
     /// How many nodes the shards of all passes may visit together.
     pub budget: u64,
     /// How many turns it took. The count stands still at its greatest number.
@@ -62,6 +66,7 @@ impl<'m, L: CostLaw, K: Covers> Turner<'m, L, K> {
         ensures works { (p : Pass) → Suited p L.minimize L.operator K.prune K.minimize K.operator → (a : Acts p board.now boxes.now.items self.old seat.old)
             → self.new.ended ≡ None → (b : Acts p board.now boxes.now.items self.new seat.new) × HasWorked p self.old.shard.me a.shard_record b.shard_record }
         ensures me { self.new.shard.me ≡ self.old.shard.me }
+        ensures queue { queue_of self.new.calling ≡ queue_of self.old.calling }
     {
         self.turns = self.turns.saturating_add(1);
         if let Err(end) = self.act(rt, board, boxes, seat) {
@@ -85,11 +90,12 @@ impl<'m, L: CostLaw, K: Covers> Turner<'m, L, K> {
             → IfErr result (λ end. Leaves p board.now boxes.now.items end self.new seat.new) }
         ensures same { self.new.ended ≡ self.old.ended }
         ensures me { self.new.shard.me ≡ self.old.shard.me }
+        ensures queue { queue_of self.new.calling ≡ queue_of self.old.calling }
     {
         self.look_for_halt(board, boxes, seat)?;
         self.take(rt, board, boxes, seat)?;
         self.close(board, boxes, seat)?;
-        self.visit(board, boxes, seat)?;
+        self.visit(rt, board, boxes, seat)?;
         self.post(rt, board, boxes, seat)
     }
 
@@ -107,6 +113,7 @@ impl<'m, L: CostLaw, K: Covers> Turner<'m, L, K> {
             → IfErr result (λ end. Leaves p board.now boxes.now.items end self.new seat.new) }
         ensures same { self.new.ended ≡ self.old.ended }
         ensures me { self.new.shard.me ≡ self.old.shard.me }
+        ensures queue { queue_of self.new.calling ≡ queue_of self.old.calling }
     {
         let _ = boxes;
         if board.halted(seat) > 0 {
@@ -130,6 +137,7 @@ impl<'m, L: CostLaw, K: Covers> Turner<'m, L, K> {
             → IfErr result (λ end. Leaves p board.now boxes.now.items end self.new seat.new) }
         ensures same { self.new.ended ≡ self.old.ended }
         ensures me { self.new.shard.me ≡ self.old.shard.me }
+        ensures queue { queue_of self.new.calling ≡ queue_of self.old.calling }
     {
         let Some(envelope) = boxes[self.shard.me as usize].take(rt, &mut self.taker) else {
             return Ok(());
@@ -155,6 +163,7 @@ impl<'m, L: CostLaw, K: Covers> Turner<'m, L, K> {
             → IfErr result (λ end. Leaves p board.now boxes.now.items end self.new seat.new) }
         ensures same { self.new.ended ≡ self.old.ended }
         ensures me { self.new.shard.me ≡ self.old.shard.me }
+        ensures queue { queue_of self.new.calling ≡ queue_of self.old.calling }
     {
         let _ = boxes;
         if !self.shard.ready() {
@@ -169,9 +178,10 @@ impl<'m, L: CostLaw, K: Covers> Turner<'m, L, K> {
         }
     }
 
-    // prunes or visits the first waiting node, if there is one
-    fn visit(
+    // prunes or visits the first waiting node, if there is one, and calls the cost of a solution that bettered the board
+    fn visit<R: Wait>(
         &mut self,
+        rt: &R,
         board: &Board,
         boxes: &Vec<Mailbox<Envelope>>,
         seat: &mut BoardSeat,
@@ -183,6 +193,7 @@ impl<'m, L: CostLaw, K: Covers> Turner<'m, L, K> {
             → IfErr result (λ end. Leaves p board.now boxes.now.items end self.new seat.new) }
         ensures same { self.new.ended ≡ self.old.ended }
         ensures me { self.new.shard.me ≡ self.old.shard.me }
+        ensures queue { queue_of self.new.calling ≡ queue_of self.old.calling }
     {
         let _ = boxes;
         if !self.shard.waits() {
@@ -197,7 +208,7 @@ impl<'m, L: CostLaw, K: Covers> Turner<'m, L, K> {
         }
         match self.shard.visit(best) {
             Visited::Done { offer: Some(word) } => {
-                board.offer(seat, word);
+                offer_held(rt, board, seat, word, &self.shard.held, &mut self.calling);
                 Ok(())
             }
             Visited::Done { offer: None } => Ok(()),
@@ -221,6 +232,7 @@ impl<'m, L: CostLaw, K: Covers> Turner<'m, L, K> {
             → IfErr result (λ end. Leaves p board.now boxes.now.items end self.new seat.new) }
         ensures same { self.new.ended ≡ self.old.ended }
         ensures me { self.new.shard.me ≡ self.old.shard.me }
+        ensures queue { queue_of self.new.calling ≡ queue_of self.old.calling }
     {
         if self.shard.is_quiet() {
             return Ok(());
@@ -248,6 +260,7 @@ impl<'m, L: CostLaw, K: Covers> Turner<'m, L, K> {
             → IfErr result (λ end. Leaves p board.now boxes.now.items end self.new seat.new) }
         ensures same { self.new.ended ≡ self.old.ended }
         ensures me { self.new.shard.me ≡ self.old.shard.me }
+        ensures queue { queue_of self.new.calling ≡ queue_of self.old.calling }
     {
         let Some((to, letter)) = self.shard.next_letter() else {
             return Ok(false);

@@ -52,6 +52,10 @@ pass_line number share visited dropped = line (codes "pass " ++ decimal number +
 abbrev pub bound_line : ℤ → List ℕ
 bound_line cost = line (codes "bound " ++ signed_decimal cost)
 
+-- the line of a search of the best node first
+abbrev pub searched_line : (visited : ℕ) → List ℕ
+searched_line visited = line (codes "search visited " ++ decimal visited)
+
 -- how many costs were announced while a pass ran, and how many calls were refused
 abbrev pub announced_line : (announced refused : ℕ) → List ℕ
 announced_line announced refused = line (codes "announced " ++ decimal announced ++ codes " refused " ++ decimal refused)

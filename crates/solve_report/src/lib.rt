@@ -11,7 +11,9 @@ mod steps;
 mod verdicts;
 
 pub use endings::put_written;
-pub use lines::{put_announced, put_bound, put_line, put_pass, put_pieces, put_solution};
+pub use lines::{
+    put_announced, put_bound, put_line, put_pass, put_pieces, put_searched, put_solution,
+};
 pub use pieces::Piece;
 pub use refusals::{file_name, put_refusal};
 pub use shows::put_show;

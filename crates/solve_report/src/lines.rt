@@ -2,7 +2,7 @@
 
 ghost use Rattle.std.specs.Prelude.{◌≡◌};
 ghost use Rattle.dp_base.specs.Bytes.{line};
-ghost use Rattle.solve_report.specs.Lines.{announced_line, bound_line, found_text, pass_line, solution_text};
+ghost use Rattle.solve_report.specs.Lines.{announced_line, bound_line, found_text, pass_line, searched_line, solution_text};
 ghost use Rattle.solve_report.specs.Pieces.{pieces_text};
 ghost use Rattle.solve_report.specs.Puts.{Puts};
 
@@ -90,6 +90,15 @@ pub fn put_bound<S: Sink>(out: &mut S, cost: i64) -> Result<(), Failed>
         (bound_line cost) result }
 {
     let pieces = [Piece::Text("bound "), Piece::Signed(cost)];
+    put_pieces(out, &pieces)
+}
+
+/// Writes the line of a search of the best node first: how many nodes it visited.
+pub fn put_searched<S: Sink>(out: &mut S, visited: u64) -> Result<(), Failed>
+    ensures { Puts (S.taken out.old) (S.taken out.new) (S.faults out.old) (S.faults out.new)
+        (searched_line visited) result }
+{
+    let pieces = [Piece::Text("search visited "), Piece::Number(visited)];
     put_pieces(out, &pieces)
 }
 

@@ -1,9 +1,9 @@
 -- What was written behind a verdict, and a search with its certificate.
-use Rattle.std.proofs.Common.{◌≡◌, ℕ, ◌⊎◌, inl, inr, Bool, true, false, List, [], ◌∷◌, ◌++◌, Option, Some, None, Result, Ok, Err, refl, sym, subst, ◌∙◌}
-use Rattle.std.specs.Prelude.{codes, OnOk, OnErr}
+use Rattle.std.proofs.Common.{◌≡◌, ℕ, ◌⊎◌, inl, inr, Bool, true, false, List, [], ◌∷◌, ◌++◌, Option, Some, None, Result, Ok, Err, refl, sym, subst, ◌∙◌, ◌≤◌, arith}
+use Rattle.std.specs.Prelude.{codes, IfSome, OnOk, OnErr}
 use Rattle.std.specs.List.{AllByRecursion}
 use Rattle.std.proofs.lemmas.List.{append-nil}
-use Rattle.dp_outside.specs.Outside.{Takes, TakesFront}
+use Rattle.dp_outside.specs.Outside.{Rose, Takes, TakesFront}
 use Rattle.dp_outside.specs.declared.failing.Failed.{Failed}
 use Rattle.dp_outside.proofs.Steps.{Takes-more}
 use Rattle.dp_base.specs.Bytes.{line}
@@ -24,13 +24,18 @@ use Rattle.cert_laws.specs.Shown.{ClaimHolds}
 use Rattle.cert_text.specs.Texts.{text_of, text_of_lines}
 use Rattle.cert_making.specs.Written.{IsBegun, Tells, open_lines}
 use Rattle.cert_making.specs.declared.ends.CertEnd.TheVariants as ends
+use Rattle.best_ledger.specs.Right.{BestEnding}
+use Rattle.best_ledger.specs.Right as best
+use Rattle.run_ends.specs.Claims.{claim_with}
 use Rattle.run_ends.specs.declared.solved.Solved.{Solved}
 use Rattle.run_ends.specs.declared.status.Status.{Status}
 use Rattle.run_ends.specs.declared.status.Status.TheVariants as statuses
+use Rattle.solve_best.specs.Texts as bests
 use Rattle.solve_passes.specs.Ongoing.{Concluded}
 use Rattle.solve_passes.specs.Records.{Ending, Ended, OutOfMemory, claim_after, claim_of, ending_status, last_solution, record_text, solutions}
 use Rattle.solve_passes.specs.declared.progress.Printing.TheVariants.{All}
-use Rattle.solve_top.specs.Behind.{Behind, Nothing, Whole, Begun, OutOfRoom, NoRoom, Broken, IsBehind, RightBehind, RightCause, Solves, WritesBehind, behind_status, behind_text}
+use Rattle.solve_top.specs.Behind.{Behind, Nothing, Whole, Begun, OutOfRoom, NoRoom, Broken, Follows, IsBehind, Prints, RightBehind, RightCause, Solves, SolvesBest, TakesWith, WasPrinted, WritesBehind, behind_status, behind_text}
+use Rattle.solve_top.specs.Jobs.{keeping_all}
 
 -- ---- a text behind another
 
@@ -49,6 +54,19 @@ put_writes before after f g text (Err failed) wanted status puts ok err = inr (e
 
 as_text : (before after : Option (List ℕ)) (text other : List ℕ) (wanted status : Status) → text ≡ other → Writes before after text wanted status → Writes before after other wanted status
 as_text before after text other wanted status e writes = subst (λ (t : List ℕ). Writes before after t wanted status) e writes
+
+-- what stands behind a text, and that text
+with_front : (m : Model) (options : Options) (behind : Behind) (first second third : Option (List ℕ)) (front : List ℕ) → Takes first second front → TakesWith second third [] m options behind → TakesWith first third front m options behind
+with_front m options Nothing first second third front took h = Takes-more first second third front (behind_text m options Nothing) took h
+with_front m options (Whole cert) first second third front took h = Takes-more first second third front (behind_text m options (Whole cert)) took h
+with_front m options (Begun claim layers why) first second third front took h = Takes-more first second third front (behind_text m options (Begun claim layers why)) took h
+with_front m options (OutOfRoom claim layers) first second third front took h = Takes-more first second third front (behind_text m options (OutOfRoom claim layers)) took h
+with_front m options NoRoom first second third front took h = Takes-more first second third front (behind_text m options NoRoom) took h
+with_front m options (Broken claim layers) first second third front took h = h
+
+then_prints : (m : Model) (options : Options) (behind : Behind) (first second third : Option (List ℕ)) (front : List ℕ) (wanted status : Status) → Takes first second front → Prints second third [] m options behind wanted status → Prints first third front m options behind wanted status
+then_prints m options behind first second third front wanted status took (inl h) = inl (h.0, with_front m options behind first second third front took h.1)
+then_prints m options behind first second third front wanted status took (inr h) = inr (h.0, TakesFront-append first second third front (behind_text m options behind) took h.1)
 
 -- ---- behind a verdict
 
@@ -85,25 +103,7 @@ pub puts_behind : (m : Model) (options : Options) (claim : Claim) (status : Stat
 puts_behind m options claim status first second third f g written put result told puts ok err =
     written_behind m options claim status first second third result written told (put_writes second third f g (written_text m written) put status result puts ok err)
 
--- ---- a search
-
-last_legal : (m : Model) (ss : List Found) (s : Found) → AllByRecursion (λ (x : Found). Solution m x.steps x.cost) ss → last_solution ss ≡ Some s → Solution m s.steps s.cost
-last_legal m [] s all is = absurd cc
-last_legal m (x ∷ []) s all is = let same : x ≡ s = cc in subst (λ (y : Found). Solution m y.steps y.cost) same all.0
-last_legal m (x ∷ y ∷ ss) s all is = last_legal m (y ∷ ss) s all.1 is
-
-claim_legal : (m : Model) (ss : List Found) (e : Ending) (claim : Claim) → AllByRecursion (λ (x : Found). Solution m x.steps x.cost) ss → claim_after (last_solution ss) e ≡ Some claim → ClaimHolds m claim
-claim_legal m ss (Ended (verdicts.Optimal cost)) claim all is = of_last (last_solution ss) refl claim is
-  where
-    of_last : (last : Option Found) → last ≡ last_solution ss → (told : Claim) → claim_after last (Ended (verdicts.Optimal cost)) ≡ Some told → ClaimHolds m told
-    of_last None e told is = absurd cc
-    of_last (Some s) e told is = let same : claims.Optimal s ≡ told = cc in subst (ClaimHolds m) same (last_legal m ss s all (sym e))
-claim_legal m ss (Ended verdicts.Infeasible) claim all is = let same : claims.Infeasible ≡ claim = cc in subst (ClaimHolds m) same tt
-claim_legal m ss (Ended (verdicts.Stopped visits)) claim all is = absurd cc
-claim_legal m ss (Ended (verdicts.Fault fault)) claim all is = absurd cc
-claim_legal m ss (Ended (verdicts.Legal cost)) claim all is = absurd cc
-claim_legal m ss (Ended (verdicts.Illegal done reason)) claim all is = absurd cc
-claim_legal m ss OutOfMemory claim all is = absurd cc
+-- ---- behind a text that ends with a verdict
 
 -- what is written where nothing can be said of a claim
 abbrev any_behind : Option Claim → Behind
@@ -123,62 +123,156 @@ none_may m options true (Some claim) e = absurd cc
 some_may : (m : Model) (options : Options) (claimed : Option Claim) (claim : Claim) (behind : Behind) → claimed ≡ Some claim → RightBehind m options claim behind → IsBehind true m options claimed behind
 some_may m options claimed claim behind e right = subst (λ (x : Option Claim). IsBehind true m options x behind) (sym e) right
 
-module _ (m : Model) (options : Options) (gap : Bool) (first second : Option (List ℕ)) (solved : Solved) (c : Concluded m options gap All first second solved) where
-  -- the claim that is answered is of a legal list
-  pub claim_holds : (claim : Claim) → solved.claim ≡ Some claim → ClaimHolds m claim
-  claim_holds claim is = elim c.printed [
-    | inl h ↦ claim_legal m (solutions c.run) c.run.ending claim c.right.legal (sym h.2 ∙ is)
-    | inr h ↦ let clash : None ≡ Some claim = sym h.2 ∙ is in absurd cc
-  ]
+module _ (m : Model) (options : Options) (first second : Option (List ℕ)) (text : List ℕ) (claimed : Option Claim) (wanted : Status) (solved : Solved)
+    (printed : WasPrinted first second text claimed wanted solved) where
+  -- nothing is written behind it
+  alone : (certificate : Bool) → IsBehind certificate m options claimed Nothing → Writes first second text wanted solved.status → Follows certificate m options first second text claimed wanted solved.status
+  alone certificate may writes = (Nothing, may, as_text first second text (text ++ []) wanted solved.status (sym (append-nil text)) writes)
 
-  -- nothing is written behind a record
-  alone : (certificate : Bool) → IsBehind certificate m options (claim_of c.run) Nothing → Writes first second (record_text All m c.run) (ending_status c.run.ending) solved.status → Solves m options gap certificate first second solved.status
-  alone certificate may writes = record {
-    run = c.run;
-    behind = Nothing;
-    right = c.right;
-    word = c.word;
-    is_behind = may;
-    printed = as_text first second (record_text All m c.run) (record_text All m c.run ++ []) (ending_status c.run.ending) solved.status (sym (append-nil (record_text All m c.run))) writes;
-  }
-
-  -- the record was not written whole
-  broken : (certificate : Bool) → solved.status ≡ statuses.WriteFault → TakesFront first second (record_text All m c.run) → Solves m options gap certificate first second solved.status
+  -- the text was not written whole
+  broken : (certificate : Bool) → solved.status ≡ statuses.WriteFault → TakesFront first second text → Follows certificate m options first second text claimed wanted solved.status
   broken certificate is front =
-      let any = any_may m options certificate (claim_of c.run) in
-      record {
-        run = c.run;
-        behind = any.0;
-        right = c.right;
-        word = c.word;
-        is_behind = any.1;
-        printed = inr (is, TakesFront-longer first second (record_text All m c.run) (behind_text m options any.0) front);
-      }
+      let any = any_may m options certificate claimed in
+      (any.0, any.1, inr (is, TakesFront-longer first second text (behind_text m options any.0) front))
 
   -- no certificate is asked for
-  pub solves_alone : Solves m options gap false first second solved.status
-  solves_alone = elim c.printed [ inl h ↦ alone false refl (inl (h.0, h.1)) | inr h ↦ broken false h.0 h.1 ]
+  pub follows_alone : Follows false m options first second text claimed wanted solved.status
+  follows_alone = elim printed [ inl h ↦ alone false refl (inl (h.0, h.1)) | inr h ↦ broken false h.0 h.1 ]
 
   -- nothing is claimed
-  pub solves_silent : solved.claim ≡ None → Solves m options gap true first second solved.status
-  solves_silent none = elim c.printed [ inl h ↦ alone true (none_may m options true (claim_of c.run) (sym h.2 ∙ none)) (inl (h.0, h.1)) | inr h ↦ broken true h.0 h.1 ]
+  pub follows_silent : solved.claim ≡ None → Follows true m options first second text claimed wanted solved.status
+  follows_silent none = elim printed [ inl h ↦ alone true (none_may m options true claimed (sym h.2 ∙ none)) (inl (h.0, h.1)) | inr h ↦ broken true h.0 h.1 ]
 
-  -- a certificate stands behind the record
-  pub solves_behind : (claim : Claim) (third : Option (List ℕ)) (status : Status) → solved.claim ≡ Some claim → WritesBehind m options claim solved.status second third status → Solves m options gap true first third status
-  solves_behind claim third status is w = elim c.printed [
-    | inl h ↦ record {
-      run = c.run;
-      behind = w.0;
-      right = c.right;
-      word = c.word;
-      is_behind = some_may m options (claim_of c.run) claim w.0 (sym h.2 ∙ is) w.1;
-      printed = subst (λ (s : Status). Writes first third (record_text All m c.run ++ behind_text m options w.0) (behind_status s w.0) status) h.0
-          (then_writes first second third (record_text All m c.run) (behind_text m options w.0) (behind_status solved.status w.0) status h.1 w.2);
-    }
+  -- a certificate stands behind it
+  pub follows_behind : (claim : Claim) (third : Option (List ℕ)) (status : Status) → solved.claim ≡ Some claim → WritesBehind m options claim solved.status second third status → Follows true m options first third text claimed wanted status
+  follows_behind claim third status is w = elim printed [
+    | inl h ↦ (
+      w.0,
+      some_may m options claimed claim w.0 (sym h.2 ∙ is) w.1,
+      subst (λ (s : Status). Prints first third text m options w.0 s status) h.0 (then_prints m options w.0 first second third text solved.status status h.1 w.2),
+    )
     | inr h ↦ let clash : None ≡ Some claim = sym h.2 ∙ is in absurd cc
   ]
 
--- a certificate is asked for
-pub if_asked : (m : Model) (options : Options) (gap certificate : Bool) (before after : Option (List ℕ)) (status : Status) → certificate ≡ true → Solves m options gap true before after status → Solves m options gap certificate before after status
-if_asked m options gap true before after status e solves = solves
-if_asked m options gap false before after status e solves = absurd cc
+-- a certificate is asked for or not
+pub if_asked : (m : Model) (options : Options) (certificate asked : Bool) (before after : Option (List ℕ)) (text : List ℕ) (claimed : Option Claim) (wanted status : Status) → certificate ≡ asked → Follows asked m options before after text claimed wanted status → Follows certificate m options before after text claimed wanted status
+if_asked m options certificate asked before after text claimed wanted status e follows = subst (λ (c : Bool). Follows c m options before after text claimed wanted status) (sym e) follows
+
+-- the same with options that are equal
+pub follows_as : (m : Model) (options others : Options) (certificate : Bool) (before after : Option (List ℕ)) (text : List ℕ) (claimed : Option Claim) (wanted status : Status) → options ≡ others → Follows certificate m options before after text claimed wanted status → Follows certificate m others before after text claimed wanted status
+follows_as m options others certificate before after text claimed wanted status e follows = subst (λ (o : Options). Follows certificate m o before after text claimed wanted status) e follows
+
+-- the claim that is answered
+pub held_claim : (m : Model) (o : Option Claim) (claim : Claim) → IfSome o (ClaimHolds m) → o ≡ Some claim → ClaimHolds m claim
+held_claim m o claim holds is = rw is at holds
+
+-- where a failed write claims nothing, it was a later write that failed
+pub rose_behind : (o : Option Claim) (claim : Claim) (status : Status) (f g : ℕ) → (status ≡ statuses.WriteFault → o ≡ None) → o ≡ Some claim → (status ≡ statuses.WriteFault) ⊎ Rose f g → ((status ≡ statuses.WriteFault) × (g ≡ f)) ⊎ Rose f g
+rose_behind o claim status f g none some (inl fault) = let clash : None ≡ Some claim = sym (none fault) ∙ some in absurd cc
+rose_behind o claim status f g none some (inr rose) = inr rose
+
+-- a write of the text or of what stands behind it failed
+pub rose_in_all : (status : Status) (first second third : ℕ) → (status ≡ statuses.WriteFault → Rose first second) → first ≤ second → ((status ≡ statuses.WriteFault) × (third ≡ second)) ⊎ Rose second third → Rose first third
+rose_in_all status first second third before count (inl h) = subst (λ (n : ℕ). Rose first n) (sym h.1) (before h.0)
+rose_in_all status first second third before count (inr (inl rose)) = inl (omega (arith, count, rose))
+rose_in_all status first second third before count (inr (inr most)) = inr most
+
+each_claim : (m : Model) (o : Option Claim) → ((claim : Claim) → o ≡ Some claim → ClaimHolds m claim) → IfSome o (ClaimHolds m)
+each_claim m None h = tt
+each_claim m (Some claim) h = h claim refl
+
+-- ---- a search layer by layer
+
+last_legal : (m : Model) (ss : List Found) (s : Found) → AllByRecursion (λ (x : Found). Solution m x.steps x.cost) ss → last_solution ss ≡ Some s → Solution m s.steps s.cost
+last_legal m [] s all is = absurd cc
+last_legal m (x ∷ []) s all is = let same : x ≡ s = cc in subst (λ (y : Found). Solution m y.steps y.cost) same all.0
+last_legal m (x ∷ y ∷ ss) s all is = last_legal m (y ∷ ss) s all.1 is
+
+claim_legal : (m : Model) (ss : List Found) (e : Ending) (claim : Claim) → AllByRecursion (λ (x : Found). Solution m x.steps x.cost) ss → claim_after (last_solution ss) e ≡ Some claim → ClaimHolds m claim
+claim_legal m ss (Ended (verdicts.Optimal cost)) claim all is = of_last (last_solution ss) refl claim is
+  where
+    of_last : (last : Option Found) → last ≡ last_solution ss → (told : Claim) → claim_after last (Ended (verdicts.Optimal cost)) ≡ Some told → ClaimHolds m told
+    of_last None e told is = absurd cc
+    of_last (Some s) e told is = let same : claims.Optimal s ≡ told = cc in subst (ClaimHolds m) same (last_legal m ss s all (sym e))
+claim_legal m ss (Ended verdicts.Infeasible) claim all is = let same : claims.Infeasible ≡ claim = cc in subst (ClaimHolds m) same tt
+claim_legal m ss (Ended (verdicts.Stopped visits)) claim all is = absurd cc
+claim_legal m ss (Ended (verdicts.Fault fault)) claim all is = absurd cc
+claim_legal m ss (Ended (verdicts.Legal cost)) claim all is = absurd cc
+claim_legal m ss (Ended (verdicts.Illegal done reason)) claim all is = absurd cc
+claim_legal m ss OutOfMemory claim all is = absurd cc
+
+no_write_fault : (e : Ending) → ending_status e ≡ statuses.WriteFault → ⊥
+no_write_fault (Ended (verdicts.Optimal cost)) h = absurd cc
+no_write_fault (Ended verdicts.Infeasible) h = absurd cc
+no_write_fault (Ended (verdicts.Stopped v)) h = absurd cc
+no_write_fault (Ended (verdicts.Fault f)) h = absurd cc
+no_write_fault (Ended (verdicts.Legal cost)) h = absurd cc
+no_write_fault (Ended (verdicts.Illegal n r)) h = absurd cc
+no_write_fault OutOfMemory h = absurd cc
+
+module _ (m : Model) (options : Options) (gap announce : Bool) (first second : Option (List ℕ)) (solved : Solved) (c : Concluded m options gap (All announce) first second solved) where
+  -- the claim that is answered is of a legal list
+  pub claims_hold : IfSome solved.claim (ClaimHolds m)
+  claims_hold = each_claim m solved.claim (λ claim is. elim c.printed [
+    | inl h ↦ claim_legal m (solutions c.run) c.run.ending claim c.right.legal (sym h.2 ∙ is)
+    | inr h ↦ let clash : None ≡ Some claim = sym h.2 ∙ is in absurd cc
+  ])
+
+  -- after a failed write nothing is claimed
+  pub unclaimed : solved.status ≡ statuses.WriteFault → solved.claim ≡ None
+  unclaimed is = elim c.printed [ inl h ↦ absurd (no_write_fault c.run.ending (sym h.0 ∙ is)) | inr h ↦ h.2 ]
+
+  -- the record was printed, and this behind it
+  pub solves : (certificate : Bool) (third : Option (List ℕ)) (status : Status) → Follows certificate m options first third (record_text (All announce) m c.run) (claim_of c.run) (ending_status c.run.ending) status → Solves m options gap announce certificate first third status
+  solves certificate third status follows = record { run = c.run; right = c.right; announcing = c.announcing; word = c.word; follows = follows }
+
+-- ---- a search of the best node first
+
+-- what a status claims with a legal list
+claim_with_legal : (m : Model) (status : Status) (found : Option Found) (claim : Claim) → IfSome found (λ f. Solution m f.steps f.cost) → claim_with status found ≡ Some claim → ClaimHolds m claim
+claim_with_legal m statuses.Success None claim legal is = absurd cc
+claim_with_legal m statuses.Success (Some f) claim legal is = let same : claims.Optimal f ≡ claim = cc in subst (ClaimHolds m) same legal
+claim_with_legal m statuses.Negative found claim legal is = let same : claims.Infeasible ≡ claim = cc in subst (ClaimHolds m) same tt
+claim_with_legal m statuses.Usage found claim legal is = absurd cc
+claim_with_legal m statuses.Refused found claim legal is = absurd cc
+claim_with_legal m statuses.ReadFault found claim legal is = absurd cc
+claim_with_legal m statuses.WriteFault found claim legal is = absurd cc
+claim_with_legal m statuses.Memory found claim legal is = absurd cc
+claim_with_legal m statuses.TooLong found claim legal is = absurd cc
+claim_with_legal m statuses.Stopped found claim legal is = absurd cc
+claim_with_legal m statuses.Fault found claim legal is = absurd cc
+
+no_best_write_fault : (e : BestEnding) → bests.ending_status e ≡ statuses.WriteFault → ⊥
+no_best_write_fault (best.Ended (verdicts.Optimal cost)) h = absurd cc
+no_best_write_fault (best.Ended verdicts.Infeasible) h = absurd cc
+no_best_write_fault (best.Ended (verdicts.Stopped v)) h = absurd cc
+no_best_write_fault (best.Ended (verdicts.Fault f)) h = absurd cc
+no_best_write_fault (best.Ended (verdicts.Legal cost)) h = absurd cc
+no_best_write_fault (best.Ended (verdicts.Illegal n r)) h = absurd cc
+no_best_write_fault best.OutOfMemory h = absurd cc
+
+module _ (m : Model) (options : Options) (first second : Option (List ℕ)) (solved : Solved) (c : bests.Concluded m options first second solved) where
+  pub best_claims_hold : IfSome solved.claim (ClaimHolds m)
+  best_claims_hold = each_claim m solved.claim (λ claim is. elim c.printed [
+    | inl h ↦ claim_with_legal m (bests.ending_status c.run.ending) c.run.found claim c.right.legal (sym h.2 ∙ is)
+    | inr h ↦ let clash : None ≡ Some claim = sym h.2 ∙ is in absurd cc
+  ])
+
+  pub best_unclaimed : solved.status ≡ statuses.WriteFault → solved.claim ≡ None
+  best_unclaimed is = elim c.printed [ inl h ↦ absurd (no_best_write_fault c.run.ending (sym h.0 ∙ is)) | inr h ↦ h.2 ]
+
+  pub solves_best : (certificate : Bool) (third : Option (List ℕ)) (status : Status) → Follows certificate m (keeping_all options) first third (bests.run_text m c.run) (bests.claim_of c.run) (bests.ending_status c.run.ending) status → SolvesBest m options certificate first third status
+  solves_best certificate third status follows = record { run = c.run; right = c.right; word = c.word; follows = follows }
+
+  not_read_fault : (e : BestEnding) → bests.ending_status e ≡ statuses.ReadFault → ⊥
+  not_read_fault (best.Ended (verdicts.Optimal cost)) h = absurd cc
+  not_read_fault (best.Ended verdicts.Infeasible) h = absurd cc
+  not_read_fault (best.Ended (verdicts.Stopped v)) h = absurd cc
+  not_read_fault (best.Ended (verdicts.Fault f)) h = absurd cc
+  not_read_fault (best.Ended (verdicts.Legal cost)) h = absurd cc
+  not_read_fault (best.Ended (verdicts.Illegal n r)) h = absurd cc
+  not_read_fault best.OutOfMemory h = absurd cc
+
+  -- no search ends with the status of a read fault
+  pub best_no_read_fault : solved.status ≡ statuses.ReadFault → ⊥
+  best_no_read_fault h = elim c.printed [ inl p ↦ not_read_fault c.run.ending (sym p.0 ∙ h) | inr p ↦ let e : statuses.WriteFault ≡ statuses.ReadFault = sym p.0 ∙ h in absurd cc ]

@@ -8,6 +8,7 @@ use Rattle.cert_laws.specs.declared.answers.Checked.{Checked as Findings}
 use Rattle.cert_laws.specs.declared.answers.Checked.TheVariants as findings
 use Rattle.cert_laws.proofs.Backwards.{law}
 use Rattle.cert_laws.proofs.Yes.{yes_law}
+use Rattle.command_line.specs.declared.jobs.Engine.TheVariants as engines
 use Rattle.command_line.specs.declared.jobs.Job.{Job}
 use Rattle.command_line.specs.declared.jobs.Job.TheVariants as jobs
 use Rattle.run_ends.specs.Statuses.{code_of}
@@ -15,7 +16,7 @@ use Rattle.run_ends.specs.declared.status.Status.{Status}
 use Rattle.run_ends.specs.declared.status.Status.TheVariants as statuses
 use Rattle.solve_top.specs.Certified.{Certifies, HaveCert, IsCertified, IsRejected}
 use Rattle.solve_top.specs.Jobs.{Asks}
-use Rattle.solve_top.specs.Outcomes.{Outcome, NoMeaning, ReadFault, TooLong, Refused, NoMemory, Solving, Replayed, Checked, Shown as WasShown, NoGenerated, Generated, ComesOf, Printed, checked_status, outcome_status}
+use Rattle.solve_top.specs.Outcomes.{Outcome, NoMeaning, ReadFault, TooLong, Refused, NoMemory, Solving, SolvingBest, Replayed, Checked, Shown as WasShown, NoGenerated, Generated, ComesOf, Printed, checked_status, outcome_status}
 use Rattle.solve_top.proofs.Settling.{none_asked, same_job}
 
 -- the status is neither that of a yes nor that of a no
@@ -45,7 +46,8 @@ module _ (words : List (List ℕ)) (files : List ℕ → Option (List ℕ)) (dom
   tells_as (TooLong file) h = inr (none_told 7 (inr (inr (inr (inr (inr refl))))))
   tells_as (Refused r) h = inr (none_told 3 (inr (inl refl)))
   tells_as NoMemory h = inr (none_told 6 (inr (inr (inr (inr (inl refl))))))
-  tells_as (Solving m options gap run behind) h = let same : jobs.Solve h.0 h.1 options gap h.2 ≡ jobs.Check domain problem text = other (jobs.Solve h.0 h.1 options gap h.2) h.3 in absurd cc
+  tells_as (Solving m options gap announce run behind) h = let same : jobs.Solve h.0 h.1 options gap h.2 engines.Beam announce ≡ jobs.Check domain problem text = other (jobs.Solve h.0 h.1 options gap h.2 engines.Beam announce) h.3 in absurd cc
+  tells_as (SolvingBest m options run behind) h = let same : jobs.Solve h.0 h.1 options h.2 h.3 engines.Best h.4 ≡ jobs.Check domain problem text = other (jobs.Solve h.0 h.1 options h.2 h.3 engines.Best h.4) h.5 in absurd cc
   tells_as (Replayed m steps told) h = let same : jobs.Replay h.0 h.1 h.2 ≡ jobs.Check domain problem text = other (jobs.Replay h.0 h.1 h.2) h.3 in absurd cc
   tells_as (WasShown m) h = let same : jobs.Show h.0 h.1 ≡ jobs.Check domain problem text = other (jobs.Show h.0 h.1) h.2 in absurd cc
   tells_as (NoGenerated kind size seed refusal) h = let same : jobs.Gen kind size seed h.0 ≡ jobs.Check domain problem text = other (jobs.Gen kind size seed h.0) h.1 in absurd cc

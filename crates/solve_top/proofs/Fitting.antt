@@ -92,10 +92,10 @@ free_job : (kinds : Kinds) (told : Option Job) (job : Job) → unless_fault kind
 free_job [] told job e = e
 free_job (kind ∷ kinds) told job e = absurd cc
 
-solve_fits : (domain problem workers budget prune keep gap certificate : Option (List ℕ)) (job : Job) → solve_job domain problem workers budget prune keep gap certificate ≡ Some job → JobFits job
-solve_fits domain problem workers budget prune keep gap certificate job e =
-    let s = is_search domain problem workers budget prune keep gap certificate job e in
-    subst JobFits (sym s.is) (options_fit workers budget prune keep s.given s.are)
+solve_fits : (value : List ℕ → Option (List ℕ)) (job : Job) → solve_job value ≡ Some job → JobFits job
+solve_fits value job e =
+    let s = is_search value job e in
+    subst JobFits (sym s.is) (options_fit (value (codes "workers")) (value (codes "budget")) (value (codes "prune")) (value (codes "keep")) s.given s.are)
 
 replay_fits : (domain problem list : Option (List ℕ)) (job : Job) → replay_job domain problem list ≡ Some job → JobFits job
 replay_fits (Some domain) (Some problem) (Some list) job e = subst JobFits (some_one (jobs.Replay domain problem list) job e) tt
@@ -135,7 +135,7 @@ gen_fits None size seed workers job e = absurd cc
 
 solve_words_fit : (ws : List (List ℕ)) (job : Job) → solve_words ws ≡ Some job → JobFits job
 unfolding solve_words
-solve_words_fit ws job e = solve_fits (value_in solve ws (codes "domain")) (value_in solve ws (codes "problem")) (value_in solve ws (codes "workers")) (value_in solve ws (codes "budget")) (value_in solve ws (codes "prune")) (value_in solve ws (codes "keep")) (value_in solve ws (codes "gap")) (value_in solve ws (codes "certificate")) job (free_job (faults_in solve ws) (solve_job (value_in solve ws (codes "domain")) (value_in solve ws (codes "problem")) (value_in solve ws (codes "workers")) (value_in solve ws (codes "budget")) (value_in solve ws (codes "prune")) (value_in solve ws (codes "keep")) (value_in solve ws (codes "gap")) (value_in solve ws (codes "certificate"))) job e)
+solve_words_fit ws job e = solve_fits (value_in solve ws) job (free_job (faults_in solve ws) (solve_job (value_in solve ws)) job e)
 
 replay_words_fit : (ws : List (List ℕ)) (job : Job) → replay_words ws ≡ Some job → JobFits job
 unfolding replay_words

@@ -1,7 +1,9 @@
 -- What a run of the program came to.
 use Rattle.std.proofs.Common.{◌≡◌, ℕ, ◌≤◌, Bool, List, [], ◌∷◌, length, Option, Some, None, ◌⊎◌, inl, inr, refl, sym, ◌∙◌, subst, arith}
-use Rattle.std.specs.Prelude.{IfSome, IfOk, IfErr, Result, Ok, Err}
+use Rattle.std.specs.Prelude.{IfSome, IfOk, IfErr, OnOk, OnErr, Result, Ok, Err}
 use Rattle.std.specs.Result.{IsErrAnd}
+use Rattle.command_line.specs.declared.jobs.Engine.{Engine}
+use Rattle.command_line.specs.declared.jobs.Engine.TheVariants as engines
 use Rattle.command_line.specs.declared.jobs.Job.{Job}
 use Rattle.command_line.specs.declared.jobs.Job.TheVariants as jobs
 use Rattle.dp_model.specs.declared.answers.Options.{Options}
@@ -12,16 +14,20 @@ use Rattle.solve_top.specs.Files.{IsText, IsShort, IsLong, AreTexts, OfTexts}
 use Rattle.solve_passes.specs.Ongoing.{Concluded}
 use Rattle.solve_passes.specs.Records.{Ending, Ended, OutOfMemory, ending_status, record_text}
 use Rattle.run_ends.specs.declared.solved.Solved.{Solved}
+use Rattle.dp_base.specs.declared.place.Place.{Place}
 use Rattle.dp_outside.specs.Outside.{Takes, TakesFront}
+use Rattle.dp_outside.specs.declared.failing.Failed.{Failed}
+use Rattle.solve_report.specs.Lines.{refusal_text}
+use Rattle.solve_report.specs.Puts.{Puts}
 use Rattle.run_ends.specs.Statuses.{code_of}
 use Rattle.solve_passes.specs.declared.progress.Printing.{Printing}
 use Rattle.run_ends.specs.declared.status.Status.{Status}
 use Rattle.run_ends.specs.declared.status.Status.TheVariants as statuses
 use Rattle.cert_types.specs.declared.cert.Cert.{Cert}
 use Rattle.cert_laws.specs.Checks.{checked}
-use Rattle.solve_top.specs.Behind.{Solves}
+use Rattle.solve_top.specs.Behind.{SolvesBy}
 use Rattle.solve_top.specs.Jobs.{Asks, names_of, third_of}
-use Rattle.solve_top.specs.Outcomes.{NoMemory, Solving, Replayed, Checked, Shown, ComesOf, Does, Printed}
+use Rattle.solve_top.specs.Outcomes.{NoMemory, Solving, SolvingBest, Replayed, Checked, Shown, ComesOf, Does, Printed}
 use Rattle.solve_top.specs.Runs.{outcome_of, RefusedBy, IsUnread, GiveNothing}
 use Rattle.solve_top.specs.Texts.{Means, IsRefused, MeanCert, MeanModel, MeanSteps, AreRefused, Third}
 use Rattle.solve_top.specs.declared.causes.NoModel.{NoModel}
@@ -33,9 +39,12 @@ pub as_printed : {m : Model} {options : Options} {gap : Bool} {printing : Printi
 as_printed c = elim c.printed [ inl h ↦ inl (h.0, h.1) | inr h ↦ inr (h.0, h.1) ]
 
 -- a model that was loaded was searched
-pub searched : (files : List ℕ → Option (List ℕ)) (domain problem : List ℕ) (options : Options) (gap certificate : Bool) (m : Model) (before after : Option (List ℕ)) (status : Status) →
-    OfTexts files (domain ∷ problem ∷ []) (λ texts. MeanModel texts m) → Solves m options gap certificate before after status → Does (jobs.Solve domain problem options gap certificate) files before after status
-searched files domain problem options gap certificate m before after status texts s = λ words asks. (Solving m options gap s.run s.behind, (domain, problem, certificate, asks, texts, s.right, s.word, s.is_behind), s.printed)
+pub searched : (files : List ℕ → Option (List ℕ)) (domain problem : List ℕ) (options : Options) (gap certificate : Bool) (engine : Engine) (announce : Bool) (m : Model) (before after : Option (List ℕ)) (status : Status) →
+    OfTexts files (domain ∷ problem ∷ []) (λ texts. MeanModel texts m) → SolvesBy engine m options gap announce certificate before after status → Does (jobs.Solve domain problem options gap certificate engine announce) files before after status
+searched files domain problem options gap certificate engines.Beam announce m before after status texts s =
+    λ words asks. (Solving m options gap announce s.run s.follows.0, (domain, problem, certificate, asks, texts, s.right, s.announcing, s.word, s.follows.1), s.follows.2)
+searched files domain problem options gap certificate engines.Best announce m before after status texts s =
+    λ words asks. (SolvingBest m options s.run s.follows.0, (domain, problem, gap, certificate, announce, asks, texts, s.right, s.word, s.follows.1), s.follows.2)
 
 -- a list was replayed, or memory ran out
 pub was_replayed : (files : List ℕ → Option (List ℕ)) (domain problem list : List ℕ) (m : Model) (steps : List ℕ) (before after : Option (List ℕ)) (status : Status) →
@@ -65,6 +74,12 @@ gave_nothing files job words causes.Memory asks h = tt
 
 pub did_nothing : (files : List ℕ → Option (List ℕ)) (job : Job) (e : NoModel) (before after : Option (List ℕ)) (status : Status) → GiveNothing (third_of job) files (names_of job) e → Printed before after (outcome_of e) status → Does job files before after status
 did_nothing files job e before after status h printed = λ words asks. (outcome_of e, gave_nothing files job words e asks h, printed)
+
+-- a refusal was printed
+pub refused_printed : (before after : Option (List ℕ)) (f g : ℕ) (cause : NoModel) (number : ℕ) (place : Place) (offset : Option ℕ) (put : Result (Unit {0}) Failed) (status : Status) → cause ≡ causes.Refused number place offset →
+    Puts before after f g (refusal_text place offset number) put → OnOk put (status ≡ statuses.Refused) → OnErr put (status ≡ statuses.WriteFault) → Printed before after (outcome_of cause) status
+refused_printed before after f g cause number place offset (Ok done) status is puts ok err = subst (λ (e : NoModel). Printed before after (outcome_of e) status) (sym is) (inl (ok, puts.ok))
+refused_printed before after f g cause number place offset (Err failed) status is puts ok err = subst (λ (e : NoModel). Printed before after (outcome_of e) status) (sym is) (inr (err, puts.err))
 
 not_read_fault : (e : Ending) → ending_status e ≡ statuses.ReadFault → ⊥
 not_read_fault (Ended (verdicts.Optimal c)) h = absurd cc

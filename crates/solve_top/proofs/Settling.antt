@@ -9,6 +9,10 @@ use Rattle.dp_model.specs.declared.answers.Verdict.{Verdict}
 use Rattle.dp_model.specs.declared.answers.Verdict.TheVariants as verdicts
 use Rattle.dp_model.specs.declared.whole.Model.{Model}
 use Rattle.command_line.specs.Jobs.{job_of}
+use Rattle.best_ledger.specs.Right.{BestEnding, BestRun}
+use Rattle.best_ledger.specs.Right as best
+use Rattle.command_line.specs.declared.jobs.Engine.{Engine}
+use Rattle.command_line.specs.declared.jobs.Engine.TheVariants as engines
 use Rattle.command_line.specs.declared.jobs.Job.{Job}
 use Rattle.command_line.specs.declared.jobs.Job.TheVariants as jobs
 use Rattle.dypdl_nodes.specs.Reads.{Refusal}
@@ -16,13 +20,14 @@ use Rattle.model_gen.specs.Texts.{domain_text, problem_text}
 use Rattle.model_gen.specs.declared.kinds.GenKind.{GenKind}
 use Rattle.pass_ledger.proofs.Finite.{finite}
 use Rattle.solve_passes.specs.Records.{Record, Ending, Ended, OutOfMemory, RightEnding, RightVerdict, ending_status}
+use Rattle.solve_best.specs.Texts as bests
 use Rattle.run_ends.specs.Statuses.{code_of}
 use Rattle.run_ends.specs.declared.status.Status.{Status}
-use Rattle.solve_top.specs.Answers.{CanEnd, IsSettled, IsSmall, SettlesFiles, SettlesGenerated, SettlesSmall}
+use Rattle.solve_top.specs.Answers.{CanEnd, CanEndBest, CanEndBy, IsSettled, IsSmall, SettlesFiles, SettlesGenerated, SettlesSmall}
 use Rattle.solve_top.specs.Behind.{Behind, Nothing, Whole, Begun, OutOfRoom, NoRoom, Broken, behind_status}
 use Rattle.solve_top.specs.Files.{IsShort, IsLong, IsText, AreTexts, AtFile, OfTexts}
 use Rattle.solve_top.specs.Jobs.{Asks, gen_options, names_of, third_of}
-use Rattle.solve_top.specs.Outcomes.{Outcome, NoMeaning, ReadFault, TooLong, Refused, NoMemory, Solving, Replayed, Checked, Shown, NoGenerated, Generated, ComesOf, Printed, outcome_status}
+use Rattle.solve_top.specs.Outcomes.{Outcome, NoMeaning, ReadFault, TooLong, Refused, NoMemory, Solving, SolvingBest, Replayed, Checked, Shown, NoGenerated, Generated, ComesOf, Printed, outcome_status}
 use Rattle.solve_top.specs.Texts.{Means, MeanModel, AreRefused, IsRefused, Steps, Third}
 use Rattle.solve_top.proofs.OneMeaning.{one_meaning, meant_or_refused}
 
@@ -60,6 +65,19 @@ ends_well : (m : Model) (options : Options) (gap : Bool) (r : Record) (e : Endin
 ends_well m options gap r (Ended v) right can = ends_verdict m options gap r v right.0 can
 ends_well m options gap r OutOfMemory right can = memory
 
+-- a right run of the best node first
+best_ends_verdict : (m : Model) (options : Options) (r : BestRun) (v : Verdict) → best.RightVerdict m options r v → CanEndBest m options → IsSettled (code_of (bests.ending_status (best.Ended v)))
+best_ends_verdict m options r (verdicts.Optimal c) right can = success
+best_ends_verdict m options r verdicts.Infeasible right can = negative
+best_ends_verdict m options r (verdicts.Stopped v) right can = absurd (can.enough right.2)
+best_ends_verdict m options r (verdicts.Fault f) right can = absurd (can.no_fault f.steps f.spot f.kind right)
+best_ends_verdict m options r (verdicts.Legal c) right can = absurd right
+best_ends_verdict m options r (verdicts.Illegal n reason) right can = absurd right
+
+best_ends_well : (m : Model) (options : Options) (r : BestRun) (e : BestEnding) → best.RightEnding m options r e → CanEndBest m options → IsSettled (code_of (bests.ending_status e))
+best_ends_well m options r (best.Ended v) right can = best_ends_verdict m options r v right.0 can
+best_ends_well m options r best.OutOfMemory right can = memory
+
 -- what stands behind a verdict settles the run too
 behind_settled : (status : Status) (behind : Behind) → IsSettled (code_of status) → IsSettled (code_of (behind_status status behind))
 behind_settled status Nothing h = h
@@ -93,12 +111,12 @@ told_as (Some t) bytes text e is = let same : t ≡ bytes = cc in is ∙ same
 
 -- ---- a search of files
 
-module _ (words : List (List ℕ)) (files : List ℕ → Option (List ℕ)) (domain problem first second : List ℕ) (options : Options) (gap certificate : Bool) (m : Model)
-    (asks : Asks words (jobs.Solve domain problem options gap certificate))
+module _ (words : List (List ℕ)) (files : List ℕ → Option (List ℕ)) (domain problem first second : List ℕ) (options : Options) (gap certificate : Bool) (engine : Engine) (announce : Bool) (m : Model)
+    (asks : Asks words (jobs.Solve domain problem options gap certificate engine announce))
     (told : files domain ≡ Some first) (short : IsShort first)
     (told' : files problem ≡ Some second) (short' : IsShort second)
     (means : Means first second m)
-    (can : CanEnd m options) where
+    (can : CanEndBy engine m options) where
   not_too_long : (file : ℕ) → AtFile files 1 (domain ∷ problem ∷ []) file (λ t. IfSome t IsLong) → ⊥
   not_too_long file (inl h) = told_short (files domain) first told short h.1
   not_too_long file (inr (other, inl h)) = told_short (files problem) second told' short' h.1
@@ -121,40 +139,56 @@ module _ (words : List (List ℕ)) (files : List ℕ → Option (List ℕ)) (dom
       let also = told_as (files problem) second b told' are.2.0 in
       one_meaning first second other m (subst (λ (t : List ℕ). Means first t other) also (subst (λ (t : List ℕ). Means t b other) same h)) means
 
+  -- the model of an outcome's texts
+  the_other : (other : Model) (d p : List ℕ) → d ≡ domain → p ≡ problem → OfTexts files (d ∷ p ∷ []) (λ texts. MeanModel texts other) → other ≡ m
+  the_other other d p same also h =
+      let of_texts : OfTexts files (domain ∷ problem ∷ []) (λ texts. MeanModel texts other) =
+      subst (λ (name : List ℕ). OfTexts files (domain ∷ name ∷ []) (λ texts. MeanModel texts other)) also (subst (λ (name : List ℕ). OfTexts files (name ∷ p ∷ []) (λ texts. MeanModel texts other)) same h) in
+      the_model other of_texts.0 of_texts.1 of_texts.2
+
   named : (job : Job) → Asks words job → names_of job ≡ domain ∷ problem ∷ []
-  named job also = ap names_of (same_job words job (jobs.Solve domain problem options gap certificate) also asks)
+  named job also = ap names_of (same_job words job (jobs.Solve domain problem options gap certificate engine announce) also asks)
 
   settles_as : (outcome : Outcome) → ComesOf words files outcome → IsSettled (code_of (outcome_status outcome))
-  settles_as NoMeaning h = absurd (none_asked words (jobs.Solve domain problem options gap certificate) asks h)
+  settles_as NoMeaning h = absurd (none_asked words (jobs.Solve domain problem options gap certificate engine announce) asks h)
   settles_as (ReadFault file) h = read_fault
   settles_as (TooLong file) h = absurd (not_too_long file (subst (λ (names : List (List ℕ)). AtFile files 1 names file (λ t. IfSome t IsLong)) (named h.0 h.1) h.2))
   settles_as (Refused r) h =
-      let of_texts : OfTexts files (domain ∷ problem ∷ []) (λ texts. AreRefused Steps texts r) = subst (λ (job : Job). OfTexts files (names_of job) (λ texts. AreRefused (third_of job) texts r)) (same_job words h.0 (jobs.Solve domain problem options gap certificate) h.1 asks) h.2 in
+      let of_texts : OfTexts files (domain ∷ problem ∷ []) (λ texts. AreRefused Steps texts r) = subst (λ (job : Job). OfTexts files (names_of job) (λ texts. AreRefused (third_of job) texts r)) (same_job words h.0 (jobs.Solve domain problem options gap certificate engine announce) h.1 asks) h.2 in
       absurd (not_refused r of_texts.0 of_texts.1 of_texts.2)
   settles_as NoMemory h = memory
-  settles_as (Solving other also over run behind) h =
-      let same : jobs.Solve h.0 h.1 also over h.2 ≡ jobs.Solve domain problem options gap certificate = same_job words (jobs.Solve h.0 h.1 also over h.2) (jobs.Solve domain problem options gap certificate) h.3 asks in
+  settles_as (Solving other also over told_too run behind) h =
+      let same : jobs.Solve h.0 h.1 also over h.2 engines.Beam told_too ≡ jobs.Solve domain problem options gap certificate engine announce = same_job words (jobs.Solve h.0 h.1 also over h.2 engines.Beam told_too) (jobs.Solve domain problem options gap certificate engine announce) h.3 asks in
       let d : h.0 ≡ domain = cc in
       let p : h.1 ≡ problem = cc in
       let o : also ≡ options = cc in
-      let of_texts : OfTexts files (domain ∷ problem ∷ []) (λ texts. MeanModel texts other) =
-      subst (λ (name : List ℕ). OfTexts files (domain ∷ name ∷ []) (λ texts. MeanModel texts other)) p (subst (λ (name : List ℕ). OfTexts files (name ∷ h.1 ∷ []) (λ texts. MeanModel texts other)) d h.4) in
-      let is = the_model other of_texts.0 of_texts.1 of_texts.2 in
-      behind_settled (ending_status run.ending) behind (ends_well other also over run run.ending h.5.ending (subst (λ (x : Options). CanEnd other x) (sym o) (subst (λ (x : Model). CanEnd x options) (sym is) can)))
+      let e : engines.Beam ≡ engine = cc in
+      let is = the_other other h.0 h.1 d p h.4 in
+      let ends : CanEndBy engines.Beam other also = subst (λ (x : Options). CanEndBy engines.Beam other x) (sym o) (subst (λ (x : Model). CanEndBy engines.Beam x options) (sym is) (subst (λ (x : Engine). CanEndBy x m options) (sym e) can)) in
+      behind_settled (ending_status run.ending) behind (ends_well other also over run run.ending h.5.ending ends)
+  settles_as (SolvingBest other also run behind) h =
+      let same : jobs.Solve h.0 h.1 also h.2 h.3 engines.Best h.4 ≡ jobs.Solve domain problem options gap certificate engine announce = same_job words (jobs.Solve h.0 h.1 also h.2 h.3 engines.Best h.4) (jobs.Solve domain problem options gap certificate engine announce) h.5 asks in
+      let d : h.0 ≡ domain = cc in
+      let p : h.1 ≡ problem = cc in
+      let o : also ≡ options = cc in
+      let e : engines.Best ≡ engine = cc in
+      let is = the_other other h.0 h.1 d p h.6 in
+      let ends : CanEndBy engines.Best other also = subst (λ (x : Options). CanEndBy engines.Best other x) (sym o) (subst (λ (x : Model). CanEndBy engines.Best x options) (sym is) (subst (λ (x : Engine). CanEndBy x m options) (sym e) can)) in
+      behind_settled (bests.ending_status run.ending) behind (best_ends_well other also run run.ending h.7.ending ends)
   settles_as (Replayed other steps tells) h =
-      let same : jobs.Replay h.0 h.1 h.2 ≡ jobs.Solve domain problem options gap certificate = same_job words (jobs.Replay h.0 h.1 h.2) (jobs.Solve domain problem options gap certificate) h.3 asks in
+      let same : jobs.Replay h.0 h.1 h.2 ≡ jobs.Solve domain problem options gap certificate engine announce = same_job words (jobs.Replay h.0 h.1 h.2) (jobs.Solve domain problem options gap certificate engine announce) h.3 asks in
       absurd cc
   settles_as (Checked other cert tells) h =
-      let same : jobs.Check h.0 h.1 h.2 ≡ jobs.Solve domain problem options gap certificate = same_job words (jobs.Check h.0 h.1 h.2) (jobs.Solve domain problem options gap certificate) h.3 asks in
+      let same : jobs.Check h.0 h.1 h.2 ≡ jobs.Solve domain problem options gap certificate engine announce = same_job words (jobs.Check h.0 h.1 h.2) (jobs.Solve domain problem options gap certificate engine announce) h.3 asks in
       absurd cc
   settles_as (Shown other) h =
-      let same : jobs.Show h.0 h.1 ≡ jobs.Solve domain problem options gap certificate = same_job words (jobs.Show h.0 h.1) (jobs.Solve domain problem options gap certificate) h.2 asks in
+      let same : jobs.Show h.0 h.1 ≡ jobs.Solve domain problem options gap certificate engine announce = same_job words (jobs.Show h.0 h.1) (jobs.Solve domain problem options gap certificate engine announce) h.2 asks in
       absurd cc
   settles_as (NoGenerated kind size seed refusal) h =
-      let same : jobs.Gen kind size seed h.0 ≡ jobs.Solve domain problem options gap certificate = same_job words (jobs.Gen kind size seed h.0) (jobs.Solve domain problem options gap certificate) h.1 asks in
+      let same : jobs.Gen kind size seed h.0 ≡ jobs.Solve domain problem options gap certificate engine announce = same_job words (jobs.Gen kind size seed h.0) (jobs.Solve domain problem options gap certificate engine announce) h.1 asks in
       absurd cc
   settles_as (Generated kind size seed other also run) h =
-      let same : jobs.Gen kind size seed h.0 ≡ jobs.Solve domain problem options gap certificate = same_job words (jobs.Gen kind size seed h.0) (jobs.Solve domain problem options gap certificate) h.1 asks in
+      let same : jobs.Gen kind size seed h.0 ≡ jobs.Solve domain problem options gap certificate engine announce = same_job words (jobs.Gen kind size seed h.0) (jobs.Solve domain problem options gap certificate engine announce) h.1 asks in
       absurd cc
 
 printed_code : (before after : Option (List ℕ)) (outcome : Outcome) (status : Status) → Printed before after outcome status → IsSettled (code_of (outcome_status outcome)) → IsSettled (code_of status)
@@ -163,8 +197,8 @@ printed_code before after outcome status (inr h) settled = subst (λ (s : Status
 
 pub settles_files : (words : List (List ℕ)) (files : List ℕ → Option (List ℕ)) (before after : Option (List ℕ)) (outcome : Outcome) (status : Status) → ComesOf words files outcome → Printed before after outcome status → SettlesFiles words files (code_of status)
 settles_files words files before after outcome status comes printed =
-    λ domain problem first second options gap certificate m asks told short told' short' means can.
-    printed_code before after outcome status printed (settles_as words files domain problem first second options gap certificate m asks told short told' short' means can outcome comes)
+    λ domain problem first second options gap certificate engine announce m asks told short told' short' means can.
+    printed_code before after outcome status printed (settles_as words files domain problem first second options gap certificate engine announce m asks told short told' short' means can outcome comes)
 
 -- ---- a search of a small model
 
@@ -181,8 +215,8 @@ can_end m options small = record {
 
 pub settles_small : (words : List (List ℕ)) (files : List ℕ → Option (List ℕ)) (before after : Option (List ℕ)) (outcome : Outcome) (status : Status) → ComesOf words files outcome → Printed before after outcome status → SettlesSmall words files (code_of status)
 settles_small words files before after outcome status comes printed =
-    λ domain problem first second options gap certificate m asks told short told' short' means small.
-    settles_files words files before after outcome status comes printed domain problem first second options gap certificate m asks told short told' short' means (can_end m options small)
+    λ domain problem first second options gap certificate announce m asks told short told' short' means small.
+    settles_files words files before after outcome status comes printed domain problem first second options gap certificate engines.Beam announce m asks told short told' short' means (can_end m options small)
 
 -- ---- a search of a generated model
 
@@ -208,8 +242,11 @@ module _ (words : List (List ℕ)) (files : List ℕ → Option (List ℕ)) (kin
   settles_generated_as (TooLong file) h = absurd (not_long file (names_of h.0) (no_files h.0 h.1) h.2)
   settles_generated_as (Refused r) h = absurd (no_texts (third_of h.0) r (names_of h.0) h.2.0 (no_files h.0 h.1) h.2.1 h.2.2)
   settles_generated_as NoMemory h = memory
-  settles_generated_as (Solving other also over run behind) h =
-      let same : jobs.Solve h.0 h.1 also over h.2 ≡ jobs.Gen kind size seed workers = same_job words (jobs.Solve h.0 h.1 also over h.2) (jobs.Gen kind size seed workers) h.3 asks in
+  settles_generated_as (Solving other also over told_too run behind) h =
+      let same : jobs.Solve h.0 h.1 also over h.2 engines.Beam told_too ≡ jobs.Gen kind size seed workers = same_job words (jobs.Solve h.0 h.1 also over h.2 engines.Beam told_too) (jobs.Gen kind size seed workers) h.3 asks in
+      absurd cc
+  settles_generated_as (SolvingBest other also run behind) h =
+      let same : jobs.Solve h.0 h.1 also h.2 h.3 engines.Best h.4 ≡ jobs.Gen kind size seed workers = same_job words (jobs.Solve h.0 h.1 also h.2 h.3 engines.Best h.4) (jobs.Gen kind size seed workers) h.5 asks in
       absurd cc
   settles_generated_as (Replayed other steps tells) h =
       let same : jobs.Replay h.0 h.1 h.2 ≡ jobs.Gen kind size seed workers = same_job words (jobs.Replay h.0 h.1 h.2) (jobs.Gen kind size seed workers) h.3 asks in

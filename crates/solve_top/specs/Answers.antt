@@ -1,5 +1,6 @@
 -- When a search has to end with what is known of all lists, or for want of memory.
 use Rattle.std.specs.Prelude.{◌≡◌, ℕ, ◌+◌, ◌*◌, ◌≤◌, ◌⊎◌, Bool, List, length, Option, Some}
+use Rattle.best_ledger.specs.Enough.{IsEnoughBest}
 use Rattle.dp_claims.specs.Enough.{IsEnough}
 use Rattle.dp_model.specs.declared.answers.FaultKind.{FaultKind}
 use Rattle.dp_model.specs.declared.answers.Keep.TheVariants as keeps
@@ -9,6 +10,8 @@ use Rattle.dp_model.specs.declared.parts.PlainState.{PlainState}
 use Rattle.dp_model.specs.declared.whole.Model.{Model}
 use Rattle.dp_steps.specs.Faults.{Meets}
 use Rattle.pass_ledger.specs.Finite.{AreStates, NoRoundBetters}
+use Rattle.command_line.specs.declared.jobs.Engine.{Engine}
+use Rattle.command_line.specs.declared.jobs.Engine.TheVariants as engines
 use Rattle.command_line.specs.declared.jobs.Job.TheVariants as jobs
 use Rattle.model_gen.specs.Texts.{domain_text, problem_text}
 use Rattle.model_gen.specs.declared.kinds.GenKind.{GenKind}
@@ -20,10 +23,19 @@ use Rattle.solve_top.specs.Texts.{Means}
 abbrev pub MeetsNone : Model → (prune : Bool) → Type 0
 MeetsNone m prune = (steps : List ℕ) (spot : Spot) (kind : FaultKind) → Meets m prune steps spot kind → ⊥
 
--- the model can be searched to the end with these options
+-- the model can be searched to the end layer by layer with these options
 pub record CanEnd (m : Model) (options : Options) : Type 0 where
   pub no_fault : MeetsNone m options.prune
   pub enough : IsEnough m options.keep options.budget
+
+-- it can be searched to the end with the best node first
+pub record CanEndBest (m : Model) (options : Options) : Type 0 where
+  pub no_fault : MeetsNone m options.prune
+  pub enough : IsEnoughBest m options.budget
+
+abbrev pub CanEndBy : Engine → Model → Options → Type 0
+CanEndBy engines.Beam m options = CanEnd m options
+CanEndBy engines.Best m options = CanEndBest m options
 
 -- optimal, infeasible, or want of memory; or a read or a write failed
 abbrev pub IsSettled : ℕ → Type 0
@@ -33,8 +45,8 @@ IsSettled code = (code ≡ 0) ⊎ ((code ≡ 10) ⊎ ((code ≡ 6) ⊎ ((code �
 -- fault and the budget is enough, the search is settled.
 abbrev pub SettlesFiles : List (List ℕ) → (List ℕ → Option (List ℕ)) → ℕ → Type 0
 SettlesFiles words files code =
-    (domain problem first second : List ℕ) (options : Options) (gap certificate : Bool) (m : Model) → Asks words (jobs.Solve domain problem options gap certificate)
-    → files domain ≡ Some first → IsShort first → files problem ≡ Some second → IsShort second → Means first second m → CanEnd m options → IsSettled code
+    (domain problem first second : List ℕ) (options : Options) (gap certificate : Bool) (engine : Engine) (announce : Bool) (m : Model) → Asks words (jobs.Solve domain problem options gap certificate engine announce)
+    → files domain ≡ Some first → IsShort first → files problem ≡ Some second → IsShort second → Means first second m → CanEndBy engine m options → IsSettled code
 
 -- So is that of a generated model.
 abbrev pub SettlesGenerated : List (List ℕ) → ℕ → Type 0
@@ -52,8 +64,8 @@ pub record IsSmall (m : Model) (options : Options) : Type 0 where
   pub no_round : NoRoundBetters m
   pub within : length states * length states * (length states + 1) ≤ options.budget
 
--- Where the words ask for a search of such a model, in two files as above, the search is settled.
+-- Where the words ask for a search of such a model layer by layer, in two files as above, the search is settled.
 abbrev pub SettlesSmall : List (List ℕ) → (List ℕ → Option (List ℕ)) → ℕ → Type 0
 SettlesSmall words files code =
-    (domain problem first second : List ℕ) (options : Options) (gap certificate : Bool) (m : Model) → Asks words (jobs.Solve domain problem options gap certificate)
+    (domain problem first second : List ℕ) (options : Options) (gap certificate announce : Bool) (m : Model) → Asks words (jobs.Solve domain problem options gap certificate engines.Beam announce)
     → files domain ≡ Some first → IsShort first → files problem ≡ Some second → IsShort second → Means first second m → IsSmall m options → IsSettled code

@@ -1,5 +1,6 @@
 -- What stands behind the verdict of a search for which a certificate is asked.
-use Rattle.std.specs.Prelude.{◌≡◌, ℕ, ◌<◌, ◌+◌, ◌⊎◌, Bool, true, false, List, [], ◌∷◌, ◌++◌, length, Option, Some, None, codes}
+use Rattle.std.specs.Prelude.{◌≡◌, ℕ, ◌<◌, ◌+◌, ◌⊎◌, Bool, true, false, List, [], ◌∷◌, ◌++◌, length, slice_get, Option, Some, None, codes}
+use Rattle.std.specs.Option.{is_some}
 use Rattle.dp_outside.specs.Outside.{Takes, TakesFront}
 use Rattle.dp_base.specs.Bytes.{line}
 use Rattle.dp_model.specs.declared.answers.Claim.{Claim}
@@ -16,11 +17,18 @@ use Rattle.cert_types.specs.declared.nodes.CertNode.{CertNode}
 use Rattle.cert_laws.specs.Shown.{Shown, layer_of}
 use Rattle.cert_text.specs.Texts.{end_line, text_of, text_of_lines}
 use Rattle.cert_making.specs.Written.{AreLayers, IsBetterThan, open_lines}
+use Rattle.run_ends.specs.declared.solved.Solved.{Solved}
 use Rattle.run_ends.specs.declared.status.Status.{Status}
 use Rattle.run_ends.specs.declared.status.Status.TheVariants as statuses
 use Rattle.solve_report.specs.Lines.{written_text}
-use Rattle.solve_passes.specs.Records.{Record, Right, KeepsWord, claim_of, ending_status, record_text}
+use Rattle.best_ledger.specs.Right.{BestRun, KeepsWordBest, RightBest}
+use Rattle.command_line.specs.declared.jobs.Engine.{Engine}
+use Rattle.command_line.specs.declared.jobs.Engine.TheVariants as engines
+use Rattle.solve_best.specs.Texts.{run_text}
+use Rattle.solve_best.specs.Texts as best
+use Rattle.solve_passes.specs.Records.{Pass, Record, Right, KeepsWord, claim_of, ending_status, record_text}
 use Rattle.solve_passes.specs.declared.progress.Printing.TheVariants.{All}
+use Rattle.solve_top.specs.Jobs.{keeping_all}
 
 pub data Behind : Type 0 where
   -- nothing
@@ -53,6 +61,17 @@ behind_status status (OutOfRoom claim layers) = statuses.Memory
 behind_status status NoRoom = statuses.Memory
 behind_status status (Broken claim layers) = statuses.WriteFault
 
+-- A text was taken, and whole what stands behind it. Of the lines of a certificate that a failed write broke off the last byte never is.
+abbrev pub TakesWith : (before after : Option (List ℕ)) → (front : List ℕ) → Model → Options → Behind → Type 0
+TakesWith before after front m options (Broken claim layers) = ⊥
+TakesWith before after front m options behind = Takes before after (front ++ behind_text m options behind)
+
+-- This was so, with the status; or a write failed, before the last byte was taken.
+abbrev pub Prints : (before after : Option (List ℕ)) → (front : List ℕ) → Model → Options → Behind → (wanted status : Status) → Type 0
+Prints before after front m options behind wanted status =
+    ((status ≡ behind_status wanted behind) × TakesWith before after front m options behind)
+    ⊎ ((status ≡ statuses.WriteFault) × TakesFront before after (front ++ behind_text m options behind))
+
 -- A certificate that shows the claim, and was made as the options say.
 pub record IsMade (m : Model) (options : Options) (claim : Claim) (cert : Cert) : Type 0 where
   pub keep : cert.keep ≡ options.keep
@@ -84,18 +103,41 @@ IsBehind false m options claimed behind = behind ≡ Nothing
 IsBehind true m options None behind = behind ≡ Nothing
 IsBehind true m options (Some claim) behind = RightBehind m options claim behind
 
+-- a text that ends with a verdict was taken, with this status, and what it claims is answered; or a write failed, and nothing is claimed
+abbrev pub WasPrinted : (before after : Option (List ℕ)) → (text : List ℕ) → (claimed : Option Claim) → (wanted : Status) → Solved → Type 0
+WasPrinted before after text claimed wanted solved =
+    ((solved.status ≡ wanted) × Takes before after text × (solved.claim ≡ claimed)) ⊎ ((solved.status ≡ statuses.WriteFault) × TakesFront before after text × (solved.claim ≡ None))
+
+-- what was written behind a text, whose verdict has this status and claims so much: it may stand there; or a write failed, after a
+-- front of both
+abbrev pub Follows : (certificate : Bool) → Model → Options → (before after : Option (List ℕ)) → (front : List ℕ) → (claimed : Option Claim) → (wanted status : Status) → Type 0
+Follows certificate m options before after front claimed wanted status =
+    (behind : Behind) × IsBehind certificate m options claimed behind × Prints before after front m options behind wanted status
+
 -- what was written behind a verdict of this status: it may stand there; or a write failed, after a front of it
 abbrev pub WritesBehind : Model → Options → Claim → (status : Status) → (before after : Option (List ℕ)) → (result : Status) → Type 0
-WritesBehind m options claim status before after result =
-    (behind : Behind) × RightBehind m options claim behind
-    × (((result ≡ behind_status status behind) × Takes before after (behind_text m options behind)) ⊎ ((result ≡ statuses.WriteFault) × TakesFront before after (behind_text m options behind)))
+WritesBehind m options claim status before after result = (behind : Behind) × RightBehind m options claim behind × Prints before after [] m options behind status result
 
--- A right record that keeps its word was printed, and behind it what may stand there; or a write failed, after a front of both.
-pub record Solves (m : Model) (options : Options) (gap certificate : Bool) (before after : Option (List ℕ)) (status : Status) : Type 0 where
+-- each pass tells which costs it announced exactly where they are asked for
+abbrev pub IsAnnounced : (announce : Bool) → Record → Type 0
+IsAnnounced announce run = (k : ℕ) (p : Pass) → slice_get run.passes k ≡ Some p → is_some p.announced ≡ announce
+
+-- A right record of passes that keeps its word was printed, and behind it what may stand there; or a write failed, after a front of
+-- both.
+pub record Solves (m : Model) (options : Options) (gap announce certificate : Bool) (before after : Option (List ℕ)) (status : Status) : Type 0 where
   pub run : Record
-  pub behind : Behind
   pub right : Right m options gap run
+  pub announcing : IsAnnounced announce run
   pub word : KeepsWord m options run.bound run.ending
-  pub is_behind : IsBehind certificate m options (claim_of run) behind
-  pub printed : ((status ≡ behind_status (ending_status run.ending) behind) × Takes before after (record_text All m run ++ behind_text m options behind))
-      ⊎ ((status ≡ statuses.WriteFault) × TakesFront before after (record_text All m run ++ behind_text m options behind))
+  pub follows : Follows certificate m options before after (record_text (All announce) m run) (claim_of run) (ending_status run.ending) status
+
+-- The same of a search of the best node first. Its certificate is written as if nodes kept in earlier layers covered.
+pub record SolvesBest (m : Model) (options : Options) (certificate : Bool) (before after : Option (List ℕ)) (status : Status) : Type 0 where
+  pub run : BestRun
+  pub right : RightBest m options run
+  pub word : KeepsWordBest m options run.ending
+  pub follows : Follows certificate m (keeping_all options) before after (run_text m run) (best.claim_of run) (best.ending_status run.ending) status
+
+abbrev pub SolvesBy : Engine → Model → Options → (gap announce certificate : Bool) → (before after : Option (List ℕ)) → Status → Type 0
+SolvesBy engines.Beam m options gap announce certificate before after status = Solves m options gap announce certificate before after status
+SolvesBy engines.Best m options gap announce certificate before after status = SolvesBest m options certificate before after status

@@ -20,7 +20,7 @@ AskNothing words = job_of words ≡ None
 -- the names of the files that a job reads, in the order in which they are read: the domain, the problem, and a list or a
 -- certificate
 abbrev pub names_of : Job → List (List ℕ)
-names_of (Solve domain problem options gap certificate) = domain ∷ problem ∷ []
+names_of (Solve domain problem options gap certificate engine announce) = domain ∷ problem ∷ []
 names_of (Replay domain problem list) = domain ∷ problem ∷ list ∷ []
 names_of (Show domain problem) = domain ∷ problem ∷ []
 names_of (Gen kind size seed workers) = []
@@ -31,13 +31,17 @@ abbrev pub third_of : Job → Third
 third_of (Check domain problem cert) = Certificate
 third_of job = Steps
 
+-- how certificates are written of a search of the best node first, in which nodes of all layers cover
+abbrev pub keeping_all : Options → Options
+keeping_all options = record { workers = options.workers; budget = options.budget; prune = options.prune; keep = keeps.All }
+
 -- how a generated model is searched: with pruning, and with the budget that is taken where none is given
 abbrev pub gen_options : ℕ → Options
 gen_options workers = record { workers = workers; budget = 10000000; prune = true; keep = keeps.Layer }
 
 -- what is asked for lies in its range
 abbrev pub JobFits : Job → Type 0
-JobFits (Solve domain problem options gap certificate) = AreOptions options
+JobFits (Solve domain problem options gap certificate engine announce) = AreOptions options
 JobFits (Replay domain problem list) = Unit {0}
 JobFits (Show domain problem) = Unit {0}
 JobFits (Check domain problem cert) = Unit {0}

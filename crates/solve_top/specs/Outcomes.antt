@@ -16,6 +16,10 @@ use Rattle.dp_model.specs.declared.answers.Claim.TheVariants as claims
 use Rattle.dp_model.specs.declared.answers.Verdict.{Verdict}
 use Rattle.dp_model.specs.declared.answers.Verdict.TheVariants as verdicts
 use Rattle.dypdl_nodes.specs.Reads.{Refusal}
+use Rattle.best_ledger.specs.Right.{BestRun, KeepsWordBest, RightBest}
+use Rattle.solve_best.specs.Texts.{run_text}
+use Rattle.solve_best.specs.Texts as best
+use Rattle.command_line.specs.declared.jobs.Engine.TheVariants as engines
 use Rattle.command_line.specs.declared.jobs.Job.{Job}
 use Rattle.command_line.specs.declared.jobs.Job.TheVariants as jobs
 use Rattle.replay_list.specs.Replays.{replayed}
@@ -30,8 +34,8 @@ use Rattle.cert_laws.specs.declared.answers.CertReason.{CertReason}
 use Rattle.cert_laws.specs.declared.answers.CertReason.TheVariants as reasons
 use Rattle.cert_laws.specs.declared.answers.Checked.{Checked as Findings}
 use Rattle.cert_laws.specs.declared.answers.Checked.TheVariants as findings
-use Rattle.solve_top.specs.Behind.{Behind, IsBehind, behind_status, behind_text}
-use Rattle.solve_top.specs.Jobs.{Asks, AskNothing, gen_options, names_of, third_of}
+use Rattle.solve_top.specs.Behind.{Behind, IsAnnounced, IsBehind, TakesWith, behind_status, behind_text}
+use Rattle.solve_top.specs.Jobs.{Asks, AskNothing, gen_options, keeping_all, names_of, third_of}
 use Rattle.solve_top.specs.Files.{IsReached, IsFirstLong, OfTexts}
 use Rattle.solve_top.specs.Texts.{Means, MeanCert, MeanModel, MeanSteps, AreRefused, IsRefused}
 
@@ -46,8 +50,10 @@ pub data Outcome : Type 0 where
   Refused : (refusal : Refusal) → Outcome
   -- memory ran out before a model was loaded
   NoMemory : Outcome
-  -- the model was searched, with the gap asked for or not, and this stands behind the verdict
-  Solving : (model : Model) (options : Options) (gap : Bool) (run : Record) (behind : Behind) → Outcome
+  -- the model was searched layer by layer, with the gap and announced costs asked for or not, and this stands behind the verdict
+  Solving : (model : Model) (options : Options) (gap announce : Bool) (run : Record) (behind : Behind) → Outcome
+  -- the model was searched with the best node first, and this stands behind the verdict
+  SolvingBest : (model : Model) (options : Options) (run : BestRun) (behind : Behind) → Outcome
   -- a list of steps of the model was replayed
   Replayed : (model : Model) (steps : List ℕ) (told : Told) → Outcome
   -- a certificate over the model was checked
@@ -120,7 +126,8 @@ outcome_text (ReadFault file) = line (codes "read fault " ++ file_name file)
 outcome_text (TooLong file) = line (codes "too long " ++ file_name file)
 outcome_text (Refused r) = refusal_text r.place r.offset r.number
 outcome_text NoMemory = line (codes "memory")
-outcome_text (Solving model options gap run behind) = record_text All model run ++ behind_text model options behind
+outcome_text (Solving model options gap announce run behind) = record_text (All announce) model run ++ behind_text model options behind
+outcome_text (SolvingBest model options run behind) = run_text model run ++ behind_text model (keeping_all options) behind
 outcome_text (Replayed model steps told) = verdict_text model (replay_verdict steps told)
 outcome_text (Checked model cert told) = checked_text cert.claim told
 outcome_text (Shown model) = show_text model
@@ -133,12 +140,19 @@ outcome_status (ReadFault file) = statuses.ReadFault
 outcome_status (TooLong file) = statuses.TooLong
 outcome_status (Refused r) = statuses.Refused
 outcome_status NoMemory = statuses.Memory
-outcome_status (Solving model options gap run behind) = behind_status (ending_status run.ending) behind
+outcome_status (Solving model options gap announce run behind) = behind_status (ending_status run.ending) behind
+outcome_status (SolvingBest model options run behind) = behind_status (best.ending_status run.ending) behind
 outcome_status (Replayed model steps told) = verdict_status (replay_verdict steps told)
 outcome_status (Checked model cert told) = checked_status told
 outcome_status (Shown model) = statuses.Success
 outcome_status (NoGenerated kind size seed refusal) = no_model_status refusal
 outcome_status (Generated kind size seed model options run) = ending_status run.ending
+
+-- the outcome's text was taken whole: of the lines of a certificate that a failed write broke off it never is
+abbrev pub TakesWhole : (before after : Option (List ℕ)) → Outcome → Type 0
+TakesWhole before after (Solving model options gap announce run behind) = TakesWith before after (record_text (All announce) model run) model options behind
+TakesWhole before after (SolvingBest model options run behind) = TakesWith before after (run_text model run) model (keeping_all options) behind
+TakesWhole before after outcome = Takes before after (outcome_text outcome)
 
 -- the texts of a generated model are refused so, where they are
 abbrev pub IsRefusedOf : GenKind → (size seed : ℕ) → Option Refusal → Type 0
@@ -153,10 +167,14 @@ ComesOf words files (ReadFault file) = (job : Job) × Asks words job × IsReache
 ComesOf words files (TooLong file) = (job : Job) × Asks words job × IsFirstLong files (names_of job) file
 ComesOf words files (Refused r) = (job : Job) × Asks words job × OfTexts files (names_of job) (λ texts. AreRefused (third_of job) texts r)
 ComesOf words files NoMemory = Unit {0}
-ComesOf words files (Solving model options gap run behind) =
-    (domain : List ℕ) × (problem : List ℕ) × (certificate : Bool) × Asks words (jobs.Solve domain problem options gap certificate)
-    × OfTexts files (domain ∷ problem ∷ []) (λ texts. MeanModel texts model) × Right model options gap run × KeepsWord model options run.bound run.ending
-    × IsBehind certificate model options (claim_of run) behind
+ComesOf words files (Solving model options gap announce run behind) =
+    (domain : List ℕ) × (problem : List ℕ) × (certificate : Bool) × Asks words (jobs.Solve domain problem options gap certificate engines.Beam announce)
+    × OfTexts files (domain ∷ problem ∷ []) (λ texts. MeanModel texts model) × Right model options gap run × IsAnnounced announce run
+    × KeepsWord model options run.bound run.ending × IsBehind certificate model options (claim_of run) behind
+ComesOf words files (SolvingBest model options run behind) =
+    (domain : List ℕ) × (problem : List ℕ) × (gap : Bool) × (certificate : Bool) × (announce : Bool) × Asks words (jobs.Solve domain problem options gap certificate engines.Best announce)
+    × OfTexts files (domain ∷ problem ∷ []) (λ texts. MeanModel texts model) × RightBest model options run × KeepsWordBest model options run.ending
+    × IsBehind certificate model (keeping_all options) (best.claim_of run) behind
 ComesOf words files (Replayed model steps told) =
     (domain : List ℕ) × (problem : List ℕ) × (list : List ℕ) × Asks words (jobs.Replay domain problem list)
     × OfTexts files (domain ∷ problem ∷ list ∷ []) (λ texts. MeanSteps texts model steps) × (told ≡ replayed model steps)
@@ -173,7 +191,7 @@ ComesOf words files (Generated kind size seed model options run) =
 -- The sink took the outcome's text and the status is the outcome's; or a write failed, the status is that, and the sink took a front of the text.
 abbrev pub Printed : Option (List ℕ) → Option (List ℕ) → Outcome → Status → Type 0
 Printed before after outcome status =
-    ((status ≡ outcome_status outcome) × Takes before after (outcome_text outcome)) ⊎ ((status ≡ statuses.WriteFault) × TakesFront before after (outcome_text outcome))
+    ((status ≡ outcome_status outcome) × TakesWhole before after outcome) ⊎ ((status ≡ statuses.WriteFault) × TakesFront before after (outcome_text outcome))
 
 -- over these files a job comes to some outcome, which was printed
 abbrev pub Does : Job → (List ℕ → Option (List ℕ)) → Option (List ℕ) → Option (List ℕ) → Status → Type 0

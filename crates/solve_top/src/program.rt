@@ -25,7 +25,7 @@ use crate::causes::NoModel;
 use crate::checking::{checked_status, put_checked};
 use crate::generating::{generate_model, kind_name};
 use crate::loading::{Claimed, Listed, load, load_claimed, load_listed};
-use crate::making::solve_and_certify;
+use crate::making::{Wanted, solve_and_certify};
 use crate::replaying::verdict_on;
 use cert_check::check;
 use command_line::{Job, WordsEnd, read_words};
@@ -96,16 +96,15 @@ fn solve_files<R: Threads + Wait + Sync, F: Shelf, S: Sink, G: Gate>(
     domain: &Text,
     problem: &Text,
     options: &Options,
-    gap: bool,
-    certificate: bool,
+    wanted: Wanted,
 ) -> Status
     requires { AreOptions options.now }
-    ensures printed { Does (jobs.Solve domain.now problem.now options.now gap certificate) (F.bytes_under shelf.old) (S.taken out.old) (S.taken out.new) result }
+    ensures printed { Does (jobs.Solve domain.now problem.now options.now wanted.gap wanted.certificate wanted.engine wanted.announce) (F.bytes_under shelf.old) (S.taken out.old) (S.taken out.new) result }
     ensures read_fault { result ≡ Status.ReadFault → Rose (F.faults shelf.old) (F.faults shelf.new) }
     ensures write_fault { result ≡ Status.WriteFault → Rose (S.faults out.old) (S.faults out.new) }
 {
     match load(alloc, shelf, domain, problem) {
-        Ok(model) => solve_and_certify(rt, alloc, out, gate, &model, options, gap, certificate),
+        Ok(model) => solve_and_certify(rt, alloc, out, gate, &model, options, wanted),
         Err(cause) => put_cause(out, &cause),
     }
 }
@@ -315,18 +314,19 @@ fn perform_job<R: Threads + Wait + Sync, F: Shelf, S: Sink, G: Gate>(
             options,
             gap,
             certificate,
-        } => solve_files(
-            rt,
-            alloc,
-            shelf,
-            out,
-            gate,
-            domain,
-            problem,
-            options,
-            *gap,
-            *certificate,
-        ),
+            engine,
+            announce,
+        } => {
+            let wanted = Wanted {
+                engine: *engine,
+                gap: *gap,
+                announce: *announce,
+                certificate: *certificate,
+            };
+            solve_files(
+                rt, alloc, shelf, out, gate, domain, problem, options, wanted,
+            )
+        }
         Job::Replay {
             domain,
             problem,

@@ -1,19 +1,17 @@
-use Rattle.std.proofs.Common.{rules, ◌<◌, ℕ, sym, subst, length}
-use Rattle.eval_room.specs.Needs.{ServesModel}
-use Rattle.cert_laws.specs.Checks.{step_fails}
+use Rattle.std.proofs.Common.{◌≡◌, Ok, Err, Option, Some, IfOk, sym, subst, rules}
+use Rattle.spot_eval.specs.Moves.{first_enabled, forced_of}
+use Rattle.cert_laws.specs.declared.answers.CertReason.{CertReason}
 use Rattle.cert_check.specs.Looked.{reached_by}
-use Rattle.cert_check.proofs.Tests.{first_some, none_more}
+use Rattle.cert_check.proofs.Clear.{fault_still, one_taken}
 use Rattle.cert_check.proofs.clauses.steps_fail.Goals as goal
 
-pub returns-then-is_some : goal.returns-then-is_some
-returns-then-is_some g c =
-    let within : c.loop-number.number < length c.args.looker.now.dp_ground = subst (λ (n : ℕ). c.loop-number.number < n) (search rules) c.loop-number-test.true in
-    first_some (step_fails c.args.looker.now c.args.cert.now c.args.past.now.nodes (reached_by c.args.here.now)) (length c.args.looker.now.dp_ground) c.loop-number.number c.in_ok-fails.fails
-    within c.loop-number.invariant.0 c.in_ok-fails.ensures c.if-is_some.ensures
+pub returns-in-Ok-Some : goal.returns-in-Ok-Some
+returns-in-Ok-Some g c =
+    let first : first_enabled c.args.looker.now c.args.here.now.state (forced_of c.args.looker.now) ≡ Ok (Some c.in-Ok-Some.number) = search rules in
+    let same = one_taken c.args.looker.now c.args.cert.now c.args.past.now.nodes (reached_by c.args.here.now) c.in-Ok-Some.number first in
+    subst (λ (told : Option CertReason). IfOk c.taken_fails.result (λ fails. fails ≡ told)) (sym same) c.taken_fails.ensures
 
-pub loop-number-preserved : goal.loop-number-preserved
-loop-number-preserved g c = (
-  none_more (step_fails c.args.looker.now c.args.cert.now c.args.past.now.nodes (reached_by c.args.here.now)) c.loop-number.number c.in_ok-fails.fails
-      c.loop-number.invariant.0 c.in_ok-fails.ensures c.if-is_some.ensures,
-  subst (λ (n : ℕ). ServesModel c.args.looker.now n) (sym c.step_fails.auto.stack) c.loop-number.invariant.1,
-)
+pub returns-in-Err : goal.returns-in-Err
+returns-in-Err g c =
+    let first : first_enabled c.args.looker.now c.args.here.now.state (forced_of c.args.looker.now) ≡ Err c.in-Err.field-0 = search rules in
+    sym (fault_still c.args.looker.now c.args.cert.now c.args.past.now.nodes (reached_by c.args.here.now) c.in-Err.field-0 first)

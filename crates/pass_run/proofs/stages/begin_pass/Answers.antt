@@ -1,7 +1,8 @@
-use Rattle.std.proofs.Common.{ap, subst, ◌∙◌, arith}
+use Rattle.std.proofs.Common.{refl, sym, ap, subst, ◌∙◌, arith}
 use Rattle.board_words.specs.Seats.{SeatFacts}
 use Rattle.shard_threads.specs.Seats.{AreSeated, with_less}
 use Rattle.pass_ends.specs.Passes.{pass_of}
+use Rattle.pass_run.specs.Announcements.{RanOut}
 use Rattle.pass_run.proofs.Fresh.{all_begin}
 use Rattle.pass_run.proofs.Running.{is_before, no_memory}
 use Rattle.pass_run.proofs.stages.begin_pass.Goals as goal
@@ -56,3 +57,9 @@ pub returns-in_default-seat_all-clause-answer : goal.returns-in_default-seat_all
 returns-in_default-seat_all-clause-answer g c = λ some.
     no_memory (pass_of c.args.model.now c.args.options.now c.args.share some) c.args.seat.now.view c.seat_all.new.seat.view c.out_of_memory-in_default-seat_all.result c.out_of_memory-in_default-seat_all.ensures
     (c.in_default-seat_all.ensures.same ∙ ap (λ (s : SeatFacts). s.view) c.visits_so_far-before.ensures.same) (c.visits_so_far-before.ensures.late c.requires.may.whole)
+
+pub returns-in_default-clause-memory : goal.returns-in_default-clause-memory
+returns-in_default-clause-memory g c = subst RanOut (sym c.out_of_memory.ensures) refl
+
+pub returns-in_default-seat_all-clause-memory : goal.returns-in_default-seat_all-clause-memory
+returns-in_default-seat_all-clause-memory g c = subst RanOut (sym c.out_of_memory-in_default-seat_all.ensures) refl

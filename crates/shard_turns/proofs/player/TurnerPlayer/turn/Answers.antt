@@ -23,5 +23,6 @@ returns g c = λ terms plays.
     record {
       suited = plays.suited;
       me = c.take_turn.ensures.me ∙ plays.me;
+      queue_is = c.take_turn.ensures.queue ∙ plays.queue_is;
       keeps = c.take_turn.ensures.keeps terms.0 plays.suited acts;
     }

@@ -15,10 +15,11 @@ loop-preserved g c =
           (next.0, posted_more a.shard_record first.0.shard_record next.0.shard_record first.1 next.1.posted);
       same = c.in_ok-post_next.ensures.same ∙ before.same;
       me = c.in_ok-post_next.ensures.me ∙ before.me;
+      queue = c.in_ok-post_next.ensures.queue ∙ before.queue;
     }
 
 pub loop-init : goal.loop-init
-loop-init g c = record { asked = c.requires; goes_on = λ _ _ a. (a, record { waiting = refl; rows = refl }); same = refl; me = refl }
+loop-init g c = record { asked = c.requires; goes_on = λ _ _ a. (a, record { waiting = refl; rows = refl }); same = refl; me = refl; queue = refl }
 
 pub returns-in_err-post_next-clause-ends : goal.returns-in_err-post_next-clause-ends
 returns-in_err-post_next-clause-ends g c = λ p suited a.

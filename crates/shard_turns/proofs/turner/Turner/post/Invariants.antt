@@ -2,6 +2,7 @@
 use Rattle.std.proofs.Common.{◌≡◌}
 use Rattle.pass_ledger.specs.Passes.{Pass}
 use Rattle.shard_core.specs.Stands.{Suited}
+use Rattle.shard_turns.specs.Calls.{queue_of}
 use Rattle.shard_turns.specs.Turners.{Acts}
 use Rattle.shard_turns.specs.Works.{HasPosted}
 use Rattle.shard_turns.proofs.turner.Turner.post.Given as goal
@@ -13,4 +14,5 @@ invariant-loop g l = record {
       → (b : Acts p l.board l.boxes.items l.self l.seat) × HasPosted a.shard_record b.shard_record;
   same : l.self.ended ≡ l.initial.self.ended;
   me : l.self.shard.me ≡ l.initial.self.shard.me;
+  queue : queue_of l.self.calling ≡ queue_of l.initial.self.calling;
 }

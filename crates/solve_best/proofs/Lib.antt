@@ -1,0 +1,4 @@
+pub mod AtTarget
+pub mod Pairs
+pub mod Searched
+pub mod Told

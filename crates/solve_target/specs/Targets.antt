@@ -1,0 +1,28 @@
+-- What the target of a model is, and what follows for all lists.
+use Rattle.std.specs.Prelude.{ℕ, Bool, List, ℤ}
+use Rattle.dp_model.specs.Costs.{IsBetter}
+use Rattle.dp_model.specs.declared.answers.Found.{Found}
+use Rattle.dp_model.specs.declared.whole.Model.{Model}
+use Rattle.dp_steps.specs.Faults.{Meets}
+use Rattle.dp_steps.specs.Lists.{Solution}
+use Rattle.dp_steps.specs.States.{Base, Forbidden, Inner}
+use Rattle.solve_target.specs.declared.looks.AtTarget.{AtTarget}
+use Rattle.solve_target.specs.declared.looks.AtTarget.TheVariants as targets
+
+-- the target is base, this list is legal, and no list is better
+pub record IsBaseTarget (m : Model) (found : Found) : Type 0 where
+  pub base : Base m m.target found.cost
+  pub legal : Solution m found.steps found.cost
+  pub none_better : (steps : List ℕ) (other : ℤ) → Solution m steps other → IsBetter m.minimize other found.cost → ⊥
+
+-- the target is not allowed, and no list is legal
+pub record IsForbiddenTarget (m : Model) : Type 0 where
+  pub forbidden : Forbidden m m.target
+  pub none_legal : (steps : List ℕ) (cost : ℤ) → Solution m steps cost → ⊥
+
+-- what is answered of the target is so
+abbrev pub TargetIs : Model → (prune : Bool) → AtTarget → Type 0
+TargetIs m prune targets.Inner = Inner m m.target
+TargetIs m prune (targets.Base found) = IsBaseTarget m found
+TargetIs m prune targets.NotAllowed = IsForbiddenTarget m
+TargetIs m prune (targets.Fault fault) = Meets m prune fault.steps fault.spot fault.kind
