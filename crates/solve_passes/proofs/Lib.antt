@@ -1,4 +1,3 @@
-pub mod Announces
 pub mod Passing
 pub mod Counting
 pub mod Words

@@ -99,9 +99,7 @@ fn solve_by_layers<R: Threads + Wait + Sync, S: Sink, G: Gate>(
         model,
         options,
         wanted.gap,
-        Printing::All {
-            announce: wanted.announce,
-        },
+        Printing::All,
         gate,
     );
     certify(alloc, out, model, options, wanted.certificate, &solved)
