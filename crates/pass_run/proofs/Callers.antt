@@ -162,6 +162,7 @@ module _ {A B : Type 0} (queue : QueueFacts) where
       taker = l.taker;
       posters = l.posters;
       mail = l.mail;
+      all_mail = l.all_mail;
       calls = subst (λ (k : ℕ). IsCalling p k l.shard_record d) (sym me) (begins_to queue p i within d queue_is caller_is l.shard_record);
     }
 

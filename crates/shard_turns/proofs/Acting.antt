@@ -33,7 +33,7 @@ use Rattle.shard_mail.specs.Ends.{MailboxFacts, PosterFacts, TakerFacts, IsPoste
 use Rattle.shard_mail.specs.Mails.{LawfulUnder}
 use Rattle.shard_turns.specs.Calls.{CallsFor, HasCalled, MayCall}
 use Rattle.shard_turns.specs.Envelopes.{sender_of, are_lawful}
-use Rattle.shard_turns.specs.Turners.{IsOfferOf, Sits, Sat, IsTakerFor, ArePostersFor, HasAllMail, HasSomeMail, Acts, Leaves}
+use Rattle.shard_turns.specs.Turners.{IsOfferOf, Sits, Sat, IsTakerFor, ArePostersFor, HasAllMail, HasSomeMail, HadMemory, Acts, Leaves}
 use Rattle.shard_turns.specs.Works.{HasTaken, HasClosed, HasHandled, HasPostedNext}
 use Rattle.shard_turns.specs.declared.calling.Calling.{Calling}
 use Rattle.shard_turns.specs.declared.envelope.Envelope.{Envelope}
@@ -157,10 +157,14 @@ module _ {A B : Type 0} where
           calls = subst (λ (i : ℕ). CallsFor p i r calling) (sym me) calls;
         }
 
+    -- nothing was taken or handed out in vain
+    abbrev had_all : Ended → List Envelope → List (PosterFacts Envelope) → ShardRecord → Type 0
+    had_all end taken posters r = HadMemory end → HasAllMail p taken posters r
+
     ends_with : (new : Shard A B) → new.me ≡ t.shard.me → (r : ShardRecord) → EndsAs p new r → (taker : TakerFacts Envelope) → IsTakerFor p boxes t.shard.me taker → (posters : Vec (PosterFacts Envelope)) → ArePostersFor p boxes t.shard.me posters.items
-        → HasSomeMail p taker.taken posters.items r → CallsFor p t.shard.me r t.calling → (seat' : SeatFacts) → IsSeatOf board seat' → (end : Ended) → Sat p t.shard.me end seat'.view r
+        → HasSomeMail p taker.taken posters.items r → CallsFor p t.shard.me r t.calling → (seat' : SeatFacts) → IsSeatOf board seat' → (end : Ended) → had_all end taker.taken posters.items r → Sat p t.shard.me end seat'.view r
         → Leaves p board boxes end (record t { shard = new; taker = taker; posters = posters }) seat'
-    ends_with new me r left taker takes posters post mail calls seat' on end sat =
+    ends_with new me r left taker takes posters post mail calls seat' on end all sat =
         record {
           shard_record = r;
           below = subst (λ (i : ℕ). i < p.shards) (sym me) a.stands.belongs.below;
@@ -170,14 +174,16 @@ module _ {A B : Type 0} where
           taker = subst (λ (i : ℕ). IsTakerFor p boxes i taker) (sym me) takes;
           posters = subst (λ (i : ℕ). ArePostersFor p boxes i posters.items) (sym me) post;
           mail = mail;
+          all_mail = all;
           calls = subst (λ (i : ℕ). CallsFor p i r t.calling) (sym me) calls;
         }
 
     halts_with : (new : Shard A B) → new.me ≡ t.shard.me → (r : ShardRecord) → EndsAs p new r → (taker : TakerFacts Envelope) → IsTakerFor p boxes t.shard.me taker → (posters : Vec (PosterFacts Envelope)) → ArePostersFor p boxes t.shard.me posters.items
-        → HasSomeMail p taker.taken posters.items r → CallsFor p t.shard.me r t.calling → (before seat' : SeatFacts) (cause : HaltCause) (end : Ended) → Halts board before cause end seat' → (v : View) → before.view ≡ v → Sat p t.shard.me (ends.Halted cause) (after_halt v (halt_number cause)) r
+        → HasSomeMail p taker.taken posters.items r → CallsFor p t.shard.me r t.calling → (before seat' : SeatFacts) (cause : HaltCause) (end : Ended) → Halts board before cause end seat' → (v : View) → before.view ≡ v → had_all (ends.Halted cause) taker.taken posters.items r → Sat p t.shard.me (ends.Halted cause) (after_halt v (halt_number cause)) r
         → Leaves p board boxes end (record t { shard = new; taker = taker; posters = posters }) seat'
-    halts_with new me r left taker takes posters post mail calls before seat' cause end h v is sat =
+    halts_with new me r left taker takes posters post mail calls before seat' cause end h v is all sat =
         ends_with new me r left taker takes posters post mail calls seat' h.on_board end
+        (subst (λ (e : Ended). had_all e taker.taken posters.items r) (sym h.ended) all)
         (subst (λ (e : Ended). Sat p t.shard.me e seat'.view r) (sym h.ended)
         (subst (λ (w : View). Sat p t.shard.me (ends.Halted cause) w r) (sym (h.view ∙ ap (λ (w : View). after_halt w (halt_number cause)) is)) sat))
 
@@ -218,12 +224,12 @@ module _ {A B : Type 0} where
 
     pub meets : (seat' : SeatFacts) (word : ℕ) → 0 < word → IsSeatOf board seat' → seat'.view ≡ after_halted seat.view word → Leaves p board boxes ends.Met t seat'
     meets seat' word some on view =
-        ends_with t.shard refl a.shard_record a.stands.ends t.taker a.taker t.posters a.posters (some_mail p t.taker.taken t.posters.items a.shard_record a.mail) a.calls seat' on ends.Met
+        ends_with t.shard refl a.shard_record a.stands.ends t.taker a.taker t.posters a.posters (some_mail p t.taker.taken t.posters.items a.shard_record a.mail) a.calls seat' on ends.Met (λ _. a.mail)
         (subst (λ (v : View). Sat p t.shard.me ends.Met v a.shard_record) (sym view) (sat_met p t.shard.me t.budget seat.view a.shard_record own a.sits word some))
 
     pub is_done : Done p t.shard.me a.shard_record → Leaves p board boxes ends.Done t seat
     is_done done =
-        ends_with t.shard refl a.shard_record a.stands.ends t.taker a.taker t.posters a.posters (some_mail p t.taker.taken t.posters.items a.shard_record a.mail) a.calls seat a.on_board ends.Done
+        ends_with t.shard refl a.shard_record a.stands.ends t.taker a.taker t.posters a.posters (some_mail p t.taker.taken t.posters.items a.shard_record a.mail) a.calls seat a.on_board ends.Done (λ _. a.mail)
         (sat_done p t.shard.me t.budget seat.view a.shard_record own a.sits done)
 
     -- ---- a layer is closed
@@ -242,7 +248,7 @@ module _ {A B : Type 0} where
     -- memory ran out, and the shard is only ended
     pub runs_out : (new : Shard A B) → new.me ≡ t.shard.me → EndsAs p new a.shard_record → (seat' : SeatFacts) (end : Ended) → Halts board seat causes.Memory end seat' → Leaves p board boxes end (record t { shard = new }) seat'
     runs_out new me left seat' end h =
-        halts_with new me a.shard_record left t.taker a.taker t.posters a.posters (some_mail p t.taker.taken t.posters.items a.shard_record a.mail) a.calls seat seat' causes.Memory end h seat.view refl
+        halts_with new me a.shard_record left t.taker a.taker t.posters a.posters (some_mail p t.taker.taken t.posters.items a.shard_record a.mail) a.calls seat seat' causes.Memory end h seat.view refl (λ _. a.mail)
         (sat_memory p t.shard.me t.budget seat.view a.shard_record own a.sits)
 
     -- ---- a node is pruned or visited
@@ -304,20 +310,20 @@ module _ {A B : Type 0} where
 
       pub spends : t.budget ≤ number → Halts board drawn causes.Budget end seat' → Leaves p board boxes end t seat'
       spends le h =
-          halts_with t.shard refl a.shard_record a.stands.ends t.taker a.taker t.posters a.posters (some_mail p t.taker.taken t.posters.items a.shard_record a.mail) a.calls drawn seat' causes.Budget end h (drawn_at seat.view best number) d.view
-          (sat_budget p t.shard.me t.budget seat.view a.shard_record own a.sits best number d.least room le)
+          halts_with t.shard refl a.shard_record a.stands.ends t.taker a.taker t.posters a.posters (some_mail p t.taker.taken t.posters.items a.shard_record a.mail) a.calls drawn seat' causes.Budget end h (drawn_at seat.view best number) d.view (λ _. a.mail)
+          (sat_budget p t.shard.me t.budget seat.view a.shard_record own a.sits best number d.least d.count room le)
 
       pub loses : (new : Shard A B) → new.me ≡ t.shard.me → number < t.budget → EndsAs p new a.shard_record → Halts board drawn causes.Memory end seat' → Leaves p board boxes end (record t { shard = new }) seat'
       loses new me lt left h =
-          halts_with new me a.shard_record left t.taker a.taker t.posters a.posters (some_mail p t.taker.taken t.posters.items a.shard_record a.mail) a.calls drawn seat' causes.Memory end h (drawn_at seat.view best number) d.view
-          (sat_drawn p t.shard.me t.budget seat.view a.shard_record own a.sits best number d.least room lt)
+          halts_with new me a.shard_record left t.taker a.taker t.posters a.posters (some_mail p t.taker.taken t.posters.items a.shard_record a.mail) a.calls drawn seat' causes.Memory end h (drawn_at seat.view best number) d.view (λ _. a.mail)
+          (sat_drawn p t.shard.me t.budget seat.view a.shard_record own a.sits best number d.least d.count room lt)
 
       pub faults : (new : Shard A B) → new.me ≡ t.shard.me → number < t.budget → (j : ℕ) → j ≡ t.shard.me → (fault : SpotFault) → IsFaulted p j a.shard_record fault new → Halts board drawn causes.Fault end seat' → Leaves p board boxes end (record t { shard = new }) seat'
       faults new me lt j same fault is h =
           let r = visit a.shard_record is.layer is.node is.rest [] [] a.shard_record.held (Some is.met) in
           halts_with new me r is.ends t.taker a.taker t.posters a.posters (some_mail p t.taker.taken t.posters.items r (same_mail r refl refl))
-          (calls_visited p t.shard.me a.shard_record is.layer is.node is.rest [] [] a.shard_record.held (Some is.met) (subst (λ (k : ℕ). CanVisit p k a.shard_record is.layer is.node is.rest [] [] a.shard_record.held (Some is.met)) same is.can) t.calling a.calls) drawn seat' causes.Fault end h (drawn_at seat.view best number) d.view
-          (sat_fault p t.shard.me t.budget seat.view a.shard_record own a.sits best number d.least room lt is.layer is.node is.rest is.met)
+          (calls_visited p t.shard.me a.shard_record is.layer is.node is.rest [] [] a.shard_record.held (Some is.met) (subst (λ (k : ℕ). CanVisit p k a.shard_record is.layer is.node is.rest [] [] a.shard_record.held (Some is.met)) same is.can) t.calling a.calls) drawn seat' causes.Fault end h (drawn_at seat.view best number) d.view (λ _. same_mail r refl refl)
+          (sat_fault p t.shard.me t.budget seat.view a.shard_record own a.sits best number d.least d.count room lt is.layer is.node is.rest is.met)
 
     -- ---- a letter is taken
 
@@ -353,7 +359,7 @@ module _ {A B : Type 0} where
       pub takes_in_vain : (taker : TakerFacts Envelope) → taker ≡ taken_by t.taker x → (new : Shard A B) → new.me ≡ t.shard.me → EndsAs p new a.shard_record → (seat' : SeatFacts) (end : Ended) → Halts board seat causes.Memory end seat' → Leaves p board boxes end (record t { shard = new; taker = taker }) seat'
       takes_in_vain taker is new me left seat' end h =
           halts_with new me a.shard_record left taker (took taker is) t.posters a.posters
-          (subst (λ (xs : List Envelope). HasSomeMail p xs t.posters.items a.shard_record) (sym (ap (λ (f : TakerFacts Envelope). f.taken) is)) (vain_mail p t.taker.taken t.posters.items a.shard_record a.mail x)) a.calls seat seat' causes.Memory end h seat.view refl
+          (subst (λ (xs : List Envelope). HasSomeMail p xs t.posters.items a.shard_record) (sym (ap (λ (f : TakerFacts Envelope). f.taken) is)) (vain_mail p t.taker.taken t.posters.items a.shard_record a.mail x)) a.calls seat seat' causes.Memory end h seat.view refl (λ had. absurd (had refl))
           (sat_memory p t.shard.me t.budget seat.view a.shard_record own a.sits)
 
     -- ---- nothing is posted
@@ -415,7 +421,7 @@ module _ {A B : Type 0} where
             let r = post a.shard_record to x is.rest in
             halts_with new same_number r is.stands.ends t.taker a.taker (with_item t.posters to q')
             (posters_with p t.posters.items to q at boxes t.shard.me a.posters q' (ap (λ (f : PosterFacts Envelope). f.mailbox) same) (ap (λ (f : PosterFacts Envelope). f.number) same) (ap (λ (f : PosterFacts Envelope). f.terms) same))
-            (kept_mail p t.posters.items to q at t.taker.taken a.shard_record x a.mail within is.rest q' same) (same_calls r refl refl) seat seat' causes.Memory end h seat.view refl
+            (kept_mail p t.posters.items to q at t.taker.taken a.shard_record x a.mail within is.rest q' same) (same_calls r refl refl) seat seat' causes.Memory end h seat.view refl (λ had. absurd (had refl))
             (sat_memory p t.shard.me t.budget seat.view r (subst (λ (i : ℕ). Own p i r) same_number is.stands.ends.1.own) (sits_same p t.budget seat.view a.shard_record r refl refl refl a.sits))
 
   -- ---- the counts of turns and of letters, and why it has ended, change nothing of the rest
@@ -437,6 +443,7 @@ module _ {A B : Type 0} where
         taker = subst (λ (i : ℕ). IsTakerFor p boxes i t.taker) (sym me) left.taker;
         posters = subst (λ (i : ℕ). ArePostersFor p boxes i t.posters.items) (sym me) left.posters;
         mail = left.mail;
+        all_mail = left.all_mail;
         calls = subst (λ (i : ℕ). CallsFor p i left.shard_record t.calling) (sym me) left.calls;
       }
 
@@ -446,4 +453,4 @@ module _ {A B : Type 0} where
 
   pub left_counted : (p : Pass) (board : BoardFacts) (boxes : List MailboxFacts) (t : Turner A B) (seat : SeatFacts) (end : Ended) → Leaves p board boxes end t seat → (letters : ℕ) → Leaves p board boxes end (record t { letters = letters }) seat
   left_counted p board boxes t seat end left letters =
-      record { shard_record = left.shard_record; below = left.below; ends = left.ends; on_board = left.on_board; sat = left.sat; taker = left.taker; posters = left.posters; mail = left.mail; calls = left.calls }
+      record { shard_record = left.shard_record; below = left.below; ends = left.ends; on_board = left.on_board; sat = left.sat; taker = left.taker; posters = left.posters; mail = left.mail; all_mail = left.all_mail; calls = left.calls }

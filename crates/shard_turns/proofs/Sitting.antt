@@ -24,7 +24,7 @@ use Rattle.pass_ledger.specs.declared.records.Visit.{Visit}
 use Rattle.pass_ledger.proofs.Lists.{has_none, has_head, has_cases}
 use Rattle.shard_core.specs.Calls.{IsOffer}
 use Rattle.shard_core.specs.Offers.{is_news}
-use Rattle.shard_turns.specs.Turners.{IsOfferOf, HasSeen, Sits, HasCause, Sat}
+use Rattle.shard_turns.specs.Turners.{IsOfferOf, HasSeen, Sits, HasCause, HadMemory, HasDrawnFor, Sat}
 use Rattle.shard_turns.specs.declared.turner.Ended.TheVariants as ends
 use Rattle.shard_turns.proofs.Kept.{few_visits}
 use Rattle.state_layout.specs.declared.node.Node.{Node}
@@ -169,42 +169,61 @@ cause_kept v r number causes.Budget h = h
 cause_kept v r number causes.Memory h = h
 cause_kept v r number causes.Fault h = h
 
+-- so many draws, of which so many were late, and so many visits
+in_step : (drawn visits late : ℕ) → drawn ≡ visits → late ≡ 0 → drawn ≡ visits + late
+in_step drawn visits late e none = omega (arith, e, none)
+
+one_late : (drawn visits late : ℕ) → drawn ≡ visits → late ≡ 1 → drawn + 1 ≡ visits + late
+one_late drawn visits late e one = omega (arith, e, one)
+
+one_more : (drawn visits more late : ℕ) → drawn ≡ visits → more ≡ visits + 1 → late ≡ 0 → drawn + 1 ≡ more + late
+one_more drawn visits more late e up none = omega (arith, e, up, none)
+
 -- a shard that halts the pass
-sat_halted : (p : Pass) (i : ℕ) (v : View) (r : ShardRecord) (cause : HaltCause) → v.part ≡ 1 → IsOfferOf p v.offered r.held → HasSeen v r.pruned → v.drawn ≤ length (row_pairs 0 r.rows) → v.raised ≡ 0 → HasCause v r cause
-    → Sat p i (ends.Halted cause) (after_halt v (halt_number cause)) r
-sat_halted p i v r cause part offered seen few raised why =
-    record { part = part; offered = offered; seen = seen; few_drawn = few; cause = (raises v.raised (halt_number cause) raised, cause_kept v r (halt_number cause) cause why) }
+sat_halted : (p : Pass) (i : ℕ) (v : View) (r : ShardRecord) (cause : HaltCause) → v.part ≡ 1 → IsOfferOf p v.offered r.held → HasSeen v r.pruned → v.drawn ≤ length (row_pairs 0 r.rows) → v.drawn ≤ v.top → (HadMemory (ends.Halted cause) → HasDrawnFor v r)
+    → v.raised ≡ 0 → HasCause v r cause → Sat p i (ends.Halted cause) (after_halt v (halt_number cause)) r
+sat_halted p i v r cause part offered seen few below drawn raised why =
+    record { part = part; offered = offered; seen = seen; few_drawn = few; drawn_below = below; drawn = drawn; cause = (raises v.raised (halt_number cause) raised, cause_kept v r (halt_number cause) cause why) }
 
 module _ (p : Pass) (i budget : ℕ) (v : View) (r : ShardRecord) (own : Own p i r) (s : Sits p budget v r) where
   few : v.drawn ≤ length (row_pairs 0 r.rows)
   few = same_le v.drawn (length r.visits) (length (row_pairs 0 r.rows)) s.drawn (few_visits p i r own)
 
+  drawn_for : HasDrawnFor v r
+  drawn_for = in_step v.drawn (length r.visits) v.late s.drawn s.late
+
   -- it met the halt of another
   pub sat_met : (word : ℕ) → 0 < word → Sat p i ends.Met (after_halted v word) r
-  sat_met word some = record { part = s.part; offered = s.offered; seen = s.seen; few_drawn = few; cause = (s.raised, s.late, some) }
+  sat_met word some = record { part = s.part; offered = s.offered; seen = s.seen; few_drawn = few; drawn_below = s.drawn_below; drawn = λ _. drawn_for; cause = (s.raised, s.late, some) }
 
   pub sat_done : Done p i r → Sat p i ends.Done v r
-  sat_done done = record { part = s.part; offered = s.offered; seen = s.seen; few_drawn = few; cause = (s.raised, s.late, s.drawn, done) }
+  sat_done done = record { part = s.part; offered = s.offered; seen = s.seen; few_drawn = few; drawn_below = s.drawn_below; drawn = λ _. drawn_for; cause = (s.raised, s.late, s.drawn, done) }
 
   -- memory ran out before it drew a number
   pub sat_memory : Sat p i (ends.Halted causes.Memory) (after_halt v (halt_number causes.Memory)) r
-  sat_memory = sat_halted p i v r causes.Memory s.part s.offered s.seen few s.raised s.late
+  sat_memory = sat_halted p i v r causes.Memory s.part s.offered s.seen few s.drawn_below (λ _. drawn_for) s.raised s.late
 
   -- ---- after it drew a number for a node that waits
-  module _ (best number : ℕ) (b : IsBestFor v best) (waits : length r.visits + 1 ≤ length (row_pairs 0 r.rows)) where
+  module _ (best number : ℕ) (b : IsBestFor v best) (count : IsCountFor (after_look v best) number) (waits : length r.visits + 1 ≤ length (row_pairs 0 r.rows)) where
     drawn_few : v.drawn + 1 ≤ length (row_pairs 0 r.rows)
     drawn_few = up_le v.drawn (length r.visits) (length (row_pairs 0 r.rows)) s.drawn waits
 
+    drawn_top : v.drawn + 1 ≤ number + 1
+    drawn_top = up v.drawn number count.own
+
     -- the budget was spent
     pub sat_budget : budget ≤ number → Sat p i (ends.Halted causes.Budget) (after_halt (drawn_at v best number) (halt_number causes.Budget)) r
-    sat_budget spent = sat_halted p i (drawn_at v best number) r causes.Budget s.part s.offered (seen_lower v r.pruned best s.seen b) drawn_few s.raised (too_late v.late number v.limit budget s.late s.limit spent)
+    sat_budget spent =
+        let late = too_late v.late number v.limit budget s.late s.limit spent in
+        sat_halted p i (drawn_at v best number) r causes.Budget s.part s.offered (seen_lower v r.pruned best s.seen b) drawn_few drawn_top (λ _. one_late v.drawn (length r.visits) (drawn_at v best number).late s.drawn late) s.raised late
 
     -- memory ran out in the visit
     pub sat_drawn : number < budget → Sat p i (ends.Halted causes.Memory) (after_halt (drawn_at v best number) (halt_number causes.Memory)) r
-    sat_drawn lt = sat_halted p i (drawn_at v best number) r causes.Memory s.part s.offered (seen_lower v r.pruned best s.seen b) drawn_few s.raised (in_time v.late number v.limit budget s.late s.limit lt)
+    sat_drawn lt = sat_halted p i (drawn_at v best number) r causes.Memory s.part s.offered (seen_lower v r.pruned best s.seen b) drawn_few drawn_top (λ had. absurd (had refl)) s.raised (in_time v.late number v.limit budget s.late s.limit lt)
 
     -- the visit met a fault
     pub sat_fault : number < budget → (l : ℕ) (n : Node) (rest : List Node) (met : FaultHere) → Sat p i (ends.Halted causes.Fault) (after_halt (drawn_at v best number) (halt_number causes.Fault)) (visit r l n rest [] [] r.held (Some met))
     sat_fault lt l n rest met =
-        sat_halted p i (drawn_at v best number) (visit r l n rest [] [] r.held (Some met)) causes.Fault s.part s.offered (seen_more (after_look v best) r.pruned [] (seen_lower v r.pruned best s.seen b) (λ q h. absurd (has_none q h))) drawn_few s.raised
-        (in_time v.late number v.limit budget s.late s.limit lt, met, refl)
+        let late = in_time v.late number v.limit budget s.late s.limit lt in
+        sat_halted p i (drawn_at v best number) (visit r l n rest [] [] r.held (Some met)) causes.Fault s.part s.offered (seen_more (after_look v best) r.pruned [] (seen_lower v r.pruned best s.seen b) (λ q h. absurd (has_none q h))) drawn_few drawn_top
+        (λ _. one_more v.drawn (length r.visits) (length (r.visits ++ visit_of l n ∷ [])) (drawn_at v best number).late s.drawn (length_push r.visits (visit_of l n)) late) s.raised (late, met, refl)

@@ -1,5 +1,5 @@
 -- When a shard with its seat and its ends of the mailboxes acts for a record of a pass, and what it leaves when it ends.
-use Rattle.std.specs.Prelude.{◌≡◌, ℕ, ◌^◌, ◌≤◌, ◌<◌, List, length, slice_get, Option, Some, None, pos}
+use Rattle.std.specs.Prelude.{◌≡◌, ◌≢◌, ℕ, ◌+◌, ◌^◌, ◌≤◌, ◌<◌, List, length, slice_get, Option, Some, None, pos}
 use Rattle.board_words.specs.Causes.{halt_number}
 use Rattle.board_words.specs.Rules.{no_word}
 use Rattle.board_words.specs.Seats.{BoardFacts, SeatFacts, IsSeatOf}
@@ -111,15 +111,27 @@ HasEnded p i v r ends.Done = (v.raised ≡ 0) × (v.late ≡ 0) × (v.drawn ≡ 
 HasEnded p i v r ends.Met = (v.raised ≡ 0) × (v.late ≡ 0) × (0 < v.met)
 HasEnded p i v r (ends.Halted cause) = (v.raised ≡ halt_number cause) × HasCause v r cause
 
--- The seat of a shard that has ended: it drew no more numbers than the record keeps nodes.
+-- it did not end by want of memory
+abbrev pub HadMemory : Ended → Type 0
+HadMemory end = end ≢ ends.Halted causes.Memory
+
+-- its draws are the visits and those that were late
+abbrev pub HasDrawnFor : View → ShardRecord → Type 0
+HasDrawnFor v r = v.drawn ≡ length r.visits + v.late
+
+-- The seat of a shard that has ended: it drew no more numbers than the record keeps nodes, and no more than the board had given
+-- out by its last draw. Where it had memory, each number that it drew is that of a visit, or late.
 pub record Sat (p : Pass) (i : ℕ) (end : Ended) (v : View) (r : ShardRecord) : Type 0 where
   pub part : v.part ≡ 1
   pub offered : IsOfferOf p v.offered r.held
   pub seen : HasSeen v r.pruned
   pub few_drawn : v.drawn ≤ length (row_pairs 0 r.rows)
+  pub drawn_below : v.drawn ≤ v.top
+  pub drawn : HadMemory end → HasDrawnFor v r
   pub cause : HasEnded p i v r end
 
--- What a shard leaves: a record of the pass whose parts it hands back, and which knows what it called.
+-- What a shard leaves: a record of the pass whose parts it hands back, and which knows what it called. Where it had memory, the
+-- record received all that was taken, and the posters posted all that it did.
 pub record Leaves {A B : Type 0} (p : Pass) (board : BoardFacts) (boxes : List MailboxFacts) (end : Ended) (t : Turner A B) (seat : SeatFacts) : Type 0 where
   pub shard_record : ShardRecord
   pub below : t.shard.me < p.shards
@@ -129,6 +141,7 @@ pub record Leaves {A B : Type 0} (p : Pass) (board : BoardFacts) (boxes : List M
   pub taker : IsTakerFor p boxes t.shard.me t.taker
   pub posters : ArePostersFor p boxes t.shard.me t.posters.items
   pub mail : HasSomeMail p t.taker.taken t.posters.items shard_record
+  pub all_mail : HadMemory end → HasAllMail p t.taker.taken t.posters.items shard_record
   pub calls : CallsFor p t.shard.me shard_record t.calling
 
 -- ---- either
