@@ -1,12 +1,12 @@
 -- What a pass announced, when its calls have ended.
-use Rattle.std.proofs.Common.{◌≡◌, ℕ, ◌≤◌, ◌<◌, ◌⊎◌, inl, inr, Bool, true, false, if◌then◌else◌, List, [], ◌∷◌, ◌++◌, length, slice_get, Option, Some, None, Result, Ok, Err, ℤ, pos, refl, sym, ap, subst, ◌∙◌, arith}
+use Rattle.std.proofs.Common.{◌≡◌, ℕ, ◌^◌, ◌≤◌, ◌<◌, ◌⊎◌, inl, inr, Bool, true, false, if◌then◌else◌, List, [], ◌∷◌, ◌++◌, length, slice_get, Option, Some, None, Result, Ok, Err, ℤ, pos, refl, sym, ap, subst, ◌∙◌, arith}
 use Rattle.std.specs.Prelude.{◌≤ℤ◌, IfSome, option_map, option_to_list}
 use Rattle.std.specs.Result.{is_err}
 use Rattle.announce_laws.proofs.Calls.{cried_law, left_law}
 use Rattle.announce_laws.proofs.Lasts.{last_law}
 use Rattle.announce_laws.specs.Called.{AreOfShards, IsSolved}
 use Rattle.announce_laws.specs.Last.{Improving, announced, is_announced, last_after, last_of, word_or_none}
-use Rattle.announcer.specs.Ends.{CallerFacts, CrierFacts, QueueFacts, AreLeft, IsBegunOf, new_crier}
+use Rattle.announcer.specs.Ends.{CallerFacts, CrierFacts, QueueFacts, AreLeft, IsBegunOf, IsCrierOf, new_crier}
 use Rattle.announcer.specs.declared.view.CalledCost.{CalledCost}
 use Rattle.announcing.specs.Hearing.{Hears, costs_cried}
 use Rattle.announcing.specs.Hearing.{Heard as HeardBy}
@@ -237,9 +237,15 @@ module _ {A : Type 0} (taken : A → Option (List ℕ)) (faults : A → ℕ) (qu
   pub heard_all : (ear after : Ear A) → ((h : HeardBy) → Hears taken faults h ear → Hears taken faults h after) → IsNewEar queue minimize last ear → Hears taken faults (held_to ear) after
   heard_all ear after between new = between (held_to ear) (hears_new ear new)
 
-  -- the same, by what the sink is when the ear has let it go
-  pub told_at : (ear after : Ear A) (x : A) (m : Bool) → Hears taken faults (held_to ear) after → minimize ≡ m → (ear.out.ghost_name ≡ after.out.ghost_name → x ≡ after.out.now)
-      → IsTold m last (costs_cried after.crier.now.taken) (taken ear.out.now) (taken x) (faults ear.out.now) (faults x) after.told
-  told_at ear after x m h same follows =
-      subst (λ (s : A). IsTold m last (costs_cried after.crier.now.taken) (taken ear.out.now) (taken s) (faults ear.out.now) (faults s) after.told) (sym (follows (sym h.sink_is)))
-      (subst (λ (b : Bool). IsTold b last (costs_cried after.crier.now.taken) (taken ear.out.now) (taken after.out.now) (faults ear.out.now) (faults after.out.now) after.told) same h.told)
+-- what was heard, by what the crier and the sink are when the ear has let them go
+module _ {A : Type 0} (taken : A → Option (List ℕ)) (faults : A → ℕ) (h : HeardBy) (after : Ear A) (hears : Hears taken faults h after) (crier : CrierFacts) (same : crier ≡ after.crier.now) where
+  pub cried_at : IsCrierOf h.queue crier × (after.told.count ≤ 2 ^ 62) × ((k : ℕ) (x : CalledCost) → slice_get crier.taken k ≡ Some x → x.from < h.queue.senders)
+  cried_at =
+      subst (λ (c : CrierFacts). IsCrierOf h.queue c × (after.told.count ≤ 2 ^ 62) × ((k : ℕ) (x : CalledCost) → slice_get c.taken k ≡ Some x → x.from < h.queue.senders)) (sym same)
+      (hears.crier, hears.few, hears.known)
+
+  pub told_at : (sink : A) (minimize : Bool) → sink ≡ after.out.now → h.minimize ≡ minimize → IsTold minimize h.last (costs_cried crier.taken) h.before (taken sink) h.faults (faults sink) after.told
+  told_at sink minimize out law =
+      subst (λ (c : CrierFacts). IsTold minimize h.last (costs_cried c.taken) h.before (taken sink) h.faults (faults sink) after.told) (sym same)
+      (subst (λ (s : A). IsTold minimize h.last (costs_cried after.crier.now.taken) h.before (taken s) h.faults (faults s) after.told) (sym out)
+      (subst (λ (b : Bool). IsTold b h.last (costs_cried after.crier.now.taken) h.before (taken after.out.now) h.faults (faults after.out.now) after.told) law hears.told))

@@ -1,11 +1,8 @@
-use Rattle.std.proofs.Common.{◌≡◌, ℕ, ◌<◌, ◌≤◌, ◌^◌, Some, slice_get, rules, refl, ◌∙◌, sym, subst}
-use Rattle.announcer.specs.Ends.{CrierFacts, IsCrierOf}
-use Rattle.announcer.specs.declared.view.CalledCost.{CalledCost}
+use Rattle.std.proofs.Common.{false, rules, refl, ◌∙◌, sym}
+use Rattle.announcing.specs.declared.telling.Told.{Told}
 use Rattle.shard_core.specs.Stands.{Suited}
-use Rattle.announcing.specs.Hearing.{costs_cried}
-use Rattle.announcing.specs.Telling.{IsTold}
 use Rattle.pass_ends.specs.Passes.{pass_of}
-use Rattle.pass_run.proofs.Heard.{heard_all, may_hear, told_at}
+use Rattle.pass_run.proofs.Heard.{cried_at, heard_all, may_hear, told_at}
 use Rattle.pass_run.proofs.Playing.{are_held, call_still}
 use Rattle.pass_run.proofs.Running.{regrouped, turned}
 use Rattle.pass_run.proofs.announced.hear_pass.Goals as goal
@@ -60,15 +57,13 @@ returns-in-Ok-clause-answer g c = λ some.
 pub returns-in-Ok-clause-crier : goal.returns-in-Ok-clause-crier
 returns-in-Ok-clause-crier g c =
     let after = c.turn_and_hear-heard.result in
-    let heard = heard_all g.S.Sink.taken g.S.Sink.faults c.args.queue.now c.minimize.result c.args.last _ after c.turn_and_hear-heard.ensures.ear (refl, c.requires.crier, refl, refl) in
-    let same : c.crier-1.given ≡ after.crier.now = search rules in
-    subst (λ (k : CrierFacts). IsCrierOf c.args.queue.now k × (after.told.count ≤ 2 ^ 62) × ((i : ℕ) (x : CalledCost) → slice_get k.taken i ≡ Some x → x.from < c.args.queue.now.senders)) (sym same) (heard.crier, heard.few, heard.known)
+    let silent : Told = record { last = c.args.last; count = 0; failed = false } in
+    let heard = heard_all g.S.Sink.taken g.S.Sink.faults c.args.queue.now c.minimize.result c.args.last (record { queue = c.args.queue; crier = _; out = _; told = silent; minimize = c.minimize.result }) after c.turn_and_hear-heard.ensures.ear (refl, c.requires.crier, refl, refl) in
+    cried_at g.S.Sink.taken g.S.Sink.faults _ after heard _ (search rules)
 
 pub returns-in-Ok-clause-told : goal.returns-in-Ok-clause-told
 returns-in-Ok-clause-told g c =
     let after = c.turn_and_hear-heard.result in
-    let heard = heard_all g.S.Sink.taken g.S.Sink.faults c.args.queue.now c.minimize.result c.args.last _ after c.turn_and_hear-heard.ensures.ear (refl, c.requires.crier, refl, refl) in
-    let same : c.out-1.given ≡ after.out.now = search rules in
-    let crier : c.crier-1.given ≡ after.crier.now = search rules in
-    subst (λ (k : CrierFacts). IsTold c.args.model.now.minimize c.args.last (costs_cried k.taken) (g.S.Sink.taken c.args.out.now) (g.S.Sink.taken c.out-1.given) (g.S.Sink.faults c.args.out.now) (g.S.Sink.faults c.out-1.given) after.told) (sym crier)
-    (told_at g.S.Sink.taken g.S.Sink.faults c.args.queue.now c.minimize.result c.args.last _ after c.out-1.given c.args.model.now.minimize heard c.minimize.ensures (λ _. same))
+    let silent : Told = record { last = c.args.last; count = 0; failed = false } in
+    let heard = heard_all g.S.Sink.taken g.S.Sink.faults c.args.queue.now c.minimize.result c.args.last (record { queue = c.args.queue; crier = _; out = _; told = silent; minimize = c.minimize.result }) after c.turn_and_hear-heard.ensures.ear (refl, c.requires.crier, refl, refl) in
+    told_at g.S.Sink.taken g.S.Sink.faults _ after heard _ (search rules) _ _ (search rules) c.minimize.ensures
