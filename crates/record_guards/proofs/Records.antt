@@ -116,10 +116,10 @@ no_costs (q ∷ ps) none zero p at = let is : q ≡ p = (let both : Some q ≡ S
 no_costs (q ∷ ps) none (suc k) p at = no_costs ps none.1 k p at
 
 silent : (m : Model) (ending : Ending) (ps : List Pass) → announced_costs ps ≡ [] → AllByRecursion (λ (p : Pass). p.announced ≡ None) ps → RightAnnounced m ending ps
-silent m ending ps no none =
+silent m ending ps empty none =
     record {
-      legal = λ c has. absurd (has_none c (subst (λ (xs : List ℤ). Has xs c) no has));
-      improving = subst (ImprovingCosts m.minimize None) (sym no) tt;
+      legal = λ c has. absurd (has_none c (subst (λ (xs : List ℤ). Has xs c) empty has));
+      improving = subst (ImprovingCosts m.minimize None) (sym empty) tt;
       best = λ k p at _. no_costs ps none k p at;
     }
 
