@@ -59,11 +59,11 @@ returns-in-Ok-clause-crier g c =
     let after = c.turn_and_hear-heard.result in
     let silent : Told = record { last = c.args.last; count = 0; failed = false } in
     let heard = heard_all g.S.Sink.taken g.S.Sink.faults c.args.queue.now c.minimize.result c.args.last (record { queue = c.args.queue; crier = _; out = _; told = silent; minimize = c.minimize.result }) after c.turn_and_hear-heard.ensures.ear (refl, c.requires.crier, refl, refl) in
-    cried_at g.S.Sink.taken g.S.Sink.faults _ after heard _ (search rules)
+    cried_at g.S.Sink.taken g.S.Sink.faults _ after heard c.crier-in-Ok-1.given.0 (search rules)
 
 pub returns-in-Ok-clause-told : goal.returns-in-Ok-clause-told
 returns-in-Ok-clause-told g c =
     let after = c.turn_and_hear-heard.result in
     let silent : Told = record { last = c.args.last; count = 0; failed = false } in
     let heard = heard_all g.S.Sink.taken g.S.Sink.faults c.args.queue.now c.minimize.result c.args.last (record { queue = c.args.queue; crier = _; out = _; told = silent; minimize = c.minimize.result }) after c.turn_and_hear-heard.ensures.ear (refl, c.requires.crier, refl, refl) in
-    told_at g.S.Sink.taken g.S.Sink.faults _ after heard _ (search rules) _ _ (search rules) c.minimize.ensures
+    told_at g.S.Sink.taken g.S.Sink.faults _ after heard c.crier-in-Ok-1.given.0 (search rules) _ _ (search rules) c.minimize.ensures
