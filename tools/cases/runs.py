@@ -39,6 +39,7 @@ TABLES = [
     ("keep", "keep", 4),
     ("gap", "gap", 1),
     ("best", "best", 2),
+    ("announce", "announce", 2),
     ("checks", "check", 8),
     ("field", "field", None),
     ("profile", "profile2", 4),

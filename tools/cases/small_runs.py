@@ -838,13 +838,14 @@ RULES = [
     ),
 ]
 
-# ---- the best node first; costs are not announced yet
+# ---- the best node first, and announced costs
 
 BEST = words("solve d p --engine best")
 TOUR_BEST = told("solution 14 4", "visit 2", "visit 3", "visit 1", "return", "search visited 6", "verdict optimal 14")
 JUMP_BEST = told("solution 5 1", "jump", "search visited 3", "verdict optimal 5")
 # No search is made there, so no visits are told.
 WITHOUT_SEARCH = [(run, "solution 0 0\nverdict optimal 0\n", 0) for run in (BEST, [*BEST, "--prune", "off"])]
+ANNOUNCED = words("solve d p --prune off --announce on")
 ENGINE_MISUSES = [
     "solve d p --engine",
     "solve d p --engine Best",
@@ -854,7 +855,6 @@ ENGINE_MISUSES = [
     "solve d p --gap on --engine=best",
     "solve d p --engine best --announce on",
     "solve d p --announce on --engine best --gap on",
-    "solve d p --announce on",
     "solve d p --announce",
     "solve d p --announce yes",
     "solve d p --announce on --announce off",
@@ -887,6 +887,7 @@ ENGINES = [
         ],
         [
             *((words(f"solve d p --engine best --workers {workers}"), *OPTIMAL_TOUR) for workers in (1, 2, 7, 64)),
+            *((words(f"solve d p --announce on --workers {workers}"), *OPTIMAL_TOUR) for workers in (1, 2, 7)),
         ],
     ),
     (
@@ -912,6 +913,22 @@ ENGINES = [
     ("a target that is not allowed, without a search", [("domain", NOT_ALLOWED), ("problem", problem("a", "x", 0))], [(BEST, "verdict infeasible\n", 10)]),
     # The cost of the second step is out of range; the node that meets it was drawn.
     ("a fault, the best node first", [("domain", BIG), ("problem", problem("big", "x", 0))], [(BEST, told("search visited 2", "verdict fault Range at big cost after 1", "big"), 12)]),
+    (
+        "an announced jump",
+        [("domain", CLIMB), ("problem", problem("a", "x", 0))],
+        [(ANNOUNCED, told("announce 5", "solution 5 1", "jump", "announced 1 refused 0", "pass 1 share 1 visited 3 dropped 0", "verdict optimal 5"), 0)],
+    ),
+    (
+        "a jump and then a climb, announced",
+        [("domain", FALSE_BOUND)],
+        [
+            (
+                ANNOUNCED,
+                told("announce 7", "announce 6", "solution 6 3", "inc", "inc", "inc", "announced 2 refused 0", "pass 1 share 1 visited 3 dropped 0", "verdict optimal 6"),
+                0,
+            )
+        ],
+    ),
 ]
 
 # ---- generated models

@@ -20,24 +20,25 @@ all_of before items i most = ap (λ (xs : List ℤ). before ++ xs) (take_all i i
 -- ---- a call that was heard
 
 module _ {A : Type 0} (taken : A → Option (List ℕ)) (faults : A → ℕ) (h : Heard) (old new : Ear A) (x : CalledCost) (hears : Hears taken faults h old) where
-  pub heard_more : new.queue.now ≡ old.queue.now → new.crier ≡ taken_by old.crier x → IsNextFor old.crier x → new.out.ghost_name ≡ old.out.ghost_name → new.minimize ≡ old.minimize → new.told.count ≤ 2 ^ 62
-      → IsTold old.minimize h.last (costs_cried old.crier.taken ++ x.cost ∷ []) h.before (taken new.out.now) h.faults (faults new.out.now) new.told → Hears taken faults h new
-  heard_more queue crier next sink minimize few told = record {
+  pub heard_more : new.queue.now ≡ old.queue.now → new.crier.now ≡ taken_by old.crier.now x → IsNextFor old.crier.now x → new.crier.ghost_name ≡ old.crier.ghost_name → new.out.ghost_name ≡ old.out.ghost_name → new.minimize ≡ old.minimize → new.told.count ≤ 2 ^ 62
+      → IsTold old.minimize h.last (costs_cried old.crier.now.taken ++ x.cost ∷ []) h.before (taken new.out.now) h.faults (faults new.out.now) new.told → Hears taken faults h new
+  heard_more queue crier next same sink minimize few told = record {
     queue_is = queue ∙ hears.queue_is;
     crier = ap (λ (c : CrierFacts). c.queue) crier ∙ hears.crier;
     known = λ k y at.
-        elim (has_cases old.crier.taken (x ∷ []) y (k, ap (λ (c : CrierFacts). slice_get c.taken k) (sym crier) ∙ at)) [
+        elim (has_cases old.crier.now.taken (x ∷ []) y (k, ap (λ (c : CrierFacts). slice_get c.taken k) (sym crier) ∙ at)) [
           | inl a ↦ hears.known a.0 y a.1
           | inr b ↦ elim (has_head x [] y b) [
             | inl e ↦ subst (λ (z : CalledCost). z.from < h.queue.senders) e (subst (λ q. x.from < q.senders) hears.crier next.known)
             | inr none ↦ absurd (has_none y none)
           ]
         ];
+    crier_is = same ∙ hears.crier_is;
     sink_is = sink ∙ hears.sink_is;
     minimize_is = minimize ∙ hears.minimize_is;
     few = few;
     told =
         subst (λ (costs : List ℤ). IsTold h.minimize h.last costs h.before (taken new.out.now) h.faults (faults new.out.now) new.told)
-        (sym (ap (λ (c : CrierFacts). costs_cried c.taken) crier ∙ map-append (λ (z : CalledCost). z.cost) old.crier.taken (x ∷ [])))
-        (subst (λ (b : Bool). IsTold b h.last (costs_cried old.crier.taken ++ x.cost ∷ []) h.before (taken new.out.now) h.faults (faults new.out.now) new.told) hears.minimize_is told);
+        (sym (ap (λ (c : CrierFacts). costs_cried c.taken) crier ∙ map-append (λ (z : CalledCost). z.cost) old.crier.now.taken (x ∷ [])))
+        (subst (λ (b : Bool). IsTold b h.last (costs_cried old.crier.now.taken ++ x.cost ∷ []) h.before (taken new.out.now) h.faults (faults new.out.now) new.told) hears.minimize_is told);
   }

@@ -5,10 +5,11 @@ use Rattle.announcer.specs.declared.view.CalledCost.{CalledCost}
 use Rattle.announcing.specs.Telling.{IsTold}
 use Rattle.announcing.specs.declared.ear.Ear.{Ear}
 
--- What an ear is held to: its queue, the reference by which it has its sink, and the last announced cost, the bytes and the faults
+-- What an ear is held to: its queue, the references by which it has its crier and its sink, and the last announced cost, the bytes and the faults
 -- of the sink before it heard anything.
 pub record Heard : Type 0 where
   pub queue : QueueFacts
+  pub crier : ℕ
   pub sink : ℕ
   pub minimize : Bool
   pub last : Option ℤ
@@ -22,9 +23,10 @@ costs_cried calls = map (λ (x : CalledCost). x.cost) calls
 -- It looked at the cost of each call that it took, each of one of the queue's callers.
 pub record Hears {A : Type 0} (taken : A → Option (List ℕ)) (faults : A → ℕ) (h : Heard) (ear : Ear A) : Type 0 where
   pub queue_is : ear.queue.now ≡ h.queue
-  pub crier : IsCrierOf h.queue ear.crier
-  pub known : (k : ℕ) (x : CalledCost) → slice_get ear.crier.taken k ≡ Some x → x.from < h.queue.senders
+  pub crier : IsCrierOf h.queue ear.crier.now
+  pub known : (k : ℕ) (x : CalledCost) → slice_get ear.crier.now.taken k ≡ Some x → x.from < h.queue.senders
+  pub crier_is : ear.crier.ghost_name ≡ h.crier
   pub sink_is : ear.out.ghost_name ≡ h.sink
   pub minimize_is : ear.minimize ≡ h.minimize
   pub few : ear.told.count ≤ 2 ^ 62
-  pub told : IsTold h.minimize h.last (costs_cried ear.crier.taken) h.before (taken ear.out.now) h.faults (faults ear.out.now) ear.told
+  pub told : IsTold h.minimize h.last (costs_cried ear.crier.now.taken) h.before (taken ear.out.now) h.faults (faults ear.out.now) ear.told

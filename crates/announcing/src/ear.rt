@@ -11,11 +11,12 @@ use std::sync::Wait;
 /// After so many announced costs no more are heard; no pass announces as many.
 pub const MOST_HEARD: u64 = 1 << 62;
 
-/// Hears the costs that are called to a queue, and announces them in a sink.
+/// Hears the costs that are called to a queue, and announces them in a sink. It owns no memory, so that what its crier and its sink end as
+/// is known when it is let go.
 #[derive(Drop)]
 pub struct Ear<'a, S: Sink> {
     pub queue: &'a AnnounceQueue,
-    pub crier: Crier,
+    pub crier: &'a mut Crier,
     pub out: &'a mut S,
     pub told: Told,
     pub minimize: bool,
@@ -29,7 +30,7 @@ fn hear_next<'a, S: Sink, R: Wait>(rt: &R, ear: &mut Ear<'a, S>) -> bool
     if ear.told.count >= MOST_HEARD {
         return false;
     }
-    let Some(cost) = ear.queue.cry(rt, &mut ear.crier) else {
+    let Some(cost) = ear.queue.cry(rt, ear.crier) else {
         return false;
     };
     look(ear.out, &mut ear.told, ear.minimize, cost);

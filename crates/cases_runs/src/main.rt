@@ -13,7 +13,7 @@ use std::thread::{Builder, Threads};
 use std::{fs, io, thread};
 
 /// The files of cases, in the order in which they are run.
-const FILES: [&str; 18] = [
+const FILES: [&str; 19] = [
     "one_variable.txt",
     "first_form.txt",
     "refusals.txt",
@@ -23,6 +23,7 @@ const FILES: [&str; 18] = [
     "keep.txt",
     "gap.txt",
     "best.txt",
+    "announce.txt",
     "checks.txt",
     "field.txt",
     "profile.txt",

@@ -52,9 +52,9 @@ abbrev pub beam_or_best : Option (List ℕ) → Option Engine
 beam_or_best None = Some engines.Beam
 beam_or_best (Some text) = if bytes_eq text (codes "beam") then Some engines.Beam else (if bytes_eq text (codes "best") then Some engines.Best else None)
 
--- No search announces costs yet. A search of the best node first has no passes, so it has no bound of passes.
+-- a search of the best node first has no passes, so it has no bound of passes and announces no costs
 abbrev pub has_such : Engine → (gap announce : Bool) → Bool
-has_such engines.Beam gap announce = not announce
+has_such engines.Beam gap announce = true
 has_such engines.Best gap announce = not (gap || announce)
 
 -- what the options of a search ask for, by what is found in the words: a bound, a certificate and announced costs where `on` is

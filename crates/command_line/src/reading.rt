@@ -71,12 +71,12 @@ fn beam_or_best(word: Option<&str>) -> Option<Engine>
     }
 }
 
-/// Whether such a search has a bound and announces costs, as they are asked for. No search announces costs yet.
+/// Whether such a search has a bound and announces costs, as they are asked for.
 fn has_such(engine: Engine, gap: bool, announce: bool) -> bool
     ensures { result ≡ has_such engine gap announce }
 {
     match engine {
-        Engine::Beam => !announce,
+        Engine::Beam => true,
         Engine::Best => !(gap || announce),
     }
 }

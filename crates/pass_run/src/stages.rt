@@ -10,7 +10,7 @@ ghost use Rattle.cost_laws.specs.Orders.{IsLawOf};
 ghost use Rattle.pass_ledger.specs.Passes.{Pass};
 ghost use Rattle.pass_ends.specs.Ends.{IsPassEnd};
 ghost use Rattle.pass_ends.specs.Passes.{pass_of};
-ghost use Rattle.pass_run.specs.RunningOut.{RanOut};
+ghost use Rattle.pass_run.specs.Announcements.{RanOut};
 ghost use Rattle.pass_run.specs.Callers.{AreLastCallers, CallTo};
 ghost use Rattle.pass_run.specs.Crews.{AllEnded};
 ghost use Rattle.pass_run.specs.Passes.{MayPass};

@@ -1,14 +1,17 @@
 -- Records of the worked model: which are right, and which are not.
-use Rattle.std.proofs.Common.{◌≡◌, ℕ, ◌+◌, ◌*◌, ◌^◌, ◌<◌, ◌≤◌, zero, suc, true, false, inl, inr, List, [], ◌∷◌, length, Some, None, refl, sym, ap, subst, arith}
-use Rattle.std.specs.Prelude.{ℤ, pos, ◌≤ℤ◌, ◌<ℤ◌}
+use Rattle.std.proofs.Common.{◌≡◌, ℕ, ◌+◌, ◌*◌, ◌^◌, ◌<◌, ◌≤◌, zero, suc, true, false, inl, inr, List, [], ◌∷◌, length, slice_get, Option, Some, None, refl, sym, ap, subst, arith}
+use Rattle.std.specs.List.{AllByRecursion}
+use Rattle.std.specs.Prelude.{IfSome, option_map, ℤ, pos, ◌≤ℤ◌, ◌<ℤ◌}
+use Rattle.announce_laws.specs.Last.{Improving as ImprovingCosts}
 use Rattle.std.proofs.lemmas.Int.{ints}
 use Rattle.std.proofs.Math.Nat.{mul-le-mul_left, zero-lt-suc}
-use Rattle.dp_claims.specs.Enough.{ArePairs, AreOf, IsAtMostReached, IsBelowEnough}
+use Rattle.dp_claims.specs.Enough.{Has, ArePairs, AreOf, IsAtMostReached, IsBelowEnough}
 use Rattle.dp_model.specs.declared.answers.FaultKind.TheVariants.{ZeroDivisor}
 use Rattle.dp_model.specs.declared.answers.Found.{Found}
 use Rattle.dp_model.specs.declared.answers.Keep.TheVariants as keeps
 use Rattle.dp_model.specs.declared.answers.Verdict.TheVariants as verdicts
 use Rattle.dp_model.specs.declared.parts.PlainState.{PlainState}
+use Rattle.dp_model.specs.declared.whole.Model.{Model}
 use Rattle.dp_steps.specs.Lists.{Solution}
 use Rattle.dp_steps.specs.States.{Inner}
 use Rattle.pass_ledger.specs.Ladder.{ladder}
@@ -18,12 +21,15 @@ use Rattle.pass_ledger.specs.Worked.{plain, alone, word_3}
 use Rattle.pass_ledger.specs.WorkedEnough.{three_pairs}
 use Rattle.pass_ledger.specs.WorkedFault.{faulty}
 use Rattle.pass_ledger.proofs.Ladder.{ladder_law}
+use Rattle.pass_ledger.proofs.Lists.{has_none}
 use Rattle.pass_ledger.proofs.Moves.{inner_not_base, step_same}
 use Rattle.pass_ledger.proofs.TwoWays.{inner_at, base_at, p_step, q_step, e_step, d_step}
 use Rattle.pass_ledger.proofs.Worked.{best_way, has_two, in_range, small}
 use Rattle.pass_ledger.proofs.WorkedEnough.{worked_enough}
 use Rattle.pass_ledger.proofs.WorkedFault.{worked_fault}
-use Rattle.solve_passes.specs.Records.{Pass, Ended, OutOfMemory, Right, KeepsWord}
+use Rattle.pass_run.proofs.Places.{none_there}
+use Rattle.pass_run.specs.Announcements.{last_or}
+use Rattle.solve_passes.specs.Records.{Announced, Pass, Ending, Ended, OutOfMemory, Right, RightAnnounced, TellsBest, KeepsWord, announced_costs}
 use Rattle.record_guards.specs.Records.{unpruned, pruned, of_11, pass, first, second, run, faulted, LawWorkedRecords, LawWorkedWords}
 
 -- ---- both lists
@@ -103,6 +109,20 @@ false_true e = cc
 not_empty : (p : Pass) (ps : List Pass) → p ∷ ps ≡ [] → ⊥
 not_empty p ps e = cc
 
+-- passes that announce nothing
+no_costs : (ps : List Pass) → AllByRecursion (λ (p : Pass). p.announced ≡ None) ps → (k : ℕ) (p : Pass) → slice_get ps k ≡ Some p → TellsBest p
+no_costs [] none k p at = absurd (none_there k p at)
+no_costs (q ∷ ps) none zero p at = let is : q ≡ p = (let both : Some q ≡ Some p = at in cc) in subst TellsBest is (subst (λ (a : Option Announced). IfSome a (λ x. last_or None x.costs ≡ option_map (λ (f : Found). f.cost) q.found)) (sym none.0) tt)
+no_costs (q ∷ ps) none (suc k) p at = no_costs ps none.1 k p at
+
+silent : (m : Model) (ending : Ending) (ps : List Pass) → announced_costs ps ≡ [] → AllByRecursion (λ (p : Pass). p.announced ≡ None) ps → RightAnnounced m ending ps
+silent m ending ps empty none =
+    record {
+      legal = λ c has. absurd (has_none c (subst (λ (xs : List ℤ). Has xs c) empty has));
+      improving = subst (ImprovingCosts m.minimize None) (sym empty) tt;
+      best = λ k p at _. no_costs ps none k p at;
+    }
+
 better : pos 3 <ℤ pos 11
 better = omega (arith, ints)
 
@@ -115,6 +135,7 @@ two_passes =
       reached = (two_reached, (three_reached, tt));
       legal = (list_11, (list_3, tt));
       improving = (better, tt);
+      announced = silent plain (Ended (verdicts.Optimal (pos 3))) (first ∷ second ∷ []) refl (refl, (refl, tt));
       base_target = tt;
       bound = λ needs. false_true needs.1.0;
       ending = ((refl, inl refl), λ e. absurd (not_empty first (second ∷ []) e));
@@ -129,6 +150,7 @@ stopped =
       reached = (two_reached, (two_reached, tt));
       legal = (list_11, tt);
       improving = tt;
+      announced = silent plain (Ended (verdicts.Stopped 4)) (first ∷ pass 2 2 2 0 None ∷ []) refl (refl, (refl, tt));
       base_target = tt;
       bound = λ needs. false_true needs.1.0;
       ending = ((refl, refl, four_below), λ e. absurd (not_empty first (pass 2 2 2 0 None ∷ []) e));
@@ -143,6 +165,7 @@ met_a_fault =
       reached = tt;
       legal = tt;
       improving = tt;
+      announced = silent faulty (Ended (verdicts.Fault faulted)) [] refl tt;
       base_target = tt;
       bound = λ needs. false_true needs.1.0;
       ending = (worked_fault.met, λ none no. no);
@@ -157,6 +180,7 @@ out_of_memory =
       reached = (two_reached, tt);
       legal = (list_11, tt);
       improving = tt;
+      announced = silent plain OutOfMemory (first ∷ []) refl (refl, tt);
       base_target = tt;
       bound = λ needs. false_true needs.1.0;
       ending = tt;

@@ -30,7 +30,7 @@ of_3 = record { cost = pos 3; steps = 1 ∷ 3 ∷ [] }
 
 -- a pass, its share, and what it found
 abbrev pub pass : (number share visited dropped : ℕ) → Option Found → Pass
-pass number share visited dropped found = record { found = found; number = number; share = share; visited = visited; dropped = dropped }
+pass number share visited dropped found = record { announced = None; found = found; number = number; share = share; visited = visited; dropped = dropped }
 
 abbrev pub first : Pass
 first = pass 1 1 2 1 (Some of_11)

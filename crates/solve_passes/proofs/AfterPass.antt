@@ -1,5 +1,5 @@
 -- What follows a closed pass, by what the schedule answers.
-use Rattle.std.proofs.Common.{◌≡◌, ℕ, ◌*◌, ◌<◌, ◌&&◌, inl, inr, Bool, true, false, cond, List, refl, sym, ap, ◌∙◌, subst, Option, Some, None, ℤ, ◌≤ℤ◌, nat_eq, nat_lt, arith}
+use Rattle.std.proofs.Common.{◌≡◌, ℕ, ◌*◌, ◌<◌, ◌&&◌, inl, inr, Bool, true, false, cond, List, ◌++◌, refl, sym, ap, ◌∙◌, subst, Option, Some, None, ℤ, ◌≤ℤ◌, nat_eq, nat_lt, arith}
 use Rattle.std.specs.Prelude.{IfNone, IfSome, int_le}
 use Rattle.std.proofs.lemmas.Bool.Decides.{nat_tests}
 use Rattle.std.proofs.lemmas.Int.{ints}
@@ -8,9 +8,11 @@ use Rattle.dp_model.specs.declared.answers.Cause.{Cause}
 use Rattle.dp_model.specs.declared.answers.Found.{Found}
 use Rattle.dp_model.specs.declared.answers.Verdict.TheVariants as verdicts
 use Rattle.dp_model.specs.declared.whole.Model.{Model}
+use Rattle.dp_outside.proofs.Steps.{Takes-more}
 use Rattle.dp_outside.specs.Outside.{Takes}
+use Rattle.solve_report.proofs.Written.{TakesFront-append}
 use Rattle.run_ends.specs.declared.status.Status.{Status}
-use Rattle.solve_passes.specs.Ongoing.{IsFollowed, IsTold, LosesNothing, going_on, halt_ending, held_cost, lines_of, printed_bound, progress_after, summary_of, verdict_of}
+use Rattle.solve_passes.specs.Ongoing.{IsFollowed, IsTold, LosesNothing, going_on, halt_ending, held_cost, printed_bound, progress_after, summary_of, verdict_of}
 use Rattle.solve_passes.specs.Records.{Ended}
 use Rattle.solve_passes.specs.declared.progress.Printing.{Printing}
 use Rattle.solve_passes.specs.declared.progress.Progress.{Progress}
@@ -87,18 +89,18 @@ module _ (m : Model) (dropped share : ℕ) (floor best : Option ℤ) (held : Opt
 -- ---- a pass that was printed, and what followed it
 
 module _ (printing : Printing) (m : Model) (before mid after : Option (List ℕ)) (old now : Progress) (tally : Tally) (found : Option Found)
-    (is : now ≡ progress_after old found tally.visited)
-    (told : Takes before mid (lines_of printing m old tally found)) where
+    (is : now ≡ progress_after old found tally.visited) (lines : List ℕ)
+    (told : Takes before mid lines) where
   -- it was closed
   pub closed : (new : Progress) (halt : Option Cause) (result : Option Status) → halt ≡ None →
       IfNone result ((0 < tally.dropped) × (new ≡ going_on m tally.dropped tally.least_floor now) × (after ≡ mid)) →
       IfSome result (λ status. LosesNothing m tally.dropped tally.least_floor now.held × IsTold printing m mid after status None (Ended (verdict_of now.held)) × (new.held ≡ now.held)) →
-      IsFollowed printing m before after old new tally halt found result
+      IsFollowed lines printing m before after old new tally halt found result
   closed new halt None none goes ends =
-      subst (λ (x : Option Cause). IsFollowed printing m before after old new tally x found None) (sym none)
-      (goes.0, goes.1 ∙ ap (going_on m tally.dropped tally.least_floor) is, subst (λ (t : Option (List ℕ)). Takes before t (lines_of printing m old tally found)) (sym goes.2) told)
+      subst (λ (x : Option Cause). IsFollowed lines printing m before after old new tally x found None) (sym none)
+      (goes.0, goes.1 ∙ ap (going_on m tally.dropped tally.least_floor) is, subst (λ (t : Option (List ℕ)). Takes before t lines) (sym goes.2) told)
   closed new halt (Some status) none goes ends =
-      subst (λ (x : Option Cause). IsFollowed printing m before after old new tally x found (Some status)) (sym none)
+      subst (λ (x : Option Cause). IsFollowed lines printing m before after old new tally x found (Some status)) (sym none)
       (inl (
         mid,
         Ended (verdict_of now.held),
@@ -109,9 +111,9 @@ module _ (printing : Printing) (m : Model) (before mid after : Option (List ℕ)
       ))
 
   -- it was halted
-  pub halted : (halt : Option Cause) (cause : Cause) (status : Status) → halt ≡ Some cause → IsTold printing m mid after status (printed_bound (Some cause) now.bound) (halt_ending now.visited cause) → IsFollowed printing m before after old now tally halt found (Some status)
+  pub halted : (halt : Option Cause) (cause : Cause) (status : Status) → halt ≡ Some cause → IsTold printing m mid after status (printed_bound (Some cause) now.bound) (halt_ending now.visited cause) → IsFollowed lines printing m before after old now tally halt found (Some status)
   halted halt cause status some h =
-      subst (λ (x : Option Cause). IsFollowed printing m before after old now tally x found (Some status)) (sym some)
+      subst (λ (x : Option Cause). IsFollowed lines printing m before after old now tally x found (Some status)) (sym some)
       (inl (
         mid,
         halt_ending now.visited cause,
@@ -120,3 +122,11 @@ module _ (printing : Printing) (m : Model) (before mid after : Option (List ℕ)
         subst (λ (b : Option ℤ). IsTold printing m mid after status (printed_bound (Some cause) b) (halt_ending now.visited cause)) (ap (λ (p : Progress). p.bound) is) h,
         ap (λ (p : Progress). p.held) is,
       ))
+
+-- ---- a pass behind what it announced
+
+pub led : (front lines : List ℕ) (printing : Printing) (m : Model) (before mid after : Option (List ℕ)) (old new : Progress) (tally : Tally) (halt : Option Cause) (found : Option Found) (result : Option Status) → Takes before mid front →
+    IsFollowed lines printing m mid after old new tally halt found result → IsFollowed (front ++ lines) printing m before after old new tally halt found result
+led front lines printing m before mid after old new tally halt found None took h = (h.0, h.1, Takes-more before mid after front lines took h.2)
+led front lines printing m before mid after old new tally halt found (Some status) took (inl h) = inl (h.0, h.1, Takes-more before mid h.0 front lines took h.2, h.3, h.4, h.5)
+led front lines printing m before mid after old new tally halt found (Some status) took (inr h) = inr (h.0, TakesFront-append before mid after front lines took h.1)

@@ -17,6 +17,8 @@ use Rattle.dp_steps.specs.Faults.{MeetsIn}
 use Rattle.dp_steps.specs.Lists.{Solution}
 use Rattle.dp_steps.specs.States.{Base, Forbidden, Inner}
 use Rattle.run_ends.specs.Claims.{claim_with, solved_by}
+use Rattle.pass_run.proofs.Places.{none_there}
+use Rattle.solve_passes.proofs.Announces.{nothing_announced}
 use Rattle.solve_passes.proofs.Concluding.{claimed, unclaimed}
 use Rattle.solve_passes.specs.Ongoing.{Concluded, IsTold}
 use Rattle.solve_passes.specs.Records.{Record, Ending, Ended, OutOfMemory, KeepsWord, RightBound, RightEnding, claim_of, ending_status, ending_text, found_text, record_text}
@@ -93,7 +95,7 @@ none_legal m (g ∷ steps) cost forbidden s = forbidden_not_inner m m.target for
 -- ---- a base target
 
 text_at_target : (printing : Printing) (m : Model) (found : Found) (end : Ending) → record_text printing m (record { at_target = Some found; passes = []; bound = None; ending = end }) ≡ found_text printing m (Some found) ++ ending_text m end
-text_at_target All m found end = ap (λ (t : List ℕ). t ++ ending_text m end) (append-nil (solution_text m found))
+text_at_target (All announce) m found end = ap (λ (t : List ℕ). t ++ ending_text m end) (append-nil (solution_text m found))
 text_at_target VerdictAlone m found end = refl
 
 -- with no pass there is no bound
@@ -118,6 +120,7 @@ module _ (m : Model) (options : Options) (gap : Bool) (printing : Printing) (bef
       Concluded m options gap printing before after (solved_by status last)
   ended status last end right word printed = record {
     run = run_of end;
+    announcing = λ k p at. absurd (none_there k p at);
     right = record {
       numbered = tt;
       dropping = tt;
@@ -125,6 +128,7 @@ module _ (m : Model) (options : Options) (gap : Bool) (printing : Printing) (bef
       reached = tt;
       legal = (no_steps m found.steps found.cost base within short, tt);
       improving = tt;
+      announced = nothing_announced m end;
       base_target = (refl, (found.cost, base));
       bound = no_bound m options gap (Some found) end;
       ending = right;
@@ -161,7 +165,7 @@ module _ (m : Model) (options : Options) (gap : Bool) (printing : Printing) (bef
 -- ---- a run without a pass and without a solution
 
 bare_text : (printing : Printing) (m : Model) (end : Ending) → record_text printing m (record { at_target = None; passes = []; bound = None; ending = end }) ≡ ending_text m end
-bare_text All m end = refl
+bare_text (All announce) m end = refl
 bare_text VerdictAlone m end = refl
 
 module _ (m : Model) (options : Options) (gap : Bool) (printing : Printing) (before after : Option (List ℕ)) (status : Status) where
@@ -171,7 +175,8 @@ module _ (m : Model) (options : Options) (gap : Bool) (printing : Printing) (bef
   bare : (end : Ending) → RightEnding m options gap (bare_run end) end → KeepsWord m options None end → IsTold printing m before after status None end → Concluded m options gap printing before after (solved_by status None)
   bare end right word told = record {
     run = bare_run end;
-    right = record { numbered = tt; dropping = tt; within_budget = omega arith; reached = tt; legal = tt; improving = tt; base_target = tt; bound = no_bound m options gap None end; ending = right };
+    announcing = λ k p at. absurd (none_there k p at);
+    right = record { numbered = tt; dropping = tt; within_budget = omega arith; reached = tt; legal = tt; improving = tt; announced = nothing_announced m end; base_target = tt; bound = no_bound m options gap None end; ending = right };
     word = word;
     printed = subst (λ (t : List ℕ). ((status ≡ ending_status end) × Takes before after t × (claim_with status None ≡ claim_of (bare_run end))) ⊎ ((status ≡ statuses.WriteFault) × TakesFront before after t × (claim_with status None ≡ None)))
         (sym (bare_text printing m end))

@@ -1,5 +1,5 @@
 -- What a run came to after a pass, by what was printed.
-use Rattle.std.proofs.Common.{◌≡◌, ℕ, ◌+◌, ◌^◌, ◌<◌, ◌≤◌, true, false, Result, Ok, Err, Bool, List, [], ◌∷◌, ◌++◌, refl, sym, ap, ◌∙◌, subst, ℤ, Option, None, ◌⊎◌, inl, inr, arith}
+use Rattle.std.proofs.Common.{◌≡◌, ℕ, ◌+◌, ◌^◌, ◌<◌, ◌≤◌, true, false, Result, Ok, Err, Bool, List, [], ◌∷◌, ◌++◌, refl, sym, ap, ◌∙◌, subst, slice_get, ℤ, Option, Some, None, is_some, ◌⊎◌, inl, inr, arith}
 use Rattle.std.specs.Prelude.{OnErr, OnOk}
 use Rattle.std.specs.Result.{is_err}
 use Rattle.dp_claims.specs.Enough.{IsAtMostReached}
@@ -13,8 +13,11 @@ use Rattle.dp_outside.specs.declared.failing.Failed.{Failed}
 use Rattle.solve_passes.proofs.Passing.{IsNew, dropping_more, last_but_dropped, passes_more, right_record, text_more, text_of_record}
 use Rattle.run_ends.specs.Claims.{claim_with, solved_by}
 use Rattle.run_ends.specs.declared.solved.Solved.{Solved}
-use Rattle.solve_passes.specs.Ongoing.{Passes, History, HistoryOf, Concluded, IsBoundOf, IsTold, held_after, lines_of, pass_of, solutions_of}
-use Rattle.solve_passes.specs.Records.{Pass, Ending, Ended, OutOfMemory, Record, KeepsWord, RightBound, RightEnding, bound_text, claim_after, claim_of, ending_status, ending_text, passes_text}
+use Rattle.solve_passes.proofs.Announces.{announced_more, each_announces, right_more}
+use Rattle.solve_passes.specs.Announcing.{MayAnnounce}
+use Rattle.solve_passes.specs.Ongoing.{Passes, History, HistoryOf, Concluded, IsBoundOf, IsTold, announces, held_after, held_cost, lines_of, pass_of, solutions_of}
+use Rattle.pass_run.specs.Announcements.{last_or}
+use Rattle.solve_passes.specs.Records.{Announced, Pass, Ending, Ended, OutOfMemory, Record, KeepsWord, RightAnnounced, RightBound, RightEnding, TellsBest, costs_in, bound_text, claim_after, claim_of, ending_status, ending_text, passes_text}
 use Rattle.solve_passes.specs.declared.progress.Printing.{Printing}
 use Rattle.solve_passes.specs.declared.progress.Progress.{Progress}
 use Rattle.solve_passes.specs.declared.progress.Tally.{Tally}
@@ -71,18 +74,19 @@ no_bound_before_memory m options gap target ps needs = let clash : OutOfMemory �
 -- ---- a pass more
 
 -- the passes with one more
-abbrev pub all : List Pass → Progress → Tally → Option Found → List Pass
-all ps progress tally found = ps ++ pass_of progress found tally.visited tally.dropped ∷ []
+abbrev pub all : List Pass → Progress → Option Announced → Tally → Option Found → List Pass
+all ps progress announced tally found = ps ++ pass_of progress announced found tally.visited tally.dropped ∷ []
 
 -- after one pass more
-module _ (m : Model) (options : Options) (gap : Bool) (printing : Printing) (before old : Option (List ℕ)) (progress : Progress) (tally : Tally) (found : Option Found)
+module _ (m : Model) (options : Options) (gap : Bool) (printing : Printing) (before old : Option (List ℕ)) (progress : Progress) (announced : Option Announced) (tally : Tally) (found : Option Found)
     (h : HistoryOf m options gap printing before old progress)
     (new : IsNew m progress.held found)
     (share : progress.schedule.share ≡ 2 ^ progress.passes)
     (reached : IsAtMostReached m options.keep tally.visited)
-    (within : progress.visited + tally.visited ≤ options.budget) where
+    (within : progress.visited + tally.visited ≤ options.budget)
+    (may : MayAnnounce m printing (held_cost progress.held) announced) where
   abbrev this : Pass
-  this = pass_of progress found tally.visited tally.dropped
+  this = pass_of progress announced found tally.visited tally.dropped
 
   abbrev run : List Pass
   run = h.passes ++ this ∷ []
@@ -90,20 +94,28 @@ module _ (m : Model) (options : Options) (gap : Bool) (printing : Printing) (bef
   abbrev run_of : Option ℤ → Ending → Record
   run_of bound ending = record { at_target = None; passes = run; bound = bound; ending = ending }
 
-  pub grown : Passes m options.keep (held_after progress.held found) (progress.passes + 1) (progress.visited + tally.visited) (all h.passes progress tally found)
+  pub grown : Passes m options.keep (held_after progress.held found) (progress.passes + 1) (progress.visited + tally.visited) (all h.passes progress announced tally found)
   grown = passes_more m options.keep progress.held progress.passes progress.visited h.passes this h.known refl share reached new
 
-  told_on : (mid : Option (List ℕ)) → Takes old mid (lines_of printing m progress tally found) → Takes before mid (passes_text printing m run)
-  told_on mid told = subst (Takes before mid) (sym (text_more printing m h.passes this)) (Takes-more before old mid (passes_text printing m h.passes) (lines_of printing m progress tally found) h.told told)
+  told_on : (mid : Option (List ℕ)) → Takes old mid (lines_of printing m progress announced tally found) → Takes before mid (passes_text printing m run)
+  told_on mid told = subst (Takes before mid) (sym (text_more printing m h.passes this)) (Takes-more before old mid (passes_text printing m h.passes) (lines_of printing m progress announced tally found) h.told told)
 
-  told_front : (mid : Option (List ℕ)) → TakesFront old mid (lines_of printing m progress tally found) → TakesFront before mid (passes_text printing m run)
-  told_front mid front = subst (TakesFront before mid) (sym (text_more printing m h.passes this)) (TakesFront-append before old mid (passes_text printing m h.passes) (lines_of printing m progress tally found) h.told front)
+  told_front : (mid : Option (List ℕ)) → TakesFront old mid (lines_of printing m progress announced tally found) → TakesFront before mid (passes_text printing m run)
+  told_front mid front = subst (TakesFront before mid) (sym (text_more printing m h.passes this)) (TakesFront-append before old mid (passes_text printing m h.passes) (lines_of printing m progress announced tally found) h.told front)
+
+  -- what was announced
+  announced_by : (ending : Ending) → ((ending ≡ OutOfMemory → ⊥) → TellsBest this) → RightAnnounced m ending run
+  announced_by ending best = right_more m printing progress.held h.passes this h.announced may ending best
+
+  announcing : (k : ℕ) (p : Pass) → slice_get run k ≡ Some p → is_some p.announced ≡ announces printing
+  announcing = each_announces m printing progress.held h.passes this h.announced may
 
   -- a write of the pass failed
-  pub failed_pass : (after : Option (List ℕ)) (status : Status) (last : Option Found) → status ≡ statuses.WriteFault → TakesFront old after (lines_of printing m progress tally found) → Concluded m options gap printing before after (solved_by status last)
+  pub failed_pass : (after : Option (List ℕ)) (status : Status) (last : Option Found) → status ≡ statuses.WriteFault → TakesFront old after (lines_of printing m progress announced tally found) → Concluded m options gap printing before after (solved_by status last)
   failed_pass after status last fault front = record {
     run = record { at_target = None; passes = run; bound = None; ending = OutOfMemory };
-    right = right_record m options gap (held_after progress.held found) (progress.passes + 1) (progress.visited + tally.visited) run None OutOfMemory grown (last_but_dropped h.passes this h.dropping) within (no_bound_before_memory m options gap None run) tt;
+    announcing = announcing;
+    right = right_record m options gap (held_after progress.held found) (progress.passes + 1) (progress.visited + tally.visited) run None OutOfMemory grown (last_but_dropped h.passes this h.dropping) within (announced_by OutOfMemory (λ other. absurd (other refl))) (no_bound_before_memory m options gap None run) tt;
     word = tt;
     printed = inr (
       fault,
@@ -113,12 +125,13 @@ module _ (m : Model) (options : Options) (gap : Bool) (printing : Printing) (bef
   }
 
   -- the run is over, with a right ending
-  pub over : (mid after : Option (List ℕ)) (status : Status) (bound : Option ℤ) (ending : Ending) (last : Option Found) → Takes old mid (lines_of printing m progress tally found) →
+  pub over : (mid after : Option (List ℕ)) (status : Status) (bound : Option ℤ) (ending : Ending) (last : Option Found) → Takes old mid (lines_of printing m progress announced tally found) →
       RightBound m options gap (run_of bound ending) bound → RightEnding m options gap (run_of bound ending) ending → KeepsWord m options bound ending →
-      IsTold printing m mid after status bound ending → last ≡ held_after progress.held found → Concluded m options gap printing before after (solved_by status last)
-  over mid after status bound ending last told bounded right word printed is_last = record {
+      IsTold printing m mid after status bound ending → last ≡ held_after progress.held found → ((ending ≡ OutOfMemory → ⊥) → TellsBest this) → Concluded m options gap printing before after (solved_by status last)
+  over mid after status bound ending last told bounded right word printed is_last best = record {
     run = run_of bound ending;
-    right = right_record m options gap (held_after progress.held found) (progress.passes + 1) (progress.visited + tally.visited) run bound ending grown (last_but_dropped h.passes this h.dropping) within bounded right;
+    announcing = announcing;
+    right = right_record m options gap (held_after progress.held found) (progress.passes + 1) (progress.visited + tally.visited) run bound ending grown (last_but_dropped h.passes this h.dropping) within (announced_by ending best) bounded right;
     word = word;
     printed = subst (λ (t : List ℕ). ((status ≡ ending_status ending) × Takes before after t × (claim_with status last ≡ claim_of (run_of bound ending))) ⊎ ((status ≡ statuses.WriteFault) × TakesFront before after t × (claim_with status last ≡ None)))
         (sym (text_of_record printing m run bound ending))
@@ -133,6 +146,7 @@ module _ (m : Model) (options : Options) (gap : Bool) (printing : Printing) (bef
   }
 
   -- nodes were dropped, and the run goes on
-  pub went_on : (mid : Option (List ℕ)) (bound : Option ℤ) → Takes old mid (lines_of printing m progress tally found) → 0 < tally.dropped → IsBoundOf m options gap (progress.passes + 1) (solutions_of run) bound →
+  pub went_on : (mid : Option (List ℕ)) (bound : Option ℤ) → Takes old mid (lines_of printing m progress announced tally found) → 0 < tally.dropped → IsBoundOf m options gap (progress.passes + 1) (solutions_of run) bound → TellsBest this →
+      (announces printing ≡ true → last_or (held_cost progress.held) (costs_in announced) ≡ held_cost (held_after progress.held found)) →
       History m options gap printing before mid (held_after progress.held found) (progress.passes + 1) (progress.visited + tally.visited) bound
-  went_on mid bound told some proved = record { passes = run; told = told_on mid told; known = grown; dropping = dropping_more h.passes this some h.dropping; proved = proved }
+  went_on mid bound told some proved best last = record { passes = run; told = told_on mid told; known = grown; dropping = dropping_more h.passes this some h.dropping; proved = proved; announced = announced_more m printing progress.held h.passes this h.announced may (held_after progress.held found) best last }

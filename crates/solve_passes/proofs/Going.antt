@@ -1,5 +1,5 @@
 -- What a run came to after a pass, by what is known of the pass.
-use Rattle.std.proofs.Common.{◌≡◌, ℕ, ◌+◌, ◌-◌, ◌*◌, ◌^◌, ◌<◌, ◌≤◌, List, [], ◌∷◌, ◌++◌, sym, ap, ◌∙◌, subst, Bool, Option, Some, None, inl, inr, ℤ, pos, arith}
+use Rattle.std.proofs.Common.{◌≡◌, ℕ, ◌+◌, ◌-◌, ◌*◌, ◌^◌, ◌<◌, ◌≤◌, List, [], ◌∷◌, ◌++◌, sym, ap, ◌∙◌, subst, Bool, Option, Some, None, inl, inr, refl, true, ℤ, pos, arith}
 use Rattle.std.specs.Prelude.{IfNone, IfSome}
 use Rattle.board_words.specs.Rules.{IsWhole}
 use Rattle.board_words.specs.Seats.{BoardFacts, IsSeatOf, SeatFacts}
@@ -12,7 +12,8 @@ use Rattle.dp_model.specs.declared.answers.Found.{Found}
 use Rattle.dp_model.specs.declared.answers.Options.{Options}
 use Rattle.dp_model.specs.declared.answers.Verdict.TheVariants as verdicts
 use Rattle.dp_model.specs.declared.whole.Model.{Model}
-use Rattle.dp_outside.specs.Outside.{Takes}
+use Rattle.dp_model.specs.Costs.{IsBetter}
+use Rattle.dp_outside.specs.Outside.{Takes, TakesFront}
 use Rattle.dp_steps.specs.States.{Inner}
 use Rattle.gap_ends.proofs.Dropped.{gap_law}
 use Rattle.cost_laws.specs.Orders.{InWideRange}
@@ -25,19 +26,26 @@ use Rattle.pass_ends.specs.declared.answers.PassEnd.TheVariants as ends
 use Rattle.pass_ledger.proofs.Backwards.{law}
 use Rattle.pass_ledger.specs.Ledgers.{NoneBelow}
 use Rattle.pass_ledger.specs.Passes as ledgers
+use Rattle.announce_laws.specs.Last.{word_or_none}
+use Rattle.pass_run.specs.Announcements.{RanOut, last_or}
+use Rattle.solve_passes.proofs.AfterPass.{led}
+use Rattle.solve_passes.proofs.Announces.{last_held, tells_best}
 use Rattle.solve_passes.proofs.Concluding.{all, failed_pass, grown, no_bound_before_memory, over, went_on}
 use Rattle.run_ends.specs.Claims.{solved_by}
 use Rattle.solve_passes.proofs.Counting.{below_enough, more_drawn, pow_less, pow_next, pow_some, reached_less}
 use Rattle.solve_passes.proofs.Drops.{drops_none}
 use Rattle.solve_passes.proofs.Gaps.{bound_more, costs_more, held_has, legal_word, met_floor, no_bound_before_verdict, proved_right, proved_word, stopped_bound, stopped_word, wide_after, wide_floor, wide_floor_for, wide_held, word_held, word_is}
-use Rattle.solve_passes.proofs.Passing.{IsNew, last_kept_all, nothing_last, some_pass}
+use Rattle.solve_passes.proofs.Passing.{IsNew, front_of_pass, last_kept_all, nothing_last, some_pass, text_of_pass}
 use Rattle.solve_passes.proofs.Words.{keeps_word, word_after}
-use Rattle.solve_passes.specs.Ongoing.{Concluded, HasWord, HistoryOf, IsBoundOf, IsFollowed, IsImproved, IsLast, IsOngoing, IsWordOf, GoesOn, LosesNothing, Passes, floor_for, going_on, halt_ending, halt_in, held_after, held_cost, lines_of, pass_of, printed_bound, progress_after, solutions_of, tally_in, verdict_of}
-use Rattle.solve_passes.specs.Records.{Pass, Ending, Ended, Record, KeepsWord, LastDroppedNone, RightBound, RightEnding, RightVerdict}
+use Rattle.solve_passes.specs.Announcing.{MayAnnounce, TellsLast, counts_of}
+use Rattle.solve_passes.specs.Ongoing.{Concluded, HasWord, HistoryOf, announces, rest_text, IsBoundOf, IsFollowed, IsImproved, IsLast, IsOngoing, IsWordOf, GoesOn, LosesNothing, Passes, floor_for, going_on, halt_ending, halt_in, held_after, held_cost, lines_of, pass_of, printed_bound, progress_after, solutions_of, tally_in, verdict_of}
+use Rattle.solve_passes.specs.Records.{Announced, Pass, Ending, Ended, OutOfMemory, Record, TellsBest, announced_lines, costs_in, KeepsWord, LastDroppedNone, RightBound, RightEnding, RightVerdict}
+use Rattle.solve_passes.specs.declared.progress.Counts.{Counts}
 use Rattle.solve_passes.specs.declared.progress.Printing.{Printing}
 use Rattle.solve_passes.specs.declared.progress.Progress.{Progress}
 use Rattle.solve_passes.specs.declared.progress.Tally.{Tally}
 use Rattle.run_ends.specs.declared.status.Status.{Status}
+use Rattle.run_ends.specs.declared.status.Status.TheVariants as statuses
 
 -- ---- what is known of a pass
 
@@ -75,7 +83,7 @@ module _ (m : Model) (options : Options) (gap : Bool) (board : BoardFacts) (prog
     (inner : Inner m m.target)
     (ongoing : IsOngoing m options board progress seat)
     (on_board : IsSeatOf board after)
-    (whole : IsWhole after.view) where
+    (whole : IsWhole after.view) (announced : Option Announced) where
   abbrev run : ledgers.Pass
   run = runs.pass_of m options progress.schedule.share some
 
@@ -145,8 +153,8 @@ module _ (m : Model) (options : Options) (gap : Bool) (board : BoardFacts) (prog
   next_of (ends.Halted cause visited dropped best) found made lost improved = absurd lost
 
   -- what was printed and kept after a pass
-  abbrev Follows : Printing → (old out : Option (List ℕ)) → (new : Progress) → Tally → (halt : Option Cause) → Option Status → Type 0
-  Follows printing old out new tally halt result = (found : Option Found) × IsImproved m progress.held tally.best found × IsFollowed printing m old out progress new tally halt found result
+  abbrev pub Follows : Printing → (old out : Option (List ℕ)) → (new : Progress) → Tally → (halt : Option Cause) → Option Status → Type 0
+  Follows printing old out new tally halt result = (found : Option Found) × IsImproved m progress.held tally.best found × IsFollowed (lines_of printing m progress announced tally found) printing m old out progress new tally halt found result
 
   follows : (printing : Printing) (old out : Option (List ℕ)) (new : Progress) (end : PassEnd) (tally : Tally) (halt : Option Cause) (result : Option Status) → tally ≡ tally_in gap end → halt ≡ halt_in end → Follows printing old out new tally halt result → Follows printing old out new (tally_in gap end) (halt_in end) result
   follows printing old out new end tally halt result same_tally same_halt h =
@@ -166,7 +174,7 @@ module _ (m : Model) (options : Options) (gap : Bool) (board : BoardFacts) (prog
   -- ---- how it ends
 
   abbrev passes : List Pass → PassEnd → Option Found → List Pass
-  passes ps end found = all ps progress (tally_in gap end) found
+  passes ps end found = all ps progress announced (tally_in gap end) found
 
   abbrev Known : List Pass → PassEnd → Option Found → Type 0
   Known ps end found = Passes m options.keep (held_after progress.held found) (progress.passes + 1) (progress.visited + (tally_in gap end).visited) (passes ps end found)
@@ -181,14 +189,14 @@ module _ (m : Model) (options : Options) (gap : Bool) (board : BoardFacts) (prog
   fits_closed : (ps : List Pass) (visited dropped : ℕ) (floor : Option ℤ) (best found : Option Found) → Made (ends.Closed visited dropped floor best) → LosesNothing m dropped (floor_for gap floor) (held_after progress.held found) → IsImproved m progress.held best found → Known ps (ends.Closed visited dropped floor best) found →
       Fits (passes ps (ends.Closed visited dropped floor best) found) None (Ended (verdict_of (held_after progress.held found)))
   fits_closed ps visited dropped floor best found made (inl none) improved known =
-      let this = pass_of progress found visited dropped in (
+      let this = pass_of progress announced found visited dropped in (
         no_bound_before_verdict m options gap (ps ++ this ∷ []) (held_after progress.held found),
         (verdict_right m options gap (held_after progress.held found) (progress.passes + 1) (progress.visited + visited) (ps ++ this ∷ []) known (last_kept_all ps this none), λ e needs. some_pass ps this e),
         keeps_word run options (best_known after.view) (held_after progress.held found) (best_after best found made.1 improved made.2.best_is)
             (λ trusted. none_below run seat.view after.view visited dropped floor best inner made.2 none trusted),
       )
   fits_closed ps visited dropped floor best found made (inr met) improved known =
-      let this = pass_of progress found visited dropped in
+      let this = pass_of progress announced found visited dropped in
       let shown = gap_law run seat.view after.view visited dropped floor best inner some_share made met.0 in
       let proved = met_floor m options gap progress.schedule.share some (best_known after.view) floor (held_after progress.held found) shown (best_after best found made.1 improved made.2.best_is) met.1 in (
         no_bound_before_verdict m options gap (ps ++ this ∷ []) (held_after progress.held found),
@@ -201,7 +209,7 @@ module _ (m : Model) (options : Options) (gap : Bool) (board : BoardFacts) (prog
       Fits (passes ps (ends.Halted cause visited dropped best) found) (printed_bound (Some cause) progress.bound) (halt_ending (progress.visited + visited) cause)
   fits_halted ps causes.Budget visited dropped best found made proved known =
       let d = made.0 in
-      let this = pass_of progress found visited dropped in
+      let this = pass_of progress announced found visited dropped in
       let late : seat.view.drawn - after.view.limit < after.view.drawn - after.view.limit = made.2.cause_is.1 in
       let spent : progress.visited + visited ≡ options.budget = omega (arith, d.drawn, d.visits, ongoing.drawn, ongoing.within, limited, late) in
       let more : options.budget < progress.visited + d.gained = omega (arith, d.drawn, ongoing.drawn, ongoing.within, limited, late) in (
@@ -214,7 +222,7 @@ module _ (m : Model) (options : Options) (gap : Bool) (board : BoardFacts) (prog
     (made.2.cause_is.1, λ e needs. needs),
     tt,
   )
-  fits_halted ps causes.Memory visited dropped best found made proved known = (no_bound_before_memory m options gap None (ps ++ pass_of progress found visited dropped ∷ []), tt, tt)
+  fits_halted ps causes.Memory visited dropped best found made proved known = (no_bound_before_memory m options gap None (ps ++ pass_of progress announced found visited dropped ∷ []), tt, tt)
 
   fits : (ps : List Pass) (end : PassEnd) (found : Option Found) (ending : Ending) → Made end → IsImproved m progress.held (tally_in gap end).best found → IsBoundOf m options gap progress.passes (solutions_of ps) progress.bound → Known ps end found →
       IsLast m (tally_in gap end) (halt_in end) (progress_after progress found (tally_in gap end).visited) ending → Fits (passes ps end found) (printed_bound (halt_in end) progress.bound) ending
@@ -223,26 +231,80 @@ module _ (m : Model) (options : Options) (gap : Bool) (board : BoardFacts) (prog
   fits ps (ends.Halted cause visited dropped best) found ending made improved proved known last =
       subst (λ (e : Ending). Fits (passes ps (ends.Halted cause visited dropped best) found) (printed_bound (Some cause) progress.bound) e) (sym last) (fits_halted ps cause visited dropped best found made proved known)
 
+  -- ---- what it announces
+
+  -- what the pass may announce; where memory sufficed, the last cost has the best word
+  abbrev pub Tells : Printing → PassEnd → Type 0
+  Tells printing end = MayAnnounce m printing (held_cost progress.held) announced
+      × TellsLast m printing (held_cost progress.held) (best_known seat.view) (best_known after.view) end announced
+
+  word_before : (held : Option Found) → IsWordOf m (best_known seat.view) held → pos (best_known seat.view) ≡ word_or_none m (held_cost held)
+  word_before None is = ap pos is
+  word_before (Some f) is = is
+
+  last_by : (printing : Printing) (best found : Option Found) → MayAnnounce m printing (held_cost progress.held) announced → IsLegal m best → IsImproved m progress.held best found → IsLowered run (best_known seat.view) best (best_known after.view)
+      → pos (best_known after.view) ≡ word_or_none m (last_or (held_cost progress.held) (costs_in announced)) → last_or (held_cost progress.held) (costs_in announced) ≡ held_cost (held_after progress.held found)
+  last_by printing best found may legal improved lowered word =
+      last_held m printing progress.held (held_after progress.held found) announced (best_known after.view) may ongoing.has_word (word_after_pass best found legal improved) (best_after best found legal improved lowered) word
+
+  last_cost : (printing : Printing) (end : PassEnd) (found : Option Found) → Tells printing end → Made end → IsImproved m progress.held (tally_in gap end).best found → (RanOut end → ⊥) → announces printing ≡ true
+      → last_or (held_cost progress.held) (costs_in announced) ≡ held_cost (held_after progress.held found)
+  last_cost printing (ends.Closed visited dropped floor best) found tells made improved fine on = last_by printing best found tells.0 made.1 improved made.2.best_is (tells.1 fine on (word_before progress.held ongoing.best))
+  last_cost printing (ends.Halted cause visited dropped best) found tells made improved fine on = last_by printing best found tells.0 made.1 improved (made.2.best_is fine) (tells.1 fine on (word_before progress.held ongoing.best))
+
+  better_by : (best found : Option Found) → IsImproved m progress.held best found → IfSome found (λ f. IfSome progress.held (λ h. IsBetter m.minimize f.cost h.cost))
+  better_by best None improved = tt
+  better_by best (Some f) improved = improved.1
+
+  told_best : (printing : Printing) (end : PassEnd) (found : Option Found) → Tells printing end → Made end → IsImproved m progress.held (tally_in gap end).best found → (RanOut end → ⊥) → TellsBest (pass_of progress announced found (tally_in gap end).visited (tally_in gap end).dropped)
+  told_best printing end found tells made improved fine = tells_best m printing progress.held found announced tells.0 (better_by (tally_in gap end).best found improved) (last_cost printing end found tells made improved fine)
+
+  -- a run that ends otherwise had memory
+  not_out : (end : PassEnd) (found : Option Found) (ending : Ending) → IsLast m (tally_in gap end) (halt_in end) (progress_after progress found (tally_in gap end).visited) ending → (ending ≡ OutOfMemory → ⊥) → RanOut end → ⊥
+  not_out (ends.Closed visited dropped floor best) found ending last going ran = ran
+  not_out (ends.Halted cause visited dropped best) found ending last going ran = going (last ∙ ap (halt_ending (progress.visited + visited)) ran)
+
   new_of : (end : PassEnd) (found : Option Found) → Made end → IsImproved m progress.held (tally_in gap end).best found → IsNew m progress.held found
   new_of end found made improved = is_new m progress.held (tally_in gap end).best found (legal_in gap run seat.view after.view end made) improved
 
-  ended : (printing : Printing) (old out : Option (List ℕ)) (new : Progress) (end : PassEnd) (found : Option Found) (result : Option Status) → Made end → IsImproved m progress.held (tally_in gap end).best found → IsFollowed printing m old out progress new (tally_in gap end) (halt_in end) found result →
+  ended : (printing : Printing) (old out : Option (List ℕ)) (new : Progress) (end : PassEnd) (found : Option Found) (result : Option Status) → Made end → IsImproved m progress.held (tally_in gap end).best found → Tells printing end
+      → IsFollowed (lines_of printing m progress announced (tally_in gap end) found) printing m old out progress new (tally_in gap end) (halt_in end) found result →
       IfSome result (λ status. (before : Option (List ℕ)) → HistoryOf m options gap printing before old progress → Concluded m options gap printing before out (solved_by status new.held))
-  ended printing old out new end found None made improved followed = tt
-  ended printing old out new end found (Some status) made improved (inl told) = λ before h.
+  ended printing old out new end found None made improved tells followed = tt
+  ended printing old out new end found (Some status) made improved tells (inl told) = λ before h.
       let better = new_of end found made improved in
-      let known = grown m options gap printing before old progress (tally_in gap end) found h better ongoing.share (reached end made) (within end made) in
+      let known = grown m options gap printing before old progress announced (tally_in gap end) found h better ongoing.share (reached end made) (within end made) tells.0 in
       let fit = fits h.passes end found told.1 made improved h.proved known told.3 in
-      over m options gap printing before old progress (tally_in gap end) found h better ongoing.share (reached end made) (within end made) told.0 out status (printed_bound (halt_in end) progress.bound) told.1 new.held told.2 fit.0 fit.1 fit.2 told.4 told.5
-  ended printing old out new end found (Some status) made improved (inr failed) = λ before h.
-      failed_pass m options gap printing before old progress (tally_in gap end) found h (new_of end found made improved) ongoing.share (reached end made) (within end made) out status new.held failed.0 failed.1
+      over m options gap printing before old progress announced (tally_in gap end) found h better ongoing.share (reached end made) (within end made) tells.0 told.0 out status (printed_bound (halt_in end) progress.bound) told.1 new.held told.2 fit.0 fit.1 fit.2 told.4 told.5
+      (λ going. told_best printing end found tells made improved (not_out end found told.1 told.3 going))
+  ended printing old out new end found (Some status) made improved tells (inr failed) = λ before h.
+      failed_pass m options gap printing before old progress announced (tally_in gap end) found h (new_of end found made improved) ongoing.share (reached end made) (within end made) tells.0 out status new.held failed.0 failed.1
+
+  -- a write of what it announced failed
+  pub fails : (printing : Printing) (old out : Option (List ℕ)) (end : PassEnd) → Made end → MayAnnounce m printing (held_cost progress.held) announced → TakesFront old out (announced_lines announced) → (before : Option (List ℕ)) → HistoryOf m options gap printing before old progress →
+      Concluded m options gap printing before out (solved_by statuses.WriteFault progress.held)
+  fails printing old out end made may front before h =
+      failed_pass m options gap printing before old progress announced (tally_in gap end) None h tt ongoing.share (reached end made) (within end made) may out statuses.WriteFault progress.held refl
+      (front_of_pass printing m progress announced None (tally_in gap end).visited (tally_in gap end).dropped old out may.on front)
+
+  -- what follows a pass stands behind what it announced
+  pub led_on : (printing : Printing) (counts : Option Counts) (old mid out : Option (List ℕ)) (new : Progress) (tally : Tally) (halt : Option Cause) (result : Option Status) → MayAnnounce m printing (held_cost progress.held) announced → counts ≡ counts_of announced →
+      Takes old mid (announced_lines announced) →
+      (found : Option Found) × IsImproved m progress.held tally.best found × IsFollowed (rest_text printing m progress counts found tally.visited tally.dropped) printing m mid out progress new tally halt found result → Follows printing old out new tally halt result
+  led_on printing counts old mid out new tally halt result may same took f = (
+    f.0,
+    f.1,
+    subst (λ (lines : List ℕ). IsFollowed lines printing m old out progress new tally halt f.0 result) (text_of_pass printing m progress announced f.0 tally.visited tally.dropped may.on)
+        (led (announced_lines announced) (rest_text printing m progress (counts_of announced) f.0 tally.visited tally.dropped) printing m old mid out progress new tally halt f.0 result took
+        (subst (λ (c : Option Counts). IsFollowed (rest_text printing m progress c f.0 tally.visited tally.dropped) printing m mid out progress new tally halt f.0 result) same f.2)),
+  )
 
   -- the record of a run that is over
-  pub concludes : (printing : Printing) (old out : Option (List ℕ)) (new : Progress) (end : PassEnd) (tally : Tally) (halt : Option Cause) (result : Option Status) → Made end → tally ≡ tally_in gap end → halt ≡ halt_in end → Follows printing old out new tally halt result →
+  pub concludes : (printing : Printing) (old out : Option (List ℕ)) (new : Progress) (end : PassEnd) (tally : Tally) (halt : Option Cause) (result : Option Status) → Made end → Tells printing end → tally ≡ tally_in gap end → halt ≡ halt_in end → Follows printing old out new tally halt result →
       IfSome result (λ status. (before : Option (List ℕ)) → HistoryOf m options gap printing before old progress → Concluded m options gap printing before out (solved_by status new.held))
-  concludes printing old out new end tally halt result made same_tally same_halt h =
+  concludes printing old out new end tally halt result made tells same_tally same_halt h =
       let f = follows printing old out new end tally halt result same_tally same_halt h in
-      ended printing old out new end f.0 result made f.1 f.2
+      ended printing old out new end f.0 result made f.1 tells f.2
 
   -- ---- the record so far of a run that goes on
 
@@ -250,27 +312,28 @@ module _ (m : Model) (options : Options) (gap : Bool) (board : BoardFacts) (prog
   proved_more : (ps : List Pass) (visited dropped : ℕ) (floor : Option ℤ) (best found : Option Found) → Made (ends.Closed visited dropped floor best) → 0 < dropped → IsImproved m progress.held best found → IsBoundOf m options gap progress.passes (solutions_of ps) progress.bound → Known ps (ends.Closed visited dropped floor best) found →
       IsBoundOf m options gap (progress.passes + 1) (solutions_of (passes ps (ends.Closed visited dropped floor best) found)) (with_floor m.minimize progress.bound (held_cost (held_after progress.held found)) (floor_for gap floor))
   proved_more ps visited dropped floor best found made lost improved proved known =
-      let this = pass_of progress found visited dropped in
+      let this = pass_of progress announced found visited dropped in
       let held = held_after progress.held found in
       let shown = gap_law run seat.view after.view visited dropped floor best inner some_share made lost in
       bound_more m options gap progress.schedule.share some (best_known after.view) progress.passes (solutions_of ps) (solutions_of (ps ++ this ∷ [])) progress.bound (held_cost held) floor proved (costs_more ps this)
       (held_has (solutions_of (ps ++ this ∷ [])) held known.last) (wide_held held (word_after_pass best found made.1 improved)) (word_is m (best_known after.view) held (best_after best found made.1 improved made.2.best_is)) shown
 
-  kept : (printing : Printing) (before old out : Option (List ℕ)) (end : PassEnd) (found : Option Found) → Made end → GoesOn (tally_in gap end) (halt_in end) → IsImproved m progress.held (tally_in gap end).best found → Takes old out (lines_of printing m progress (tally_in gap end) found) → HistoryOf m options gap printing before old progress →
+  kept : (printing : Printing) (before old out : Option (List ℕ)) (end : PassEnd) (found : Option Found) → Made end → GoesOn (tally_in gap end) (halt_in end) → IsImproved m progress.held (tally_in gap end).best found → Tells printing end → Takes old out (lines_of printing m progress announced (tally_in gap end) found) → HistoryOf m options gap printing before old progress →
       HistoryOf m options gap printing before out (Next end found)
-  kept printing before old out (ends.Closed visited dropped floor best) found made lost improved took h =
+  kept printing before old out (ends.Closed visited dropped floor best) found made lost improved tells took h =
       let end = ends.Closed visited dropped floor best in
       let better = new_of end found made improved in
-      let known = grown m options gap printing before old progress (tally_in gap end) found h better ongoing.share (reached end made) (within end made) in
-      went_on m options gap printing before old progress (tally_in gap end) found h better ongoing.share (reached end made) (within end made) out (Next end found).bound took lost (proved_more h.passes visited dropped floor best found made lost improved h.proved known)
-  kept printing before old out (ends.Halted cause visited dropped best) found made lost improved took h = absurd lost
+      let known = grown m options gap printing before old progress announced (tally_in gap end) found h better ongoing.share (reached end made) (within end made) tells.0 in
+      went_on m options gap printing before old progress announced (tally_in gap end) found h better ongoing.share (reached end made) (within end made) tells.0 out (Next end found).bound took lost (proved_more h.passes visited dropped floor best found made lost improved h.proved known)
+      (told_best printing end found tells made improved (λ ran. ran)) (last_cost printing end found tells made improved (λ ran. ran))
+  kept printing before old out (ends.Halted cause visited dropped best) found made lost improved tells took h = absurd lost
 
-  grows : (printing : Printing) (old out : Option (List ℕ)) (new : Progress) (end : PassEnd) (result : Option Status) → Made end → Follows printing old out new (tally_in gap end) (halt_in end) result →
+  grows : (printing : Printing) (old out : Option (List ℕ)) (new : Progress) (end : PassEnd) (result : Option Status) → Made end → Tells printing end → Follows printing old out new (tally_in gap end) (halt_in end) result →
       IfNone result ((before : Option (List ℕ)) → HistoryOf m options gap printing before old progress → HistoryOf m options gap printing before out new)
-  grows printing old out new end (Some status) made f = tt
-  grows printing old out new end None made f = λ before h.
-      subst (λ (n : Progress). HistoryOf m options gap printing before out n) (sym f.2.1) (kept printing before old out end f.0 made f.2.0 f.1 f.2.2 h)
+  grows printing old out new end (Some status) made tells f = tt
+  grows printing old out new end None made tells f = λ before h.
+      subst (λ (n : Progress). HistoryOf m options gap printing before out n) (sym f.2.1) (kept printing before old out end f.0 made f.2.0 f.1 tells f.2.2 h)
 
-  pub history : (printing : Printing) (old out : Option (List ℕ)) (new : Progress) (end : PassEnd) (tally : Tally) (halt : Option Cause) (result : Option Status) → Made end → tally ≡ tally_in gap end → halt ≡ halt_in end → Follows printing old out new tally halt result →
+  pub history : (printing : Printing) (old out : Option (List ℕ)) (new : Progress) (end : PassEnd) (tally : Tally) (halt : Option Cause) (result : Option Status) → Made end → Tells printing end → tally ≡ tally_in gap end → halt ≡ halt_in end → Follows printing old out new tally halt result →
       IfNone result ((before : Option (List ℕ)) → HistoryOf m options gap printing before old progress → HistoryOf m options gap printing before out new)
-  history printing old out new end tally halt result made same_tally same_halt h = grows printing old out new end result made (follows printing old out new end tally halt result same_tally same_halt h)
+  history printing old out new end tally halt result made tells same_tally same_halt h = grows printing old out new end result made tells (follows printing old out new end tally halt result same_tally same_halt h)

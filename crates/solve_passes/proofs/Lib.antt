@@ -1,3 +1,4 @@
+pub mod Announces
 pub mod Passing
 pub mod Counting
 pub mod Words

@@ -1,5 +1,5 @@
 -- A record grows by a pass, and is right where a run ends.
-use Rattle.std.proofs.Common.{◌≡◌, ℕ, ◌+◌, ◌-◌, ◌^◌, ◌<◌, ◌≤◌, Bool, true, false, inl, List, [], ◌∷◌, ◌++◌, length, refl, sym, ap, ◌∙◌, subst, Option, Some, None, ℤ, arith, length-append, append_assoc}
+use Rattle.std.proofs.Common.{◌≡◌, ℕ, ◌+◌, ◌-◌, ◌^◌, ◌<◌, ◌≤◌, Bool, true, false, inl, List, [], ◌∷◌, ◌++◌, length, refl, sym, ap, ◌∙◌, subst, Option, Some, None, is_some, ℤ, arith, length-append}
 use Rattle.std.specs.Prelude.{IfSome}
 use Rattle.std.specs.List.{AllByRecursion}
 use Rattle.std.specs.Option.{option_map, option_to_list}
@@ -12,14 +12,16 @@ use Rattle.dp_model.specs.Costs.{IsBetter}
 use Rattle.dp_model.specs.declared.answers.Found.{Found}
 use Rattle.dp_model.specs.declared.answers.Options.{Options}
 use Rattle.dp_model.specs.declared.whole.Model.{Model}
-use Rattle.dp_outside.specs.Outside.{Takes}
+use Rattle.dp_outside.specs.Outside.{Takes, TakesFront}
 use Rattle.dp_steps.specs.Lists.{Solution}
-use Rattle.solve_passes.specs.Ongoing.{History, IsBoundOf, Passes, solutions_of, held_after, pass_of}
-use Rattle.solve_passes.specs.Records.{Pass, Ending, NumberedFrom, AllButLastDropped, LastDroppedNone, Improving, Right, RightBound, RightEnding, last_cost, last_solution, visits, bound_text, pass_text, passes_text, ending_text, found_text, record_text, solution_lines}
+use Rattle.solve_passes.specs.Ongoing.{History, IsBoundOf, Passes, announces, counts_line, solutions_of, held_after, pass_of, rest_text}
+use Rattle.solve_passes.specs.Records.{Announced, Pass, Ending, NumberedFrom, AllButLastDropped, LastDroppedNone, Improving, Right, RightAnnounced, RightBound, RightEnding, last_cost, last_solution, visits, announced_lines, bound_text, count_line, pass_text, passes_text, ending_text, record_text, solution_lines}
 use Rattle.solve_passes.specs.declared.progress.Printing.{Printing}
 use Rattle.solve_passes.specs.declared.progress.Printing.TheVariants.{All, VerdictAlone}
 use Rattle.solve_passes.specs.declared.progress.Progress.{Progress}
-use Rattle.solve_report.proofs.Written.{Takes-nothing}
+use Rattle.solve_passes.proofs.Announces.{none_announced}
+use Rattle.solve_passes.specs.Announcing.{counts_of}
+use Rattle.solve_report.proofs.Written.{Takes-nothing, TakesFront-longer}
 use Rattle.solve_report.specs.Lines.{pass_line}
 
 numbered_more : (k : ℕ) (ps : List Pass) (p : Pass) → NumberedFrom k ps → p.number ≡ k + length ps → p.share ≡ 2 ^ (k + length ps - 1) → NumberedFrom k (ps ++ p ∷ [])
@@ -120,6 +122,7 @@ begins printing m options gap before = record {
   known = record { counted = refl; numbered = tt; spent = refl; reached = tt; legal = tt; improving = tt; last = refl };
   dropping = tt;
   proved = none_proved gap;
+  announced = none_announced m printing;
 }
   where
     none_proved : (g : Bool) → IsBoundOf m options g 0 [] None
@@ -127,20 +130,21 @@ begins printing m options gap before = record {
     none_proved false = refl
 
     nothing_told : (p : Printing) → Takes before before (passes_text p m [])
-    nothing_told All = Takes-nothing before
+    nothing_told (All announce) = Takes-nothing before
     nothing_told VerdictAlone = Takes-nothing before
 
 -- a record of passes and an ending that fits them
-pub right_record : (m : Model) (options : Options) (gap : Bool) (held : Option Found) (count visited : ℕ) (ps : List Pass) (bound : Option ℤ) (end : Ending) → Passes m options.keep held count visited ps → AllButLastDropped ps → visited ≤ options.budget →
+pub right_record : (m : Model) (options : Options) (gap : Bool) (held : Option Found) (count visited : ℕ) (ps : List Pass) (bound : Option ℤ) (end : Ending) → Passes m options.keep held count visited ps → AllButLastDropped ps → visited ≤ options.budget → RightAnnounced m end ps →
     RightBound m options gap (record { at_target = None; passes = ps; bound = bound; ending = end }) bound → RightEnding m options gap (record { at_target = None; passes = ps; bound = bound; ending = end }) end →
     Right m options gap (record { at_target = None; passes = ps; bound = bound; ending = end })
-right_record m options gap held count visited ps bound end h dropping within bounded ending = record {
+right_record m options gap held count visited ps bound end h dropping within announced bounded ending = record {
   numbered = h.numbered;
   dropping = dropping;
   within_budget = subst (λ (n : ℕ). n ≤ options.budget) (sym h.spent) within;
   reached = h.reached;
   legal = h.legal;
   improving = h.improving;
+  announced = announced;
   base_target = tt;
   bound = bounded;
   ending = ending;
@@ -155,15 +159,32 @@ some_pass (q ∷ ps) p h = cc
 
 -- the text of one pass more
 pub text_more : (printing : Printing) (m : Model) (ps : List Pass) (p : Pass) → passes_text printing m (ps ++ p ∷ []) ≡ passes_text printing m ps ++ passes_text printing m (p ∷ [])
-text_more All m ps p = flat_map-append (pass_text m) ps (p ∷ [])
+text_more (All announce) m ps p = flat_map-append (pass_text m) ps (p ∷ [])
 text_more VerdictAlone m ps p = refl
 
--- the text of a pass is that of its solution, and then its line
-pub text_of_pass : (printing : Printing) (m : Model) (progress : Progress) (found : Option Found) (visited dropped : ℕ) → found_text printing m found ++ passes_text printing m (pass_of progress None visited dropped ∷ []) ≡ passes_text printing m (pass_of progress found visited dropped ∷ [])
-text_of_pass All m progress found visited dropped = sym (append_assoc (solution_lines m found) (pass_line (progress.passes + 1) progress.schedule.share visited dropped) [])
-text_of_pass VerdictAlone m progress found visited dropped = refl
+-- how much a pass announced
+count_is : (announced : Option Announced) → counts_line (counts_of announced) ≡ count_line announced
+count_is None = refl
+count_is (Some a) = refl
+
+-- the text of a pass is that of what it announced, and then the rest
+pub text_of_pass : (printing : Printing) (m : Model) (progress : Progress) (announced : Option Announced) (found : Option Found) (visited dropped : ℕ) → is_some announced ≡ announces printing →
+    announced_lines announced ++ rest_text printing m progress (counts_of announced) found visited dropped ≡ passes_text printing m (pass_of progress announced found visited dropped ∷ [])
+text_of_pass (All announce) m progress announced found visited dropped on =
+    let line = pass_line (progress.passes + 1) progress.schedule.share visited dropped in
+    ap (λ (t : List ℕ). announced_lines announced ++ (solution_lines m found ++ (t ++ line))) (count_is announced)
+    ∙ sym (append-nil (announced_lines announced ++ (solution_lines m found ++ (count_line announced ++ line))))
+text_of_pass VerdictAlone m progress None found visited dropped on = refl
+text_of_pass VerdictAlone m progress (Some a) found visited dropped on = let clash : true ≡ false = on in absurd (cc)
+
+-- a front of what it announced is a front of its text
+pub front_of_pass : (printing : Printing) (m : Model) (progress : Progress) (announced : Option Announced) (found : Option Found) (visited dropped : ℕ) (before after : Option (List ℕ)) → is_some announced ≡ announces printing →
+    TakesFront before after (announced_lines announced) → TakesFront before after (passes_text printing m (pass_of progress announced found visited dropped ∷ []))
+front_of_pass printing m progress announced found visited dropped before after on front =
+    subst (TakesFront before after) (text_of_pass printing m progress announced found visited dropped on)
+    (TakesFront-longer before after (announced_lines announced) (rest_text printing m progress (counts_of announced) found visited dropped) front)
 
 -- the text of a record whose target is not base
 pub text_of_record : (printing : Printing) (m : Model) (ps : List Pass) (bound : Option ℤ) (end : Ending) → record_text printing m (record { at_target = None; passes = ps; bound = bound; ending = end }) ≡ passes_text printing m ps ++ (bound_text bound printing ++ ending_text m end)
-text_of_record All m ps bound end = refl
+text_of_record (All announce) m ps bound end = refl
 text_of_record VerdictAlone m ps bound end = refl

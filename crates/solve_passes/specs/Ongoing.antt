@@ -1,13 +1,14 @@
 -- What a run has printed so far, how far it has come, and what it came to.
-use Rattle.std.specs.Prelude.{◌≡◌, ℕ, ◌+◌, ◌*◌, ◌^◌, ◌<◌, ◌≤◌, ◌⊎◌, Bool, true, false, List, [], ◌∷◌, ◌++◌, length, Option, Some, None, IfSome, ℤ, pos, ◌≤ℤ◌}
+use Rattle.std.specs.Prelude.{◌≡◌, ℕ, ◌+◌, ◌*◌, ◌^◌, ◌<◌, ◌≤◌, ◌⊎◌, Bool, true, false, List, [], ◌∷◌, ◌++◌, length, slice_get, Option, Some, None, is_some, IfSome, ℤ, pos, ◌≤ℤ◌}
 use Rattle.std.specs.List.{flat_map, AllByRecursion}
 use Rattle.std.specs.Option.{option_map, option_to_list}
 use Rattle.dp_model.specs.declared.answers.Keep.{Keep}
+use Rattle.announce_laws.specs.Last.{Improving as ImprovingCosts}
 use Rattle.board_words.specs.Rules.{no_word, IsWhole}
 use Rattle.board_words.specs.Seats.{BoardFacts, SeatFacts, IsSeatOf}
 use Rattle.board_words.specs.Steps.{best_known}
 use Rattle.cost_laws.specs.Orders.{InWideRange}
-use Rattle.dp_claims.specs.Enough.{AreReachedAtMost, IsAtMostReached, IsWidthAtMost}
+use Rattle.dp_claims.specs.Enough.{Has, AreReachedAtMost, IsAtMostReached, IsWidthAtMost}
 use Rattle.dp_model.specs.Costs.{IsBetter, order_word}
 use Rattle.dp_model.specs.declared.answers.Cause.{Cause}
 use Rattle.dp_model.specs.declared.answers.Cause.TheVariants as causes
@@ -21,15 +22,30 @@ use Rattle.dp_steps.specs.Lists.{Solution}
 use Rattle.gap_laws.specs.Gaps.{IsRunBound}
 use Rattle.pass_ends.specs.declared.answers.PassEnd.{PassEnd}
 use Rattle.pass_ends.specs.declared.answers.PassEnd.TheVariants as ends
-use Rattle.solve_passes.specs.Records.{Pass, Ending, Ended, OutOfMemory, Record, NumberedFrom, Improving, Right, KeepsWord, claim_of, costs, last_solution, visits, bound_text, passes_text, ending_text, record_text, ending_status}
+use Rattle.pass_run.specs.Announcements.{last_or}
+use Rattle.solve_passes.specs.Records.{Announced, Pass, Ending, Ended, OutOfMemory, Record, NumberedFrom, Improving, Right, KeepsWord, TellsBest, announced_costs, claim_of, costs, last_solution, visits, bound_text, found_text, passes_text, ending_text, record_text, ending_status}
+use Rattle.solve_passes.specs.declared.progress.Counts.{Counts}
 use Rattle.solve_passes.specs.declared.progress.Printing.{Printing}
+use Rattle.solve_passes.specs.declared.progress.Printing.TheVariants.{All, VerdictAlone}
 use Rattle.solve_passes.specs.declared.progress.Progress.{Progress}
 use Rattle.solve_passes.specs.declared.progress.Tally.{Tally}
+use Rattle.solve_report.specs.Lines.{announced_line, pass_line}
 use Rattle.run_ends.specs.declared.solved.Solved.{Solved}
 use Rattle.run_ends.specs.declared.status.Status.{Status}
 use Rattle.run_ends.specs.declared.status.Status.TheVariants as statuses
 use Rattle.width_loop.specs.Gaps.{bound_after}
 use Rattle.width_loop.specs.declared.gap.GapSummary.{GapSummary}
+
+-- ---- what is printed and held
+
+-- whether costs are announced
+abbrev pub announces : Printing → Bool
+announces (All announce) = announce
+announces VerdictAlone = false
+
+-- the cost of the solution that is held
+abbrev pub held_cost : Option Found → Option ℤ
+held_cost held = option_map (λ (f : Found). f.cost) held
 
 -- ---- the passes so far
 
@@ -52,6 +68,14 @@ abbrev pub IsBoundOf : Model → Options → (gap : Bool) → (count : ℕ) → 
 IsBoundOf m options true count found bound = IsRunBound m options.prune options.keep count (costs found) bound
 IsBoundOf m options false count found bound = bound ≡ None
 
+-- Whatever the passes announced are costs of legal lists, each strictly better than the one before. Where they announce, the last
+-- one is that of the solution that is held.
+pub record AreAnnounced (m : Model) (printing : Printing) (held : Option Found) (ps : List Pass) : Type 0 where
+  pub each : (k : ℕ) (p : Pass) → slice_get ps k ≡ Some p → (is_some p.announced ≡ announces printing) × TellsBest p
+  pub legal : (c : ℤ) → Has (announced_costs ps) c → (steps : List ℕ) × Solution m steps c
+  pub improving : ImprovingCosts m.minimize None (announced_costs ps)
+  pub last : announces printing ≡ true → last_or None (announced_costs ps) ≡ held_cost held
+
 -- the sink took the text of the passes so far, each of which dropped a node
 pub record History (m : Model) (options : Options) (gap : Bool) (printing : Printing) (before after : Option (List ℕ)) (held : Option Found) (count visited : ℕ) (bound : Option ℤ) : Type 0 where
   pub passes : List Pass
@@ -59,6 +83,7 @@ pub record History (m : Model) (options : Options) (gap : Bool) (printing : Prin
   pub known : Passes m options.keep held count visited passes
   pub dropping : AllByRecursion (λ (p : Pass). 0 < p.dropped) passes
   pub proved : IsBoundOf m options gap count (solutions_of passes) bound
+  pub announced : AreAnnounced m printing held passes
 
 abbrev pub HistoryOf : Model → Options → (gap : Bool) → Printing → Option (List ℕ) → Option (List ℕ) → Progress → Type 0
 HistoryOf m options gap printing before after progress = History m options gap printing before after progress.held progress.passes progress.visited progress.bound
@@ -94,8 +119,24 @@ pub record IsOngoing (m : Model) (options : Options) (board : BoardFacts) (progr
 -- ---- one more pass
 
 -- the pass that was made, as it is printed
-abbrev pub pass_of : Progress → Option Found → ℕ → ℕ → Pass
-pass_of progress found visited dropped = record { found = found; number = progress.passes + 1; share = progress.schedule.share; visited = visited; dropped = dropped }
+abbrev pub pass_of : Progress → Option Announced → Option Found → ℕ → ℕ → Pass
+pass_of progress announced found visited dropped = record { announced = announced; found = found; number = progress.passes + 1; share = progress.schedule.share; visited = visited; dropped = dropped }
+
+-- its text, but for the announced costs
+abbrev pub counts_line : Option Counts → List ℕ
+counts_line None = []
+counts_line (Some c) = announced_line c.announced c.refused
+
+abbrev pub counts_text : Printing → Option Counts → List ℕ
+counts_text (All announce) counts = counts_line counts
+counts_text VerdictAlone counts = []
+
+abbrev pub pass_line_text : Printing → Progress → ℕ → ℕ → List ℕ
+pass_line_text (All announce) progress visited dropped = pass_line (progress.passes + 1) progress.schedule.share visited dropped
+pass_line_text VerdictAlone progress visited dropped = []
+
+abbrev pub rest_text : Printing → Model → Progress → Option Counts → Option Found → ℕ → ℕ → List ℕ
+rest_text printing m progress counts found visited dropped = found_text printing m found ++ (counts_text printing counts ++ pass_line_text printing progress visited dropped)
 
 -- the solution that is held after a pass
 abbrev pub held_after : Option Found → Option Found → Option Found
@@ -127,10 +168,6 @@ tally_in gap (ends.Halted cause visited dropped best) = record { visited = visit
 abbrev pub halt_in : PassEnd → Option Cause
 halt_in (ends.Closed visited dropped floor best) = None
 halt_in (ends.Halted cause visited dropped best) = Some cause
-
--- the cost of the solution that is held
-abbrev pub held_cost : Option Found → Option ℤ
-held_cost held = option_map (λ (f : Found). f.cost) held
 
 -- a closed pass, as the schedule sees it
 abbrev pub summary_of : (dropped : ℕ) → (floor : Option ℤ) → (held : Option Found) → GapSummary
@@ -185,26 +222,27 @@ IsTold printing m before after status bound ending =
     ((status ≡ ending_status ending) × Takes before after (bound_text bound printing ++ ending_text m ending))
     ⊎ ((status ≡ statuses.WriteFault) × TakesFront before after (bound_text bound printing ++ ending_text m ending))
 
--- the printed lines of a pass, with the better solution that it found
-abbrev pub lines_of : Printing → Model → Progress → Tally → (found : Option Found) → List ℕ
-lines_of printing m progress tally found = passes_text printing m (pass_of progress found tally.visited tally.dropped ∷ [])
+-- the printed lines of a pass, with what it announced and the better solution that it found
+abbrev pub lines_of : Printing → Model → Progress → Option Announced → Tally → (found : Option Found) → List ℕ
+lines_of printing m progress announced tally found = passes_text printing m (pass_of progress announced found tally.visited tally.dropped ∷ [])
 
--- What follows a pass: its lines are printed, and then the run goes on, or it ends and this is printed too. Or a write failed.
-abbrev pub IsFollowed : Printing → Model → (before after : Option (List ℕ)) → (old new : Progress) → Tally → (halt : Option Cause) → (found : Option Found) → Option Status → Type 0
-IsFollowed printing m before after old new tally halt found None =
-    GoesOn tally halt × (new ≡ going_on m tally.dropped tally.least_floor (progress_after old found tally.visited)) × Takes before after (lines_of printing m old tally found)
-IsFollowed printing m before after old new tally halt found (Some status) =
-    ((mid : Option (List ℕ)) × (ending : Ending) × Takes before mid (lines_of printing m old tally found) × IsLast m tally halt (progress_after old found tally.visited) ending
+-- What follows a pass: these lines are printed, and then the run goes on, or it ends and this is printed too. Or a write failed.
+abbrev pub IsFollowed : (lines : List ℕ) → Printing → Model → (before after : Option (List ℕ)) → (old new : Progress) → Tally → (halt : Option Cause) → (found : Option Found) → Option Status → Type 0
+IsFollowed lines printing m before after old new tally halt found None =
+    GoesOn tally halt × (new ≡ going_on m tally.dropped tally.least_floor (progress_after old found tally.visited)) × Takes before after lines
+IsFollowed lines printing m before after old new tally halt found (Some status) =
+    ((mid : Option (List ℕ)) × (ending : Ending) × Takes before mid lines × IsLast m tally halt (progress_after old found tally.visited) ending
     × IsTold printing m mid after status (printed_bound halt old.bound) ending × (new.held ≡ held_after old.held found))
-    ⊎ ((status ≡ statuses.WriteFault) × TakesFront before after (lines_of printing m old tally found))
+    ⊎ ((status ≡ statuses.WriteFault) × TakesFront before after lines)
 
 -- ---- the end
 
--- A record that is right was printed, and what it claims is answered; or a write failed, a front of it was printed, and nothing is
+-- A record that is right was printed, whose passes announce exactly where costs are printed, and what it claims is answered; or a write failed, a front of it was printed, and nothing is
 -- claimed.
 pub record Concluded (m : Model) (options : Options) (gap : Bool) (printing : Printing) (before after : Option (List ℕ)) (solved : Solved) : Type 0 where
   pub run : Record
   pub right : Right m options gap run
+  pub announcing : (k : ℕ) (p : Pass) → slice_get run.passes k ≡ Some p → is_some p.announced ≡ announces printing
   pub word : KeepsWord m options run.bound run.ending
   pub printed : ((solved.status ≡ ending_status run.ending) × Takes before after (record_text printing m run) × (solved.claim ≡ claim_of run))
       ⊎ ((solved.status ≡ statuses.WriteFault) × TakesFront before after (record_text printing m run) × (solved.claim ≡ None))

@@ -1,10 +1,13 @@
--- What a run of a search does once a model is loaded, as a record: its passes with the better solutions found in them, a bound,
--- and how it ended; the text, the status and the claim of such a record; and which records are right for a model.
-use Rattle.std.specs.Prelude.{◌≡◌, ℕ, ◌+◌, ◌-◌, ◌^◌, ◌<◌, ◌≤◌, Bool, true, false, ◌⊎◌, List, [], ◌∷◌, ◌++◌, length, map, Option, Some, None, IfSome, option_map, option_to_list, ℤ, codes}
+-- What a run of a search does once a model is loaded, as a record: its passes with the costs that they announced and the better
+-- solutions found in them, a bound, and how it ended; the text, the status and the claim of such a record; and which records are right for a model.
+use Rattle.std.specs.Prelude.{◌≡◌, ℕ, ◌+◌, ◌-◌, ◌^◌, ◌<◌, ◌≤◌, Bool, true, false, ◌⊎◌, List, [], ◌∷◌, ◌++◌, length, map, slice_get, Option, Some, None, IfSome, option_map, option_to_list, ℤ, codes}
 use Rattle.std.specs.List.{flat_map, sum_by, AllByRecursion}
+use Rattle.announce_laws.specs.Last.{Improving as ImprovingCosts}
+use Rattle.announcing.specs.Telling.{announce_text}
 use Rattle.dp_model.specs.Costs.{IsBetter}
 use Rattle.dp_base.specs.Bytes.{line}
-use Rattle.solve_report.specs.Lines.{solution_text, pass_line, bound_line, verdict_text}
+use Rattle.pass_run.specs.Announcements.{last_or}
+use Rattle.solve_report.specs.Lines.{solution_text, announced_line, pass_line, bound_line, verdict_text}
 use Rattle.dp_claims.specs.Enough.{Has, IsAtMostReached, IsBelowEnough}
 use Rattle.dp_claims.specs.Honest.{Honest}
 use Rattle.dp_steps.specs.Bounds.{has_floors}
@@ -26,8 +29,14 @@ use Rattle.run_ends.specs.Statuses.{verdict_status}
 use Rattle.run_ends.specs.declared.status.Status.{Status}
 use Rattle.run_ends.specs.declared.status.Status.TheVariants as statuses
 
--- a pass, with the better solution that is printed before it, if one is
+-- the costs that a pass announced while it ran, and how often it found no room for one
+pub record Announced : Type 0 where
+  pub costs : List ℤ
+  pub refused : ℕ
+
+-- a pass, with what it announced, where costs are announced, and with the better solution that is printed before it, if one is
 pub record Pass : Type 0 where
+  pub announced : Option Announced
   pub found : Option Found
   pub number : ℕ
   pub share : ℕ
@@ -52,8 +61,17 @@ abbrev pub solution_lines : Model → Option Found → List ℕ
 solution_lines m None = []
 solution_lines m (Some s) = solution_text m s
 
+-- the announced costs stand first, and their number behind the solution
+abbrev pub announced_lines : Option Announced → List ℕ
+announced_lines None = []
+announced_lines (Some a) = announce_text a.costs
+
+abbrev pub count_line : Option Announced → List ℕ
+count_line None = []
+count_line (Some a) = announced_line (length a.costs) a.refused
+
 abbrev pub pass_text : Model → Pass → List ℕ
-pass_text m p = solution_lines m p.found ++ pass_line p.number p.share p.visited p.dropped
+pass_text m p = announced_lines p.announced ++ (solution_lines m p.found ++ (count_line p.announced ++ pass_line p.number p.share p.visited p.dropped))
 
 abbrev pub ending_text : Model → Ending → List ℕ
 ending_text m (Ended v) = verdict_text m v
@@ -61,16 +79,16 @@ ending_text m OutOfMemory = line (codes "memory")
 
 -- of the solutions and the passes nothing is printed where the verdict is to stand alone
 abbrev pub found_text : Printing → Model → Option Found → List ℕ
-found_text All m s = solution_lines m s
+found_text (All announce) m s = solution_lines m s
 found_text VerdictAlone m s = []
 
 abbrev pub passes_text : Printing → Model → List Pass → List ℕ
-passes_text All m ps = flat_map (pass_text m) ps
+passes_text (All announce) m ps = flat_map (pass_text m) ps
 passes_text VerdictAlone m ps = []
 
 abbrev pub bound_text : Option ℤ → Printing → List ℕ
 bound_text None printing = []
-bound_text (Some b) All = bound_line b
+bound_text (Some b) (All announce) = bound_line b
 bound_text (Some b) VerdictAlone = []
 
 -- the line of the bound stands before the ending
@@ -167,6 +185,25 @@ abbrev pub RightBound : Model → Options → (gap : Bool) → Record → Option
 RightBound m options gap r None = NeedsBound m options gap r → ⊥
 RightBound m options gap r (Some b) = NeedsBound m options gap r × (Has (costs (solutions r)) b ⊎ IsReachedFloor m b)
 
+-- the costs that passes announced, in order
+abbrev pub costs_in : Option Announced → List ℤ
+costs_in None = []
+costs_in (Some a) = a.costs
+
+abbrev pub announced_costs : List Pass → List ℤ
+announced_costs ps = flat_map (λ (p : Pass). costs_in p.announced) ps
+
+-- the last cost that a pass announced is that of the better solution that it found, and it announced none where it found none
+abbrev pub TellsBest : Pass → Type 0
+TellsBest p = IfSome p.announced (λ a. last_or None a.costs ≡ option_map (λ (f : Found). f.cost) p.found)
+
+-- Each announced cost is that of a legal list, and strictly better than the one before in the run. Each pass tells its best at
+-- last, unless it is the last one before want of memory.
+pub record RightAnnounced (m : Model) (ending : Ending) (ps : List Pass) : Type 0 where
+  pub legal : (c : ℤ) → Has (announced_costs ps) c → (steps : List ℕ) × Solution m steps c
+  pub improving : ImprovingCosts m.minimize None (announced_costs ps)
+  pub best : (k : ℕ) (p : Pass) → slice_get ps k ≡ Some p → (ending ≡ OutOfMemory → k + 1 < length ps) → TellsBest p
+
 -- A record that is right for a model and options. Each pass visits no more nodes than there are pairs of a length and an inner
 -- state that a path of this length leads to.
 pub record Right (m : Model) (options : Options) (gap : Bool) (r : Record) : Type 0 where
@@ -176,6 +213,7 @@ pub record Right (m : Model) (options : Options) (gap : Bool) (r : Record) : Typ
   pub reached : AllByRecursion (λ (p : Pass). IsAtMostReached m options.keep p.visited) r.passes
   pub legal : AllByRecursion (λ (s : Found). Solution m s.steps s.cost) (solutions r)
   pub improving : Improving m.minimize (solutions r)
+  pub announced : RightAnnounced m r.ending r.passes
   pub base_target : IfSome r.at_target (λ s. (r.passes ≡ []) × IsBaseTarget m)
   pub bound : RightBound m options gap r r.bound
   pub ending : RightEnding m options gap r r.ending

@@ -1,23 +1,31 @@
 //! How far a run has come, and what it prints of each pass.
 
-ghost use Rattle.std.specs.Prelude.{◌≡◌, ◌≤◌, ◌+◌, ◌^◌, ◌∷◌, [], IsTrue, ◌↔◌, Option, OnOk, OnErr};
+ghost use Rattle.std.specs.Prelude.{◌≡◌, ◌≤◌, ◌+◌, ◌^◌, IsTrue, ◌↔◌, Option, OnOk, OnErr};
 ghost use Rattle.dp_model.specs.declared.answers.Found.{Found};
 ghost use Rattle.dp_model.specs.Costs.{IsBetter};
 ghost use Rattle.dp_model.specs.declared.whole.Model.{Model};
 ghost use Rattle.solve_report.specs.Puts.{Puts};
-ghost use Rattle.solve_passes.specs.Records.{bound_text, found_text, passes_text};
-ghost use Rattle.solve_passes.specs.Ongoing.{IsImproved, pass_of, progress_after};
+ghost use Rattle.solve_passes.specs.Records.{bound_text, found_text};
+ghost use Rattle.solve_passes.specs.Ongoing.{IsImproved, counts_text, pass_line_text, progress_after, rest_text};
 
 use dp_model::{Found, Model};
 use dp_outside::{Failed, Sink};
-use solve_report::{put_bound, put_pass, put_solution};
+use solve_report::{put_announced, put_bound, put_pass, put_solution};
 use width_loop::Schedule;
 
-/// What is printed of a run: its solutions, passes and verdict, or its verdict alone.
+/// What is printed of a run: its solutions, passes and verdict, and where `announce` is on the costs that its passes announce; or its
+/// verdict alone.
 #[derive(Clone, Copy, Debug, PartialEq, Eq)]
 pub enum Printing {
-    All,
+    All { announce: bool },
     VerdictAlone,
+}
+
+/// How many costs a pass announced, and how often a shard found no room for one.
+#[derive(Clone, Copy, Debug, PartialEq, Eq)]
+pub struct Counts {
+    pub announced: u64,
+    pub refused: u64,
 }
 
 /// How far a run has come: the passes made, the share of the next one, the visits of all passes, the best solution, and the
@@ -75,7 +83,7 @@ pub(crate) fn put_found<S: Sink>(
         (found_text printing model.now found.now) result }
 {
     match (printing, found) {
-        (Printing::All, Some(found)) => put_solution(out, model, found),
+        (Printing::All { .. }, Some(found)) => put_solution(out, model, found),
         _ => Ok(()),
     }
 }
@@ -90,7 +98,24 @@ pub(crate) fn put_bound_line<S: Sink>(
         (bound_text bound printing) result }
 {
     match (printing, bound) {
-        (Printing::All, Some(bound)) => put_bound(out, bound),
+        (Printing::All { .. }, Some(bound)) => put_bound(out, bound),
+        _ => Ok(()),
+    }
+}
+
+/// Prints the line of the announced costs of a pass, if they are counted and not the verdict alone is printed.
+fn put_counts<S: Sink>(
+    out: &mut S,
+    printing: Printing,
+    counts: Option<Counts>,
+) -> Result<(), Failed>
+    ensures { Puts (S.taken out.old) (S.taken out.new) (S.faults out.old) (S.faults out.new)
+        (counts_text printing counts) result }
+{
+    match (printing, counts) {
+        (Printing::All { .. }, Some(counts)) => {
+            put_announced(out, counts.announced, counts.refused)
+        }
         _ => Ok(()),
     }
 }
@@ -104,11 +129,11 @@ fn put_pass_line<S: Sink>(
     dropped: u64,
 ) -> Result<(), Failed>
     requires { progress.now.passes ≤ 56 }
-    ensures { (m : Model) → Puts (S.taken out.old) (S.taken out.new) (S.faults out.old) (S.faults out.new)
-        (passes_text printing m (pass_of progress.now None visited dropped ∷ [])) result }
+    ensures { Puts (S.taken out.old) (S.taken out.new) (S.faults out.old) (S.faults out.new)
+        (pass_line_text printing progress.now visited dropped) result }
 {
     match printing {
-        Printing::All => put_pass(
+        Printing::All { .. } => put_pass(
             out,
             progress.passes + 1,
             progress.schedule.share,
@@ -119,37 +144,41 @@ fn put_pass_line<S: Sink>(
     }
 }
 
-/// Prints the solution of a pass, if it found a better one, and the pass.
+/// Prints the solution of a pass, if it found a better one, then how much it announced, if this is counted, and the pass.
 fn put_pass_lines<S: Sink>(
     out: &mut S,
     model: &Model,
     printing: Printing,
     progress: &Progress,
+    counts: Option<Counts>,
     found: &Option<Found>,
     visited: u64,
     dropped: u64,
 ) -> Result<(), Failed>
     requires { progress.now.passes ≤ 56 }
     ensures { Puts (S.taken out.old) (S.taken out.new) (S.faults out.old) (S.faults out.new)
-        (passes_text printing model.now (pass_of progress.now found.now visited dropped ∷ [])) result }
+        (rest_text printing model.now progress.now counts found.now visited dropped) result }
 {
     put_found(out, model, printing, found)?;
+    put_counts(out, printing, counts)?;
     put_pass_line(out, printing, progress, visited, dropped)
 }
 
-/// Prints a pass, counts it, and keeps its solution if it found a better one. Where a write fails the progress stays.
+/// Prints a pass, what it announced excepted, counts it, and keeps its solution if it found a better one. Where a write fails the
+/// progress stays.
 pub(crate) fn add_pass<S: Sink>(
     out: &mut S,
     model: &Model,
     printing: Printing,
     progress: &mut Progress,
+    counts: Option<Counts>,
     tally: Tally,
 ) -> Result<(), Failed>
     requires few { progress.old.passes ≤ 56 }
     requires fits { progress.old.visited + tally.visited ≤ 2 ^ 41 }
     ensures { (found : Option Found) × IsImproved model.now progress.old.held tally.best found
         × Puts (S.taken out.old) (S.taken out.new) (S.faults out.old) (S.faults out.new)
-        (passes_text printing model.now (pass_of progress.old found tally.visited tally.dropped ∷ [])) result
+        (rest_text printing model.now progress.old counts found tally.visited tally.dropped) result
         × OnOk result (progress.new ≡ progress_after progress.old found tally.visited) × OnErr result (progress.new ≡ progress.old) }
 {
     let Tally {
@@ -159,7 +188,9 @@ pub(crate) fn add_pass<S: Sink>(
         best,
     } = tally;
     let found = improved(model, &progress.held, best);
-    put_pass_lines(out, model, printing, progress, &found, visited, dropped)?;
+    put_pass_lines(
+        out, model, printing, progress, counts, &found, visited, dropped,
+    )?;
     progress.passes += 1;
     progress.visited += visited;
     if found.is_some() {

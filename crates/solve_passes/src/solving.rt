@@ -7,20 +7,26 @@ ghost use Rattle.cost_laws.specs.Orders.{InWideRange};
 ghost use Rattle.dp_model.specs.Costs.{InRange};
 ghost use Rattle.dp_model.specs.declared.answers.Found.{Found};
 ghost use Rattle.dp_model.specs.declared.answers.Options.{Options};
-ghost use Rattle.pass_ends.specs.Passes.{AreOptions};
+ghost use Rattle.board_words.specs.Rules.{IsWhole};
+ghost use Rattle.board_words.specs.Seats.{IsSeatOf};
+ghost use Rattle.board_words.specs.Steps.{best_known};
+ghost use Rattle.pass_ends.specs.Ends.{IsPassEnd};
+ghost use Rattle.pass_ends.specs.Passes.{AreOptions, pass_of};
 ghost use Rattle.run_ends.specs.Claims.{solved_by as solved};
-ghost use Rattle.solve_passes.specs.Ongoing as floors;
+ghost use Rattle.solve_passes.specs.Announcing as announced;
+ghost use Rattle.solve_passes.specs.Announcing.{IsMade};
+ghost use Rattle.solve_passes.specs.Ongoing as ongoing;
 ghost use Rattle.solve_passes.specs.Records.{Ended};
-ghost use Rattle.solve_passes.specs.Ongoing.{Concluded, HasWord, HistoryOf, IsFollowed, IsImproved, IsOngoing, IsTold, LosesNothing, going_on, halt_ending, halt_in, held_cost, printed_bound, tally_in, verdict_of};
+ghost use Rattle.solve_passes.specs.Ongoing.{Concluded, HasWord, HistoryOf, IsFollowed, IsImproved, IsOngoing, IsTold, LosesNothing, going_on, halt_ending, halt_in, held_cost, printed_bound, rest_text, tally_in, verdict_of};
 
-use crate::progress::{Printing, Progress, Tally, add_pass, put_bound_line, put_found};
+use crate::progress::{Counts, Printing, Progress, Tally, add_pass, put_bound_line, put_found};
 use crate::turns::turn_after;
 use board_words::{Board, BoardSeat};
 use cost_laws::NO_INCUMBENT;
 use dp_model::{Cause, FaultAt, FaultKind, Found, Model, Options, Seq, Spot, Verdict};
 use dp_outside::{Gate, Sink};
 use pass_ends::PassEnd;
-use pass_run::{run_pass, start_at};
+use pass_run::{AnnouncedEnd, run_pass, run_pass_announced, start_at};
 use run_ends::{Solved, Status, conclude, run_out, solved_by};
 use std::alloc::Global;
 use std::sync::Wait;
@@ -110,7 +116,7 @@ fn after_halt<S: Sink>(
 
 /// The best floor of the dropped nodes, where the gap is asked for.
 fn floor_for(gap: bool, least_floor: Option<i64>) -> Option<i64>
-    ensures { result ≡ floors.floor_for gap least_floor }
+    ensures { result ≡ ongoing.floor_for gap least_floor }
 {
     if gap { least_floor } else { None }
 }
@@ -159,6 +165,7 @@ fn after_pass<S: Sink>(
     model: &Model,
     printing: Printing,
     progress: &mut Progress,
+    counts: Option<Counts>,
     tally: Tally,
     halt: Option<Cause>,
 ) -> Option<Status>
@@ -170,13 +177,13 @@ fn after_pass<S: Sink>(
     requires best { HasWord tally.best }
     requires floor { IfSome tally.least_floor InWideRange }
     ensures followed { (found : Option Found) × IsImproved model.now progress.old.held tally.best found
-        × IsFollowed printing model.now (S.taken out.old) (S.taken out.new) progress.old progress.new tally halt found result }
+        × IsFollowed (rest_text printing model.now progress.old counts found tally.visited tally.dropped) printing model.now (S.taken out.old) (S.taken out.new) progress.old progress.new tally halt found result }
     ensures failed { result ≡ Some Status.WriteFault → Rose (S.faults out.old) (S.faults out.new) }
     ensures count { S.faults out.old ≤ S.faults out.new }
 {
     let dropped = tally.dropped;
     let least_floor = tally.least_floor;
-    if add_pass(out, model, printing, progress, tally).is_err() {
+    if add_pass(out, model, printing, progress, counts, tally).is_err() {
         return Some(Status::WriteFault);
     }
     match halt {
@@ -189,6 +196,78 @@ fn after_pass<S: Sink>(
             cause,
         )),
         None => after_closed(out, model, printing, progress, dropped, least_floor),
+    }
+}
+
+/// A pass that was made, and what it announced.
+#[derive(Debug, Drop)]
+pub struct Made {
+    pub end: PassEnd,
+    /// `None` where costs are not announced.
+    pub counts: Option<Counts>,
+    /// Whether a write of an announced cost failed.
+    pub failed: bool,
+}
+
+/// Whether costs are announced.
+fn announces(printing: Printing) -> bool
+    ensures { result ≡ ongoing.announces printing }
+{
+    match printing {
+        Printing::All { announce } => announce,
+        Printing::VerdictAlone => false,
+    }
+}
+
+/// Makes a pass, which announces costs where these are printed. The last cost before it is that of the solution that is held.
+fn run_announced<R: Threads + Wait + Sync, S: Sink, G: Gate>(
+    rt: &R,
+    alloc: Global,
+    out: &mut S,
+    model: &Model,
+    options: &Options,
+    printing: Printing,
+    share: u64,
+    last: Option<i64>,
+    board: &Board,
+    seat: &mut BoardSeat,
+    gate: &G,
+) -> Made
+    requires inner { Inner model.now model.now.target }
+    requires share { 1 ≤ share }
+    requires options { AreOptions options.now }
+    requires seat { IsSeatOf board.now seat.old }
+    requires whole { IsWhole seat.old.view }
+    requires no_halt { seat.old.view.raised ≡ 0 }
+    requires drawn { seat.old.view.drawn ≤ 2 ^ 41 }
+    requires limit { board.now.limit ≡ options.now.budget }
+    ensures seat { IsSeatOf board.now seat.new }
+    ensures whole { IsWhole seat.new.view }
+    ensures answer { (some : 1 ≤ options.now.workers) → IsPassEnd (pass_of model.now options.now share some) seat.old.view seat.new.view result.end }
+    ensures announced { IsMade model.now printing last (best_known seat.old.view) (best_known seat.new.view) (S.taken out.old) (S.taken out.new) (S.faults out.old) (S.faults out.new) result }
+{
+    if announces(printing) {
+        let ended = run_pass_announced(
+            rt, alloc, model, options, share, board, seat, gate, out, last,
+        );
+        let AnnouncedEnd {
+            end,
+            last: _,
+            announced,
+            refused,
+            failed,
+        } = ended;
+        return Made {
+            end,
+            counts: Some(Counts { announced, refused }),
+            failed,
+        };
+    }
+    let end = run_pass(rt, alloc, model, options, share, board, seat, gate);
+    Made {
+        end,
+        counts: None,
+        failed: false,
     }
 }
 
@@ -216,9 +295,20 @@ fn make_pass<R: Threads + Wait + Sync, S: Sink, G: Gate>(
     ensures count { S.faults out.old ≤ S.faults out.new }
 {
     let share = progress.schedule.share;
-    let end = run_pass(rt, alloc, model, options, share, board, seat, gate);
+    let last = cost_of(&progress.held);
+    let made = run_announced(
+        rt, alloc, out, model, options, printing, share, last, board, seat, gate,
+    );
+    let Made {
+        end,
+        counts,
+        failed,
+    } = made;
+    if failed {
+        return Some(Status::WriteFault);
+    }
     let (tally, halt) = parts_of(end, gap);
-    after_pass(out, model, printing, progress, tally, halt)
+    after_pass(out, model, printing, progress, counts, tally, halt)
 }
 
 /// Makes passes until one of them ends the run.

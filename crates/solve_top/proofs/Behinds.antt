@@ -210,7 +210,7 @@ no_write_fault (Ended (verdicts.Legal cost)) h = absurd cc
 no_write_fault (Ended (verdicts.Illegal n r)) h = absurd cc
 no_write_fault OutOfMemory h = absurd cc
 
-module _ (m : Model) (options : Options) (gap : Bool) (first second : Option (List ℕ)) (solved : Solved) (c : Concluded m options gap All first second solved) where
+module _ (m : Model) (options : Options) (gap announce : Bool) (first second : Option (List ℕ)) (solved : Solved) (c : Concluded m options gap (All announce) first second solved) where
   -- the claim that is answered is of a legal list
   pub claims_hold : IfSome solved.claim (ClaimHolds m)
   claims_hold = each_claim m solved.claim (λ claim is. elim c.printed [
@@ -223,8 +223,8 @@ module _ (m : Model) (options : Options) (gap : Bool) (first second : Option (Li
   unclaimed is = elim c.printed [ inl h ↦ absurd (no_write_fault c.run.ending (sym h.0 ∙ is)) | inr h ↦ h.2 ]
 
   -- the record was printed, and this behind it
-  pub solves : (announce certificate : Bool) (third : Option (List ℕ)) (status : Status) → Follows certificate m options first third (record_text All m c.run) (claim_of c.run) (ending_status c.run.ending) status → Solves m options gap announce certificate first third status
-  solves announce certificate third status follows = record { run = c.run; right = c.right; word = c.word; follows = follows }
+  pub solves : (certificate : Bool) (third : Option (List ℕ)) (status : Status) → Follows certificate m options first third (record_text (All announce) m c.run) (claim_of c.run) (ending_status c.run.ending) status → Solves m options gap announce certificate first third status
+  solves certificate third status follows = record { run = c.run; right = c.right; announcing = c.announcing; word = c.word; follows = follows }
 
 -- ---- a search of the best node first
 

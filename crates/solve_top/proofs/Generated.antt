@@ -17,6 +17,7 @@ use Rattle.run_ends.specs.declared.status.Status.{Status}
 use Rattle.run_ends.specs.declared.status.Status.TheVariants as statuses
 use Rattle.solve_top.specs.Jobs.{gen_options}
 use Rattle.solve_top.specs.Outcomes.{NoGenerated, Generated, Does, Printed, SolvesGenerated, gen_line, ground_line, no_model_text}
+use Rattle.solve_passes.proofs.Announces.{nothing_announced}
 use Rattle.solve_top.specs.Runs.{RefusedBy, outcome_of}
 use Rattle.solve_top.specs.Texts.{IsRefused, Means}
 use Rattle.solve_top.specs.declared.causes.NoModel.{NoModel}
@@ -53,6 +54,7 @@ right_no_run m options = record {
   reached = tt;
   legal = tt;
   improving = tt;
+  announced = nothing_announced m OutOfMemory;
   base_target = tt;
   bound = λ needs. omega (arith, needs.2);
   ending = tt;

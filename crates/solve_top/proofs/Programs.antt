@@ -42,7 +42,7 @@ as_printed c = elim c.printed [ inl h ↦ inl (h.0, h.1) | inr h ↦ inr (h.0, h
 pub searched : (files : List ℕ → Option (List ℕ)) (domain problem : List ℕ) (options : Options) (gap certificate : Bool) (engine : Engine) (announce : Bool) (m : Model) (before after : Option (List ℕ)) (status : Status) →
     OfTexts files (domain ∷ problem ∷ []) (λ texts. MeanModel texts m) → SolvesBy engine m options gap announce certificate before after status → Does (jobs.Solve domain problem options gap certificate engine announce) files before after status
 searched files domain problem options gap certificate engines.Beam announce m before after status texts s =
-    λ words asks. (Solving m options gap announce s.run s.follows.0, (domain, problem, certificate, asks, texts, s.right, s.word, s.follows.1), s.follows.2)
+    λ words asks. (Solving m options gap announce s.run s.follows.0, (domain, problem, certificate, asks, texts, s.right, s.announcing, s.word, s.follows.1), s.follows.2)
 searched files domain problem options gap certificate engines.Best announce m before after status texts s =
     λ words asks. (SolvingBest m options s.run s.follows.0, (domain, problem, gap, certificate, announce, asks, texts, s.right, s.word, s.follows.1), s.follows.2)
 

@@ -1,5 +1,6 @@
 -- What stands behind the verdict of a search for which a certificate is asked.
-use Rattle.std.specs.Prelude.{◌≡◌, ℕ, ◌<◌, ◌+◌, ◌⊎◌, Bool, true, false, List, [], ◌∷◌, ◌++◌, length, Option, Some, None, codes}
+use Rattle.std.specs.Prelude.{◌≡◌, ℕ, ◌<◌, ◌+◌, ◌⊎◌, Bool, true, false, List, [], ◌∷◌, ◌++◌, length, slice_get, Option, Some, None, codes}
+use Rattle.std.specs.Option.{is_some}
 use Rattle.dp_outside.specs.Outside.{Takes, TakesFront}
 use Rattle.dp_base.specs.Bytes.{line}
 use Rattle.dp_model.specs.declared.answers.Claim.{Claim}
@@ -25,7 +26,7 @@ use Rattle.command_line.specs.declared.jobs.Engine.{Engine}
 use Rattle.command_line.specs.declared.jobs.Engine.TheVariants as engines
 use Rattle.solve_best.specs.Texts.{run_text}
 use Rattle.solve_best.specs.Texts as best
-use Rattle.solve_passes.specs.Records.{Record, Right, KeepsWord, claim_of, ending_status, record_text}
+use Rattle.solve_passes.specs.Records.{Pass, Record, Right, KeepsWord, claim_of, ending_status, record_text}
 use Rattle.solve_passes.specs.declared.progress.Printing.TheVariants.{All}
 use Rattle.solve_top.specs.Jobs.{keeping_all}
 
@@ -117,13 +118,18 @@ Follows certificate m options before after front claimed wanted status =
 abbrev pub WritesBehind : Model → Options → Claim → (status : Status) → (before after : Option (List ℕ)) → (result : Status) → Type 0
 WritesBehind m options claim status before after result = (behind : Behind) × RightBehind m options claim behind × Prints before after [] m options behind status result
 
+-- each pass tells which costs it announced exactly where they are asked for
+abbrev pub IsAnnounced : (announce : Bool) → Record → Type 0
+IsAnnounced announce run = (k : ℕ) (p : Pass) → slice_get run.passes k ≡ Some p → is_some p.announced ≡ announce
+
 -- A right record of passes that keeps its word was printed, and behind it what may stand there; or a write failed, after a front of
 -- both.
 pub record Solves (m : Model) (options : Options) (gap announce certificate : Bool) (before after : Option (List ℕ)) (status : Status) : Type 0 where
   pub run : Record
   pub right : Right m options gap run
+  pub announcing : IsAnnounced announce run
   pub word : KeepsWord m options run.bound run.ending
-  pub follows : Follows certificate m options before after (record_text All m run) (claim_of run) (ending_status run.ending) status
+  pub follows : Follows certificate m options before after (record_text (All announce) m run) (claim_of run) (ending_status run.ending) status
 
 -- The same of a search of the best node first. Its certificate is written as if nodes kept in earlier layers covered.
 pub record SolvesBest (m : Model) (options : Options) (certificate : Bool) (before after : Option (List ℕ)) (status : Status) : Type 0 where

@@ -34,7 +34,7 @@ use Rattle.cert_laws.specs.declared.answers.CertReason.{CertReason}
 use Rattle.cert_laws.specs.declared.answers.CertReason.TheVariants as reasons
 use Rattle.cert_laws.specs.declared.answers.Checked.{Checked as Findings}
 use Rattle.cert_laws.specs.declared.answers.Checked.TheVariants as findings
-use Rattle.solve_top.specs.Behind.{Behind, IsBehind, TakesWith, behind_status, behind_text}
+use Rattle.solve_top.specs.Behind.{Behind, IsAnnounced, IsBehind, TakesWith, behind_status, behind_text}
 use Rattle.solve_top.specs.Jobs.{Asks, AskNothing, gen_options, keeping_all, names_of, third_of}
 use Rattle.solve_top.specs.Files.{IsReached, IsFirstLong, OfTexts}
 use Rattle.solve_top.specs.Texts.{Means, MeanCert, MeanModel, MeanSteps, AreRefused, IsRefused}
@@ -126,7 +126,7 @@ outcome_text (ReadFault file) = line (codes "read fault " ++ file_name file)
 outcome_text (TooLong file) = line (codes "too long " ++ file_name file)
 outcome_text (Refused r) = refusal_text r.place r.offset r.number
 outcome_text NoMemory = line (codes "memory")
-outcome_text (Solving model options gap announce run behind) = record_text All model run ++ behind_text model options behind
+outcome_text (Solving model options gap announce run behind) = record_text (All announce) model run ++ behind_text model options behind
 outcome_text (SolvingBest model options run behind) = run_text model run ++ behind_text model (keeping_all options) behind
 outcome_text (Replayed model steps told) = verdict_text model (replay_verdict steps told)
 outcome_text (Checked model cert told) = checked_text cert.claim told
@@ -150,7 +150,7 @@ outcome_status (Generated kind size seed model options run) = ending_status run.
 
 -- the outcome's text was taken whole: of the lines of a certificate that a failed write broke off it never is
 abbrev pub TakesWhole : (before after : Option (List ℕ)) → Outcome → Type 0
-TakesWhole before after (Solving model options gap announce run behind) = TakesWith before after (record_text All model run) model options behind
+TakesWhole before after (Solving model options gap announce run behind) = TakesWith before after (record_text (All announce) model run) model options behind
 TakesWhole before after (SolvingBest model options run behind) = TakesWith before after (run_text model run) model (keeping_all options) behind
 TakesWhole before after outcome = Takes before after (outcome_text outcome)
 
@@ -169,8 +169,8 @@ ComesOf words files (Refused r) = (job : Job) × Asks words job × OfTexts files
 ComesOf words files NoMemory = Unit {0}
 ComesOf words files (Solving model options gap announce run behind) =
     (domain : List ℕ) × (problem : List ℕ) × (certificate : Bool) × Asks words (jobs.Solve domain problem options gap certificate engines.Beam announce)
-    × OfTexts files (domain ∷ problem ∷ []) (λ texts. MeanModel texts model) × Right model options gap run × KeepsWord model options run.bound run.ending
-    × IsBehind certificate model options (claim_of run) behind
+    × OfTexts files (domain ∷ problem ∷ []) (λ texts. MeanModel texts model) × Right model options gap run × IsAnnounced announce run
+    × KeepsWord model options run.bound run.ending × IsBehind certificate model options (claim_of run) behind
 ComesOf words files (SolvingBest model options run behind) =
     (domain : List ℕ) × (problem : List ℕ) × (gap : Bool) × (certificate : Bool) × (announce : Bool) × Asks words (jobs.Solve domain problem options gap certificate engines.Best announce)
     × OfTexts files (domain ∷ problem ∷ []) (λ texts. MeanModel texts model) × RightBest model options run × KeepsWordBest model options run.ending

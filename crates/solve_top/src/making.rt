@@ -99,7 +99,9 @@ fn solve_by_layers<R: Threads + Wait + Sync, S: Sink, G: Gate>(
         model,
         options,
         wanted.gap,
-        Printing::All,
+        Printing::All {
+            announce: wanted.announce,
+        },
         gate,
     );
     certify(alloc, out, model, options, wanted.certificate, &solved)

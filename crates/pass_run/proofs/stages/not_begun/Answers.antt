@@ -1,5 +1,5 @@
 use Rattle.std.proofs.Common.{refl, sym, subst}
-use Rattle.pass_run.specs.RunningOut.{RanOut}
+use Rattle.pass_run.specs.Announcements.{RanOut}
 use Rattle.pass_run.proofs.Running.{no_memory}
 use Rattle.pass_run.proofs.stages.not_begun.Goals as goal
 

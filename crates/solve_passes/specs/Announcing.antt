@@ -1,0 +1,39 @@
+-- What a pass announces in a run.
+use Rattle.std.specs.Prelude.{◌≡◌, ℕ, ◌≤◌, Bool, true, false, List, [], length, Option, Some, None, is_some, ℤ, pos}
+use Rattle.announce_laws.specs.Last.{Improving, word_or_none}
+use Rattle.dp_claims.specs.Enough.{Has}
+use Rattle.dp_model.specs.declared.whole.Model.{Model}
+use Rattle.dp_outside.specs.Outside.{Rose, Takes, TakesFront}
+use Rattle.dp_steps.specs.Lists.{Solution}
+use Rattle.pass_ends.specs.declared.answers.PassEnd.{PassEnd}
+use Rattle.pass_run.specs.Announcements.{RanOut, last_or}
+use Rattle.solve_passes.specs.Ongoing.{announces}
+use Rattle.solve_passes.specs.Records.{Announced, announced_lines, costs_in}
+use Rattle.solve_passes.specs.declared.progress.Counts.{Counts}
+use Rattle.solve_passes.specs.declared.progress.Printing.{Printing}
+use Rattle.solve_passes.specs.declared.solving.Made.{Made}
+
+-- what is counted of announced costs
+abbrev pub counts_of : Option Announced → Option Counts
+counts_of None = None
+counts_of (Some a) = Some (record { announced = length a.costs; refused = a.refused })
+
+-- what a pass may announce after this last cost: costs of legal lists, each strictly better than the one before
+pub record MayAnnounce (m : Model) (printing : Printing) (last : Option ℤ) (announced : Option Announced) : Type 0 where
+  pub on : is_some announced ≡ announces printing
+  pub legal : (c : ℤ) → Has (costs_in announced) c → (steps : List ℕ) × Solution m steps c
+  pub improving : Improving m.minimize last (costs_in announced)
+
+-- where the last cost had the best word before a pass for which memory sufficed, the last one after it has the best word after it
+abbrev pub TellsLast : Model → Printing → (last : Option ℤ) → (best_before best_after : ℕ) → PassEnd → Option Announced → Type 0
+TellsLast m printing last best_before best_after end announced =
+    (RanOut end → ⊥) → announces printing ≡ true → pos best_before ≡ word_or_none m last → pos best_after ≡ word_or_none m (last_or last (costs_in announced))
+
+-- A pass announced this, or a write failed.
+pub record IsMade (m : Model) (printing : Printing) (last : Option ℤ) (best_before best_after : ℕ) (before after : Option (List ℕ)) (faults_before faults_after : ℕ) (made : Made) : Type 0 where
+  pub announced : Option Announced
+  pub may : MayAnnounce m printing last announced
+  pub written : made.failed ≡ false → Takes before after (announced_lines announced) × (made.counts ≡ counts_of announced)
+  pub stopped : made.failed ≡ true → TakesFront before after (announced_lines announced) × Rose faults_before faults_after
+  pub count : faults_before ≤ faults_after
+  pub last_word : made.failed ≡ false → TellsLast m printing last best_before best_after made.end announced
