@@ -150,6 +150,20 @@ table_values:
 """
 
 
+def open_stacks(customers):
+    """Customers who want about three products each, of as many products as there are customers."""
+    draw = random.Random(customers)
+    wants = [{draw.randrange(customers), *(p for p in range(customers) if draw.random() < 2 / customers)} for _ in range(customers)]
+    near = [[k for k in range(customers) if wants[k] & wants[c]] for c in range(customers)]
+    return f"""domain: open_stacks
+problem: drawn
+object_numbers: {{ customer: {customers} }}
+target: {{ left: {members(range(customers))}, begun: [ ] }}
+table_values:
+  near: {listed(map(members, near))}
+"""
+
+
 def domain(folder, file="domain.yaml"):
     return os.path.join(TOP, folder, file)
 
@@ -196,7 +210,7 @@ def measured(program, words):
         wall = time.monotonic() - start
         out.seek(0)
         text = out.read().decode()
-    visits = sum(int(n) for n in re.findall(r"^pass \d+ share \d+ visited (\d+)", text, re.M))
+    visits = sum(int(n) for n in re.findall(r"^(?:pass \d+ share \d+|search) visited (\d+)", text, re.M))
     last = text.strip().split("\n")[-1]
     return visits, used.ru_utime + used.ru_stime, wall, used.ru_maxrss // 1024, last
 
