@@ -30,13 +30,22 @@ static UNREAD: [&str; 6] = [
 ];
 
 /// Each of them ends with status 0.
-static ROWS: [Row; 5] = [
+static ROWS: [Row; 6] = [
     Row {
         words: "solve d p --prune off",
         texts: [TWO_WAYS, FROM_ZERO, ""],
         printed: concat!(
             "solution 11 2\np\ne\npass 1 share 1 visited 2 dropped 1\n",
             "solution 3 2\nq\nd\npass 2 share 2 visited 3 dropped 0\nverdict optimal 3\n",
+        ),
+        reads: 4,
+    },
+    Row {
+        words: "solve d p --prune off --announce on",
+        texts: [TWO_WAYS, FROM_ZERO, ""],
+        printed: concat!(
+            "announce 11\nsolution 11 2\np\ne\nannounced 1 refused 0\npass 1 share 1 visited 2 dropped 1\n",
+            "announce 3\nsolution 3 2\nq\nd\nannounced 1 refused 0\npass 2 share 2 visited 3 dropped 0\nverdict optimal 3\n",
         ),
         reads: 4,
     },
