@@ -16,20 +16,29 @@ pub(crate) fn two_ways(alloc: Global) -> Result<Model, Fail> {
 }
 
 #[test]
-fn texts_and_lists_grow(rt: HostRuntime) -> Result<(), Fail> {
-    let alloc = rt.alloc();
-    let model = two_ways(alloc)?;
-    let mut text = Text::of(String::from_str(alloc, "steps ")?);
+fn a_text_takes_steps(rt: HostRuntime) -> Result<(), Fail> {
+    let model = two_ways(rt.alloc())?;
+    let mut text = Text::of(String::from_str(rt.alloc(), "steps ")?);
     text.push_text("are ")?;
     for number in [2u32, 9, 0] {
-        step_text(alloc, &model, number, &mut text)?;
+        step_text(rt.alloc(), &model, number, &mut text)?;
     }
     assert_eq!(rt; text.as_text(), "steps are ep");
-    let mut steps = Seq::of(Vec::new(alloc));
+    Ok(())
+}
+
+#[test]
+fn a_list_takes_a_step(rt: HostRuntime) -> Result<(), Fail> {
+    let mut steps = Seq::of(Vec::new(rt.alloc()));
     steps.list_mut().push(4u32)?;
     let found = Found { cost: 11, steps };
     assert_eq!(rt; (found.cost(), found.steps().list().len()), (11, 1));
-    let held = Boxed::new(alloc, Num::Fixed(-7))?;
+    Ok(())
+}
+
+#[test]
+fn a_box_takes_a_number(rt: HostRuntime) -> Result<(), Fail> {
+    let held = Boxed::new(rt.alloc(), Num::Fixed(-7))?;
     assert!(rt; matches!(held.into_inner(), Num::Fixed(-7)));
     Ok(())
 }

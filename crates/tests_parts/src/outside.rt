@@ -108,7 +108,7 @@ static PIECES: [(u64, usize, [u8; 2]); 4] = [
 ];
 
 #[test]
-fn reaches_the_system(rt: HostRuntime) -> Result<(), Fail> {
+fn reads_a_file_of_the_system(rt: HostRuntime) -> Result<(), Fail> {
     let folder = env::temp_dir(&rt)?;
     let moment = rt.since_1970()?.as_nanos();
     let name = format!(in rt.alloc(); "{}/dp_outside_{moment}", folder.as_str())?;
@@ -125,10 +125,20 @@ fn reaches_the_system(rt: HostRuntime) -> Result<(), Fail> {
     fs::remove_file(&rt, name.as_str())?;
     let end = read_all(rt.alloc(), &mut shelf, name.as_str(), 3);
     assert!(rt; matches!(end, Err(ReadEnd::Fault)) && shelf.faults() == 1);
+    Ok(())
+}
+
+#[test]
+fn a_sink_takes_what_is_put(rt: HostRuntime) -> Result<(), Fail> {
     let mut fine = FineSink::new(rt.alloc());
     put_all(&mut fine, b"abc")?;
     put_all(&mut fine, b"")?;
     assert_eq!(rt; fine.bytes(), Some(b"abc".as_slice()));
+    Ok(())
+}
+
+#[test]
+fn writes_to_the_system(rt: HostRuntime) -> Result<(), Fail> {
     let mut out = OutSink::new(&rt);
     put_all(&mut out, b"written by a test\n")?;
     assert_eq!(rt; out.faults(), 0);

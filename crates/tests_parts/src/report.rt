@@ -93,7 +93,7 @@ fn verdicts(alloc: Global) -> Result<Vec<Verdict>, AllocError> {
     ]?)
 }
 
-const OTHER_LINES: &str = "\
+const VERDICT_LINES: &str = "\
 verdict optimal -1029
 verdict infeasible
 verdict stopped 18446744073709551615
@@ -103,27 +103,47 @@ verdict illegal 1 AfterBase
 verdict illegal 2 NotBase
 verdict illegal 3 Forced
 verdict illegal 4 NotEnabled
+";
+
+#[test]
+fn writes_other_verdicts(rt: HostRuntime) -> Result<(), Fail> {
+    let model = two_ways(rt.alloc())?;
+    let verdicts = verdicts(rt.alloc())?;
+    let mut sink = FineSink::new(rt.alloc());
+    for verdict in verdicts.iter() {
+        put_verdict(&mut sink, &model, verdict)?;
+    }
+    assert!(rt; sink.bytes() == Some(VERDICT_LINES.as_bytes()));
+    Ok(())
+}
+
+const SOLUTION_LINES: &str = "\
 solution -9223372036854775808 3
 q
 
 d
-pass 4294967295 share 18446744073709551615 visited 3 dropped 12
 ";
 
 #[test]
-fn writes_other_lines(rt: HostRuntime) -> Result<(), Fail> {
+fn writes_a_solution(rt: HostRuntime) -> Result<(), Fail> {
     let model = two_ways(rt.alloc())?;
-    let mut sink = FineSink::new(rt.alloc());
-    for verdict in verdicts(rt.alloc())?.iter() {
-        put_verdict(&mut sink, &model, verdict)?;
-    }
     let found = Found {
         cost: i64::MIN,
         steps: Seq::of([1u32, 4, 3].to_vec(rt.alloc())?),
     };
+    let mut sink = FineSink::new(rt.alloc());
     put_solution(&mut sink, &model, &found)?;
+    assert!(rt; sink.bytes() == Some(SOLUTION_LINES.as_bytes()));
+    Ok(())
+}
+
+const PASS_LINE: &str = "pass 4294967295 share 18446744073709551615 visited 3 dropped 12\n";
+
+#[test]
+fn writes_a_pass(rt: HostRuntime) -> Result<(), Fail> {
+    let mut sink = FineSink::new(rt.alloc());
     put_pass(&mut sink, u32::MAX, u64::MAX, 3, 12)?;
-    assert!(rt; sink.bytes() == Some(OTHER_LINES.as_bytes()));
+    assert!(rt; sink.bytes() == Some(PASS_LINE.as_bytes()));
     Ok(())
 }
 
