@@ -71,17 +71,27 @@ fn answer(alloc: Global, scope: &Scope<'_>, case: &Entry) -> Result<String, Allo
     }
 }
 
+/// What is printed of a case with this number.
+fn told(
+    alloc: Global,
+    scope: &Scope<'_>,
+    number: usize,
+    case: &Entry,
+) -> Result<String, AllocError> {
+    let text = escaped(alloc, &case.text)?;
+    let given = answer(alloc, scope, case)?;
+    let key = &case.key;
+    format!(in alloc; "{key} {number} \"{text}\"\n    {given}")
+}
+
 fn main(rt: HostRuntime) -> io::Result<()> {
     let alloc = rt.alloc();
     let (variables, tables) = (variables(alloc)?, tables(alloc)?);
     let scope = scope(alloc, &variables, &tables)?;
     let file = fs::read_to_string(&rt, "types.txt")?;
     for (index, case) in entries(alloc, file.as_str())?.iter().enumerate() {
-        let number = index.saturating_add(1);
-        let text = escaped(alloc, &case.text)?;
-        let given = answer(alloc, &scope, case)?;
-        let key = &case.key;
-        println!(rt; "{key} {number} \"{text}\"\n    {given}")?;
+        let told = told(alloc, &scope, index.saturating_add(1), case)?;
+        println!(rt; "{told}")?;
     }
     Ok(())
 }

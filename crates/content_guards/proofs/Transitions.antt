@@ -49,7 +49,7 @@ use Rattle.dypdl_rules.specs.declared.transitions.Move.{Move}
 use Rattle.dypdl_load.proofs.Lists.{bound}
 use Rattle.dypdl_load.specs.Settings.{Settings, settings_of}
 use Rattle.dypdl_load.specs.Together.{is_same_join, joined_with, join_step, join_of, transitions_of}
-use Rattle.dypdl_load.specs.Meaning.{in_domain, in_problem, some_base, Data, data_of, Rules, rules_of, grounded_of, Parts, parts_of, parts_with, meaning}
+use Rattle.dypdl_load.specs.Meaning.{in_domain, in_problem, Data, data_of, StateRules, state_rules_of, Rules, rules_of, grounded_of, Parts, parts_of, parts_with, meaning}
 use Rattle.content_laws.specs.Files.{under_key, items_in, items_of_both}
 use Rattle.content_laws.specs.Lists.{names_of}
 use Rattle.content_laws.proofs.Joining.{items_are}
@@ -466,20 +466,11 @@ joins_by moves join e i move at =
 -- ---- the transitions of both files
 
 module _ (read : Reading) (at : Place) (s : Settings) (d : Declared) where
-  abbrev all_rules : List Move → JoinOp → List Cond → List BaseCase → List Num → List BaseCase → Reads Rules
-  all_rules moves join constraints base_cases bounds some = Ok (record { moves = moves; join = join; constraints = constraints; base_cases = base_cases; bounds = bounds })
-
-  abbrev on_bounds : List Move → JoinOp → List Cond → List BaseCase → List Num → Reads Rules
-  on_bounds moves join constraints base_cases bounds = some_base at base_cases >>= all_rules moves join constraints base_cases bounds
-
-  abbrev on_base_cases : List Move → JoinOp → List Cond → List BaseCase → Reads Rules
-  on_base_cases moves join constraints base_cases = bounds_of read d (in_domain s (codes "dual_bounds")) (in_problem s (codes "dual_bounds")) >>= on_bounds moves join constraints base_cases
-
-  abbrev on_constraints : List Move → JoinOp → List Cond → Reads Rules
-  on_constraints moves join constraints = base_cases_of read d (in_domain s (codes "base_cases")) (in_problem s (codes "base_cases")) >>= on_base_cases moves join constraints
+  abbrev all_rules : List Move → JoinOp → StateRules → Reads Rules
+  all_rules moves join x = Ok (record { moves = moves; join = join; constraints = x.constraints; base_cases = x.base_cases; bounds = x.bounds })
 
   abbrev on_join : List Move → JoinOp → Reads Rules
-  on_join moves join = constraints_of read d (in_domain s (codes "constraints")) (in_problem s (codes "constraints")) >>= on_constraints moves join
+  on_join moves join = state_rules_of read at s d >>= all_rules moves join
 
   abbrev on_moves : List Move → Reads Rules
   on_moves moves = join_of moves >>= on_join moves
@@ -489,12 +480,9 @@ module _ (read : Reading) (at : Place) (s : Settings) (d : Declared) where
   rules_are r h =
       let a = bound (moves_of read d (in_domain s (codes "transitions")) (in_problem s (codes "transitions"))) on_moves r h in
       let b = bound (join_of a.0) (on_join a.0) r a.2 in
-      let c = bound (constraints_of read d (in_domain s (codes "constraints")) (in_problem s (codes "constraints"))) (on_constraints a.0 b.0) r b.2 in
-      let e = bound (base_cases_of read d (in_domain s (codes "base_cases")) (in_problem s (codes "base_cases"))) (on_base_cases a.0 b.0 c.0) r c.2 in
-      let f = bound (bounds_of read d (in_domain s (codes "dual_bounds")) (in_problem s (codes "dual_bounds"))) (on_bounds a.0 b.0 c.0 e.0) r e.2 in
-      let g = bound (some_base at e.0) (all_rules a.0 b.0 c.0 e.0 f.0) r f.2 in
-      let it : Rules = record { moves = a.0; join = b.0; constraints = c.0; base_cases = e.0; bounds = f.0 } in
-      subst (λ (r : Rules). (moves_of read d (in_domain s (codes "transitions")) (in_problem s (codes "transitions")) ≡ Ok r.moves) × (join_of r.moves ≡ Ok r.join)) {x = it} (ok_same it r g.2) (a.1, b.1)
+      let c = bound (state_rules_of read at s d) (all_rules a.0 b.0) r b.2 in
+      let it : Rules = record { moves = a.0; join = b.0; constraints = c.0.constraints; base_cases = c.0.base_cases; bounds = c.0.bounds } in
+      subst (λ (r : Rules). (moves_of read d (in_domain s (codes "transitions")) (in_problem s (codes "transitions")) ≡ Ok r.moves) × (join_of r.moves ≡ Ok r.join)) {x = it} (ok_same it r c.2) (a.1, b.1)
 
 each_both : {A : Type 0} (step : List A → Tree → Reads (List A)) (xs ys : List Tree) (s t u : List A) → each step s xs ≡ Ok t → each step t ys ≡ Ok u → each step s (xs ++ ys) ≡ Ok u
 each_both step [] ys s t u e h = ap (λ z. each step z ys) (ok_same s t e) ∙ h

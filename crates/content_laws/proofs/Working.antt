@@ -39,7 +39,7 @@ use Rattle.dypdl_rules.specs.Moves.{moves_of}
 use Rattle.dypdl_rules.specs.declared.transitions.Move.{Move}
 use Rattle.dypdl_load.specs.Together.{join_of}
 use Rattle.dypdl_load.specs.Settings.{Settings, settings_of}
-use Rattle.dypdl_load.specs.Meaning.{in_domain, in_problem, declared_of, Data, data_of, some_base, Rules, rules_of, grounded_of, parts_with, meaning}
+use Rattle.dypdl_load.specs.Meaning.{in_domain, in_problem, declared_of, Data, data_of, some_base, StateRules, state_rules_of, Rules, rules_of, grounded_of, parts_with, meaning}
 use Rattle.content_laws.specs.Worked.{quarry_objects, quarry_variables, quarry_tables, quarry_base_cases, quarry_domain_entries, quarry_problem_entries, quarry_numbers, quarry_values, quarry_target, quarry_domain, quarry_problem, quarry}
 
 -- ---- a meaning from its steps
@@ -62,23 +62,37 @@ module _ (at : Place) (s : Settings) where
       ∙ ap (λ (r : Reads (List TableData)). r >>= declared_with d.objects d.variables) tables
 
 module _ (read : Reading) (at : Place) (s : Settings) (d : Declared) where
-  abbrev rules_with : List Move → JoinOp → List Cond → List BaseCase → List Num → List BaseCase → Reads Rules
-  rules_with moves join constraints base_cases bounds some = Ok (record { moves = moves; join = join; constraints = constraints; base_cases = base_cases; bounds = bounds })
+  abbrev state_rules_with : List Cond → List BaseCase → List Num → List BaseCase → Reads StateRules
+  state_rules_with constraints base_cases bounds some = Ok (record { constraints = constraints; base_cases = base_cases; bounds = bounds })
 
-  abbrev on_bounds : List Move → JoinOp → List Cond → List BaseCase → List Num → Reads Rules
-  on_bounds moves join constraints base_cases bounds = some_base at base_cases >>= rules_with moves join constraints base_cases bounds
+  abbrev on_bounds : List Cond → List BaseCase → List Num → Reads StateRules
+  on_bounds constraints base_cases bounds = some_base at base_cases >>= state_rules_with constraints base_cases bounds
 
-  abbrev on_base_cases : List Move → JoinOp → List Cond → List BaseCase → Reads Rules
-  on_base_cases moves join constraints base_cases = bounds_of read d (in_domain s (codes "dual_bounds")) (in_problem s (codes "dual_bounds")) >>= on_bounds moves join constraints base_cases
+  abbrev on_base_cases : List Cond → List BaseCase → Reads StateRules
+  on_base_cases constraints base_cases = bounds_of read d (in_domain s (codes "dual_bounds")) (in_problem s (codes "dual_bounds")) >>= on_bounds constraints base_cases
 
-  abbrev on_constraints : List Move → JoinOp → List Cond → Reads Rules
-  on_constraints moves join constraints = base_cases_of read d (in_domain s (codes "base_cases")) (in_problem s (codes "base_cases")) >>= on_base_cases moves join constraints
+  abbrev on_constraints : List Cond → Reads StateRules
+  on_constraints constraints = base_cases_of read d (in_domain s (codes "base_cases")) (in_problem s (codes "base_cases")) >>= on_base_cases constraints
+
+  abbrev rules_with : List Move → JoinOp → StateRules → Reads Rules
+  rules_with moves join x = Ok (record { moves = moves; join = join; constraints = x.constraints; base_cases = x.base_cases; bounds = x.bounds })
 
   abbrev on_join : List Move → JoinOp → Reads Rules
-  on_join moves join = constraints_of read d (in_domain s (codes "constraints")) (in_problem s (codes "constraints")) >>= on_constraints moves join
+  on_join moves join = state_rules_of read at s d >>= rules_with moves join
 
   abbrev on_moves : List Move → Reads Rules
   on_moves moves = join_of moves >>= on_join moves
+
+  state_rules_made : (constraints : List Cond) (b : BaseCase) (bs : List BaseCase) (bounds : List Num)
+      → constraints_of read d (in_domain s (codes "constraints")) (in_problem s (codes "constraints")) ≡ Ok constraints
+      → base_cases_of read d (in_domain s (codes "base_cases")) (in_problem s (codes "base_cases")) ≡ Ok (b ∷ bs)
+      → bounds_of read d (in_domain s (codes "dual_bounds")) (in_problem s (codes "dual_bounds")) ≡ Ok bounds
+      → state_rules_of read at s d ≡ Ok (record { constraints = constraints; base_cases = b ∷ bs; bounds = bounds })
+  unfolding state_rules_of
+  state_rules_made constraints b bs bounds are cases told =
+      ap (λ (x : Reads (List Cond)). x >>= on_constraints) are
+      ∙ ap (λ (x : Reads (List BaseCase)). x >>= on_base_cases constraints) cases
+      ∙ ap (λ (x : Reads (List Num)). x >>= on_bounds constraints (b ∷ bs)) told
 
   pub rules_made : (r : Rules) (b : BaseCase) (bs : List BaseCase) → moves_of read d (in_domain s (codes "transitions")) (in_problem s (codes "transitions")) ≡ Ok r.moves → join_of r.moves ≡ Ok r.join
       → constraints_of read d (in_domain s (codes "constraints")) (in_problem s (codes "constraints")) ≡ Ok r.constraints
@@ -87,9 +101,8 @@ module _ (read : Reading) (at : Place) (s : Settings) (d : Declared) where
       → rules_of read at s d ≡ Ok (record { moves = r.moves; join = r.join; constraints = r.constraints; base_cases = b ∷ bs; bounds = r.bounds })
   unfolding rules_of
   rules_made r b bs moves join constraints base_cases bounds =
-      ap (λ (x : Reads (List Move)). x >>= on_moves) moves ∙ ap (λ (x : Reads JoinOp). x >>= on_join r.moves) join ∙ ap (λ (x : Reads (List Cond)). x >>= on_constraints r.moves r.join) constraints
-      ∙ ap (λ (x : Reads (List BaseCase)). x >>= on_base_cases r.moves r.join r.constraints) base_cases
-      ∙ ap (λ (x : Reads (List Num)). x >>= on_bounds r.moves r.join r.constraints (b ∷ bs)) bounds
+      ap (λ (x : Reads (List Move)). x >>= on_moves) moves ∙ ap (λ (x : Reads JoinOp). x >>= on_join r.moves) join
+      ∙ ap (λ (x : Reads StateRules). x >>= rules_with r.moves r.join) (state_rules_made r.constraints b bs r.bounds constraints base_cases bounds)
 
 -- ---- names of letters
 

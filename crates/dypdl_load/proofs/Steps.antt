@@ -27,7 +27,7 @@ use Rattle.dypdl_rules.specs.declared.transitions.Move.{Move}
 use Rattle.dypdl_load.proofs.Lists.{bound}
 use Rattle.dypdl_load.specs.Settings.{Settings, settings_of}
 use Rattle.dypdl_load.specs.Together.{join_of, grounds_of, texts_of}
-use Rattle.dypdl_load.specs.Meaning.{in_domain, in_problem, declared_of, some_base, Data, data_of, Rules, rules_of, grounded_of, Parts, parts_with, meaning}
+use Rattle.dypdl_load.specs.Meaning.{in_domain, in_problem, declared_of, some_base, Data, data_of, StateRules, state_rules_of, Rules, rules_of, grounded_of, Parts, parts_with, meaning}
 
 -- ---- what is declared
 
@@ -65,20 +65,39 @@ pub record RulesSteps (read : Reading) (at : Place) (s : Settings) (d : Declared
   pub bounds : bounds_of read d (in_domain s (codes "dual_bounds")) (in_problem s (codes "dual_bounds")) ≡ Ok r.bounds
 
 module _ (read : Reading) (at : Place) (s : Settings) (d : Declared) where
-  abbrev all_rules : List Move → JoinOp → List Cond → List BaseCase → List Num → List BaseCase → Reads Rules
-  all_rules moves join constraints base_cases bounds some = Ok (record { moves = moves; join = join; constraints = constraints; base_cases = base_cases; bounds = bounds })
+  abbrev all_state_rules : List Cond → List BaseCase → List Num → List BaseCase → Reads StateRules
+  all_state_rules constraints base_cases bounds some = Ok (record { constraints = constraints; base_cases = base_cases; bounds = bounds })
 
-  abbrev on_bounds : List Move → JoinOp → List Cond → List BaseCase → List Num → Reads Rules
-  on_bounds moves join constraints base_cases bounds = some_base at base_cases >>= all_rules moves join constraints base_cases bounds
+  abbrev on_bounds : List Cond → List BaseCase → List Num → Reads StateRules
+  on_bounds constraints base_cases bounds = some_base at base_cases >>= all_state_rules constraints base_cases bounds
 
-  abbrev on_base_cases : List Move → JoinOp → List Cond → List BaseCase → Reads Rules
-  on_base_cases moves join constraints base_cases = bounds_of read d (in_domain s (codes "dual_bounds")) (in_problem s (codes "dual_bounds")) >>= on_bounds moves join constraints base_cases
+  abbrev on_base_cases : List Cond → List BaseCase → Reads StateRules
+  on_base_cases constraints base_cases = bounds_of read d (in_domain s (codes "dual_bounds")) (in_problem s (codes "dual_bounds")) >>= on_bounds constraints base_cases
 
-  abbrev on_constraints : List Move → JoinOp → List Cond → Reads Rules
-  on_constraints moves join constraints = base_cases_of read d (in_domain s (codes "base_cases")) (in_problem s (codes "base_cases")) >>= on_base_cases moves join constraints
+  abbrev on_constraints : List Cond → Reads StateRules
+  on_constraints constraints = base_cases_of read d (in_domain s (codes "base_cases")) (in_problem s (codes "base_cases")) >>= on_base_cases constraints
+
+  state_steps : (x : StateRules) → state_rules_of read at s d ≡ Ok x
+      → (constraints_of read d (in_domain s (codes "constraints")) (in_problem s (codes "constraints")) ≡ Ok x.constraints)
+      × (base_cases_of read d (in_domain s (codes "base_cases")) (in_problem s (codes "base_cases")) ≡ Ok x.base_cases)
+      × (bounds_of read d (in_domain s (codes "dual_bounds")) (in_problem s (codes "dual_bounds")) ≡ Ok x.bounds)
+  unfolding state_rules_of
+  state_steps x h =
+      let c = bound (constraints_of read d (in_domain s (codes "constraints")) (in_problem s (codes "constraints"))) on_constraints x h in
+      let e = bound (base_cases_of read d (in_domain s (codes "base_cases")) (in_problem s (codes "base_cases"))) (on_base_cases c.0) x c.2 in
+      let f = bound (bounds_of read d (in_domain s (codes "dual_bounds")) (in_problem s (codes "dual_bounds"))) (on_bounds c.0 e.0) x e.2 in
+      let g = bound (some_base at e.0) (all_state_rules c.0 e.0 f.0) x f.2 in
+      let it : StateRules = record { constraints = c.0; base_cases = e.0; bounds = f.0 } in
+      let same : it ≡ x = cc in
+      subst (λ (y : StateRules). (constraints_of read d (in_domain s (codes "constraints")) (in_problem s (codes "constraints")) ≡ Ok y.constraints)
+      × (base_cases_of read d (in_domain s (codes "base_cases")) (in_problem s (codes "base_cases")) ≡ Ok y.base_cases)
+      × (bounds_of read d (in_domain s (codes "dual_bounds")) (in_problem s (codes "dual_bounds")) ≡ Ok y.bounds)) {x = it} same (c.1, e.1, f.1)
+
+  abbrev all_rules : List Move → JoinOp → StateRules → Reads Rules
+  all_rules moves join c = Ok (record { moves = moves; join = join; constraints = c.constraints; base_cases = c.base_cases; bounds = c.bounds })
 
   abbrev on_join : List Move → JoinOp → Reads Rules
-  on_join moves join = constraints_of read d (in_domain s (codes "constraints")) (in_problem s (codes "constraints")) >>= on_constraints moves join
+  on_join moves join = state_rules_of read at s d >>= all_rules moves join
 
   abbrev on_moves : List Move → Reads Rules
   on_moves moves = join_of moves >>= on_join moves
@@ -88,13 +107,11 @@ module _ (read : Reading) (at : Place) (s : Settings) (d : Declared) where
   rules_steps r h =
       let a = bound (moves_of read d (in_domain s (codes "transitions")) (in_problem s (codes "transitions"))) on_moves r h in
       let b = bound (join_of a.0) (on_join a.0) r a.2 in
-      let c = bound (constraints_of read d (in_domain s (codes "constraints")) (in_problem s (codes "constraints"))) (on_constraints a.0 b.0) r b.2 in
-      let e = bound (base_cases_of read d (in_domain s (codes "base_cases")) (in_problem s (codes "base_cases"))) (on_base_cases a.0 b.0 c.0) r c.2 in
-      let f = bound (bounds_of read d (in_domain s (codes "dual_bounds")) (in_problem s (codes "dual_bounds"))) (on_bounds a.0 b.0 c.0 e.0) r e.2 in
-      let g = bound (some_base at e.0) (all_rules a.0 b.0 c.0 e.0 f.0) r f.2 in
-      let it : Rules = record { moves = a.0; join = b.0; constraints = c.0; base_cases = e.0; bounds = f.0 } in
+      let c = bound (state_rules_of read at s d) (all_rules a.0 b.0) r b.2 in
+      let x = state_steps c.0 c.1 in
+      let it : Rules = record { moves = a.0; join = b.0; constraints = c.0.constraints; base_cases = c.0.base_cases; bounds = c.0.bounds } in
       let same : it ≡ r = cc in
-      subst (RulesSteps read at s d) {x = it} same (record { moves = a.1; constraints = c.1; base_cases = e.1; bounds = f.1 })
+      subst (RulesSteps read at s d) {x = it} same (record { moves = a.1; constraints = x.0; base_cases = x.1; bounds = x.2 })
 
 -- ---- ground transitions
 

@@ -59,6 +59,21 @@ abbrev pub some_base : Place → List BaseCase → Reads (List BaseCase)
 some_base at [] = refuse 48 at
 some_base at (b ∷ bs) = Ok (b ∷ bs)
 
+-- what both files say of states: the constraints, the base cases and the dual bounds
+pub record StateRules : Type 0 where
+  pub constraints : List Cond
+  pub base_cases : List BaseCase
+  pub bounds : List Num
+
+-- Of each list the domain's items come before the problem's. `at` is the domain's place.
+unfoldable pub state_rules_of : Reading → (at : Place) → Settings → Declared → Reads StateRules
+state_rules_of read at s d =
+    constraints_of read d (in_domain s (codes "constraints")) (in_problem s (codes "constraints")) >>= λ constraints.
+    base_cases_of read d (in_domain s (codes "base_cases")) (in_problem s (codes "base_cases")) >>= λ base_cases.
+    bounds_of read d (in_domain s (codes "dual_bounds")) (in_problem s (codes "dual_bounds")) >>= λ bounds.
+    some_base at base_cases >>= λ some.
+    Ok (record { constraints = constraints; base_cases = base_cases; bounds = bounds })
+
 -- what both files say of states and steps
 pub record Rules : Type 0 where
   pub moves : List Move
@@ -67,16 +82,13 @@ pub record Rules : Type 0 where
   pub base_cases : List BaseCase
   pub bounds : List Num
 
--- Of each list the domain's items come before the problem's. `at` is the domain's place.
+-- Of transitions the domain's come before the problem's. `at` is the domain's place.
 unfoldable pub rules_of : Reading → (at : Place) → Settings → Declared → Reads Rules
 rules_of read at s d =
     moves_of read d (in_domain s (codes "transitions")) (in_problem s (codes "transitions")) >>= λ moves.
     join_of moves >>= λ join.
-    constraints_of read d (in_domain s (codes "constraints")) (in_problem s (codes "constraints")) >>= λ constraints.
-    base_cases_of read d (in_domain s (codes "base_cases")) (in_problem s (codes "base_cases")) >>= λ base_cases.
-    bounds_of read d (in_domain s (codes "dual_bounds")) (in_problem s (codes "dual_bounds")) >>= λ bounds.
-    some_base at base_cases >>= λ some.
-    Ok (record { moves = moves; join = join; constraints = constraints; base_cases = base_cases; bounds = bounds })
+    state_rules_of read at s d >>= λ c.
+    Ok (record { moves = moves; join = join; constraints = c.constraints; base_cases = c.base_cases; bounds = c.bounds })
 
 -- the ground transitions of transitions whose steps have different texts
 abbrev pub grounded_of : Declared → List Move → Reads (List Ground)

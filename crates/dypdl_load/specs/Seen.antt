@@ -7,9 +7,10 @@ use Rattle.dypdl_load.specs.declared.settings.File.{File as FileRead}
 use Rattle.dypdl_load.specs.declared.settings.Settings.{Settings as SettingsRead}
 use Rattle.dypdl_load.specs.declared.together.Grounding.{Grounding as GroundingRead}
 use Rattle.dypdl_rules.specs.Declarations.{Declared}
-use Rattle.dypdl_load.specs.Meaning.{Data, Rules, Parts}
+use Rattle.dypdl_load.specs.Meaning.{Data, StateRules, Rules, Parts}
 use Rattle.dypdl_load.specs.declared.whole.Lists.{Lists as ListsRead}
 use Rattle.dypdl_load.specs.declared.whole.Data.{Data as DataRead}
+use Rattle.dypdl_load.specs.declared.whole.StateRules.{StateRules as StateRulesRead}
 use Rattle.dypdl_load.specs.declared.whole.Rules.{Rules as RulesRead}
 use Rattle.dypdl_load.specs.declared.whole.Parts.{Parts as PartsRead}
 
@@ -38,6 +39,9 @@ lists_seen l = record { objects = l.objects.list; variables = l.variables.list; 
 
 abbrev pub data_seen : DataRead → Data
 data_seen d = record { declared = record { objects = d.objects; variables = d.variables; tables = d.tables }; target = d.target }
+
+abbrev pub state_rules_seen : StateRulesRead → StateRules
+state_rules_seen c = record { constraints = c.constraints; base_cases = c.base_cases; bounds = c.bounds }
 
 abbrev pub rules_seen : RulesRead → Rules
 rules_seen r = record { moves = r.moves; join = r.join; constraints = r.constraints; base_cases = r.base_cases; bounds = r.bounds }

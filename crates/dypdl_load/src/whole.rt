@@ -7,9 +7,9 @@ ghost use Rattle.dypdl_nodes.specs.Reads.{told};
 ghost use Rattle.dypdl_data.specs.Target.{target_of};
 ghost use Rattle.dypdl_rules.specs.Expressions.{Reading, IsReading};
 ghost use Rattle.dypdl_load.specs.Together.{transitions_of};
-ghost use Rattle.dypdl_load.specs.Meaning.{declared_of, data_of, some_base, rules_of, grounded_of, parts_with, meaning, parts_of};
+ghost use Rattle.dypdl_load.specs.Meaning.{declared_of, data_of, some_base, state_rules_of, rules_of, grounded_of, parts_with, meaning, parts_of};
 ghost use Rattle.dypdl_load.specs.Facts.{Facts};
-ghost use Rattle.dypdl_load.specs.Seen.{settings_seen, lists_seen, data_seen, rules_seen, parts_seen};
+ghost use Rattle.dypdl_load.specs.Seen.{settings_seen, lists_seen, data_seen, state_rules_seen, rules_seen, parts_seen};
 
 use crate::settings::{Settings, read_settings};
 use crate::together::{grounds_of, join_of, texts_of};
@@ -40,6 +40,14 @@ pub struct Data {
     pub variables: Seq<Variable>,
     pub tables: Seq<TableData>,
     pub target: PlainState,
+}
+
+/// What both files say of states.
+#[derive(Drop)]
+pub struct StateRules {
+    pub constraints: Seq<Cond>,
+    pub base_cases: Seq<BaseCase>,
+    pub bounds: Seq<Num>,
 }
 
 /// What both files say of states and steps.
@@ -149,6 +157,46 @@ fn check_base(domain: Place, base_cases: &Seq<BaseCase>) -> Result<(), LoadEnd>
     Ok(())
 }
 
+/// What both files say of states. `domain` is the place of the domain.
+#[tactic(auto, unfolding(crate::specs::Meaning::state_rules_of))]
+fn read_state_rules(
+    alloc: Global,
+    domain: Place,
+    settings: &Settings<'_>,
+    declared: &mut Declared<'_>,
+) -> Result<StateRules, LoadEnd>
+    requires { declared.old.params ≡ [] }
+    ensures { (read : Reading) → IsReading read → AnswersBy told state_rules_seen result
+        (state_rules_of read domain (settings_seen settings.now) declared.old.lists) }
+{
+    let first = settings.domain.entries;
+    let second = settings.problem.entries;
+    let constraints = constraints(
+        alloc,
+        declared,
+        value_in(first, "constraints"),
+        value_in(second, "constraints"),
+    )?;
+    let base_cases = base_cases(
+        alloc,
+        declared,
+        value_in(first, "base_cases"),
+        value_in(second, "base_cases"),
+    )?;
+    let bounds = bounds(
+        alloc,
+        declared,
+        value_in(first, "dual_bounds"),
+        value_in(second, "dual_bounds"),
+    )?;
+    check_base(domain, &base_cases)?;
+    Ok(StateRules {
+        constraints,
+        base_cases,
+        bounds,
+    })
+}
+
 /// What both files say of states and steps. `domain` is the place of the domain.
 #[tactic(auto, unfolding(crate::specs::Meaning::rules_of))]
 fn read_rules(
@@ -161,35 +209,19 @@ fn read_rules(
         (rules_of read domain (settings_seen settings.now) (data_seen given.now).declared) }
     ensures few { IfOk result (λ r. length r.moves ≤ 65536) }
 {
-    let first = settings.domain.entries;
-    let second = settings.problem.entries;
     let mut declared = Declared::new(alloc, &given.objects, &given.variables, &given.tables)?;
     let moves = moves(
         alloc,
         &mut declared,
-        value_in(first, "transitions"),
-        value_in(second, "transitions"),
+        value_in(settings.domain.entries, "transitions"),
+        value_in(settings.problem.entries, "transitions"),
     )?;
     let join = join_of(moves.list())?;
-    let constraints = constraints(
-        alloc,
-        &mut declared,
-        value_in(first, "constraints"),
-        value_in(second, "constraints"),
-    )?;
-    let base_cases = base_cases(
-        alloc,
-        &mut declared,
-        value_in(first, "base_cases"),
-        value_in(second, "base_cases"),
-    )?;
-    let bounds = bounds(
-        alloc,
-        &declared,
-        value_in(first, "dual_bounds"),
-        value_in(second, "dual_bounds"),
-    )?;
-    check_base(domain, &base_cases)?;
+    let StateRules {
+        constraints,
+        base_cases,
+        bounds,
+    } = read_state_rules(alloc, domain, settings, &mut declared)?;
     Ok(Rules {
         moves,
         join,

@@ -51,10 +51,11 @@ fn print_orders<R: Wait + Print + Alloc<A = Global>>(
     let alloc = rt.alloc();
     let (workers, rest) = number_in(text);
     let (cost, _) = number_in(rest);
-    let Some(model) = model_of(alloc, &texts.domain, &texts.problem) else {
-        return println!(rt; "no model");
+    let count = match model_of(alloc, &texts.domain, &texts.problem) {
+        Some(model) => orders_that_end(rt, alloc, &model, workers, i64::from(cost)),
+        None => return println!(rt; "no model"),
     };
-    match orders_that_end(rt, alloc, &model, workers, i64::from(cost)) {
+    match count {
         Some(count) => println!(rt; "-- orders {text}\n{count} of 200"),
         None => println!(rt; "-- orders {text}\nnone"),
     }
@@ -87,14 +88,14 @@ fn print_pass<R: Wait + Print + Alloc<A = Global>>(
     let alloc = rt.alloc();
     let (workers, rest) = number_in(text);
     let (budget, rest) = number_in(rest);
-    let Some(model) = model_of(alloc, &texts.domain, &texts.problem) else {
-        return println!(rt; "no model");
-    };
     let Some(options) = options_of(workers, u64::from(budget)) else {
         return println!(rt; "no options");
     };
     let order = named_order(alloc, rest)?;
-    let end = halt_in_order(rt, alloc, &model, &options, &order);
+    let end = match model_of(alloc, &texts.domain, &texts.problem) {
+        Some(model) => halt_in_order(rt, alloc, &model, &options, &order),
+        None => return println!(rt; "no model"),
+    };
     println!(rt; "-- pass {text}\n{end}")
 }
 
