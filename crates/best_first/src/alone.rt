@@ -99,9 +99,19 @@ fn letters_taken<'m, L: CostLaw, K: Covers>(shards: &Vec<Seated<BestTurner<'m, L
     letters
 }
 
-/// Turns the shards, whose threads have ended, again and again in the order of their numbers, until after a round in which none took a
-/// letter none has an open node, or a letter to post; or until one has stopped. `true`: they rest. It begins with a round, so that
-/// it sees letters that threads left in mailboxes.
+/// How many letters the shards took, if each of them rests.
+fn letters_at_rest<'m, L: CostLaw, K: Covers>(
+    shards: &Vec<Seated<BestTurner<'m, L, K>>>,
+) -> Option<u64> {
+    if !are_resting(shards) {
+        return None;
+    }
+    Some(letters_taken(shards))
+}
+
+/// Turns the shards, whose threads have ended, again and again in the order of their numbers, until they rested before a round in which
+/// none took a letter, or until one has stopped. In such a round none posts a letter either, so none is left. `true`: they rest. It
+/// begins with a round, so that it sees letters that threads left in mailboxes.
 pub(crate) fn go_on_alone<'m, L: CostLaw, K: Covers, R: Wait, G: Gate>(
     rt: &R,
     floor: &Floor<BestBoxes, G>,
@@ -116,9 +126,9 @@ pub(crate) fn go_on_alone<'m, L: CostLaw, K: Covers, R: Wait, G: Gate>(
         if one_has_stopped(shards) {
             return false;
         }
-        let taken = letters_taken(shards);
+        let before = letters_at_rest(shards);
         turn_each(rt, floor, shards);
-        if letters_taken(shards) == taken && are_resting(shards) {
+        if before == Some(letters_taken(shards)) && are_resting(shards) {
             return true;
         }
     }

@@ -11,5 +11,6 @@ mod search;
 mod stages;
 
 pub use best_ends::BestEnd;
+pub use best_ledger::law_best;
 pub use dp_model::{Cause, Found};
 pub use search::run_best;
