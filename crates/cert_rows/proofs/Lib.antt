@@ -4,3 +4,5 @@ pub mod Backed
 pub mod Layers
 pub mod Events
 pub mod Ends
+pub mod Meeting
+pub mod Faulted

@@ -2,6 +2,7 @@
 //! claim. There is no code: the public function is a law, and its contract is what is proved.
 #![tactic(auto)]
 
+ghost use Rattle.cert_rows.specs.Faults.{FaultIsMet};
 ghost use Rattle.cert_rows.specs.Laws.{LawCut, LawLayers, LawRows, LawTarget};
 
 /// The certificate whose nodes are those that a pass of one shard kept.
@@ -14,4 +15,10 @@ pub fn law_rows()
     ensures target { LawTarget }
     ensures cut { LawCut }
     ensures layers { LawLayers }
+{}
+
+/// Where the check of a certificate tells a fault, a list meets one: at the first line the empty list; at the line of the claim
+/// a front of the claimed list; at the line of a node a front of its list, or that list with one step more.
+pub fn law_faults()
+    ensures { FaultIsMet }
 {}
