@@ -1,5 +1,6 @@
 -- Where the check of a certificate tells a fault, a list meets one: line by line.
 use Rattle.std.proofs.Common.{◌≡◌, ℕ, ◌+◌, ◌⊎◌, inl, inr, suc, Bool, true, false, List, [], ◌∷◌, slice_get, Option, Some, None, Result, Ok, Err, refl, sym, ap, subst, ◌∙◌, arith}
+use Rattle.std.proofs.lemmas.Bool.{false≢true}
 use Rattle.std.proofs.lemmas.Option.{get_or_from_slice_get}
 use Rattle.dp_model.specs.declared.answers.Claim.{Claim}
 use Rattle.dp_model.specs.declared.answers.Claim.TheVariants.{Optimal, Infeasible}
@@ -16,7 +17,7 @@ use Rattle.replay_laws.proofs.Walks.{fault_met}
 use Rattle.cert_types.specs.Lines.{line_of_claim, line_of_node}
 use Rattle.cert_types.specs.declared.cert.Cert.{Cert}
 use Rattle.cert_types.specs.declared.nodes.CertNode.{CertNode}
-use Rattle.cert_laws.specs.Shown.{layer_of, list_of}
+use Rattle.cert_laws.specs.Shown.{layer_of, list_of, StartsAlone}
 use Rattle.cert_laws.specs.Checks.{claim_fails, covering, is_alone, is_high, layer_told, layers_told, list_fails, node_at, node_fails, node_fails_at, target_fails, target_fails_by, then_told, told_at}
 use Rattle.cert_laws.specs.declared.answers.CertReason.{CertReason}
 use Rattle.cert_laws.specs.declared.answers.CertReason.TheVariants as reasons
@@ -24,55 +25,60 @@ use Rattle.cert_laws.specs.declared.answers.Checked.{Checked}
 use Rattle.cert_laws.specs.declared.answers.Checked.TheVariants.{Yes, No}
 use Rattle.cert_laws.proofs.Lists.{some_same, true_or}
 use Rattle.cert_laws.proofs.Walks.{node_found}
-use Rattle.cert_rows.specs.Faults.{ClaimMeets, FaultIsMet, FrontMeets, MeetsFault, NodeLineMeets, NodeMeets}
-use Rattle.cert_rows.proofs.Meeting.{cut_met, must_no_fault, node_met, steps_met, unless_some}
+use Rattle.cert_rows.specs.Faults.{ClaimMeets, FaultIsMet, FrontMeets, IsStopped, LineMeets, NodeMeets, TargetMeets}
+use Rattle.cert_rows.proofs.Meeting.{cut_met, must_no_fault, node_met, open_met, unless_some}
 
 -- ---- the target and the claim
 
-target_met : (m : Model) (cert : Cert) → target_fails m cert ≡ Some reasons.Fault → MeetsFault m false []
+-- layer 0 is one node
+starts_alone : (layers : List (List CertNode)) (n : CertNode) → slice_get layers 0 ≡ Some (n ∷ []) → is_alone layers ≡ true
+starts_alone [] n h = absurd (cc)
+starts_alone (nodes ∷ layers) n h = let same : nodes ≡ n ∷ [] = cc in rw same refl
+
+target_met : (m : Model) (cert : Cert) → target_fails m cert ≡ Some reasons.Fault → (StartsAlone cert → ⊥) × TargetMeets m
 target_met m cert h =
     elim (true_or (is_alone cert.layers)) [
       | inl alone ↦ (let clash : None ≡ Some reasons.Fault = rw alone at h in absurd (cc))
       | inr not ↦ elim (unless_some (target_fails_by m cert) (looked_at m false m.target None) (rw not at h)) [
-        | inl f ↦ (f.0.spot, f.0.kind, (m.target, None, (refl, refl), ((look_faults m false None m.target f.0).0 f.1).1))
+        | inl f ↦ (let met = (look_faults m false None m.target f.0).0 f.1 in (not_alone not, (f.0.spot, f.0.kind, met.0, (m.target, None, (refl, refl), met.1))))
         | inr p ↦ absurd (no_fault p.0 p.2)
       ]
     ]
   where
+    not_alone : is_alone cert.layers ≡ false → StartsAlone cert → ⊥
+    not_alone not alone = false≢true (sym not ∙ starts_alone cert.layers alone.0 alone.1)
+
     no_fault : (look : Look) → target_fails_by m cert look ≡ Some reasons.Fault → ⊥
     no_fault looks.NotAllowed e = cc
     no_fault (looks.Base base) e = must_no_fault (is_high m cert.claim (Some base)) reasons.Target (λ e. cc) e
     no_fault (looks.Open floor) e = cc
 
-claim_met : (m : Model) (claim : Claim) → claim_fails m claim ≡ Some reasons.Fault → ClaimMeets m claim
-claim_met m Infeasible h = absurd (cc)
-claim_met m (Optimal found) h = by_replay (replayed m found.steps) refl h
+claim_met : (m : Model) (cert : Cert) (line : ℕ) (claim : Claim) → line ≡ line_of_claim cert.first → claim_fails m claim ≡ Some reasons.Fault → ClaimMeets m cert line claim
+claim_met m cert line Infeasible at h = absurd (cc)
+claim_met m cert line (Optimal found) at h = (at, by_replay (replayed m found.steps) refl h)
   where
     by_replay : (r : Replayed) → replayed m found.steps ≡ r → list_fails found.cost r ≡ Some reasons.Fault → FrontMeets m found.steps
     by_replay (Legal total) e fails = absurd (must_no_fault _ reasons.Claim (λ e. cc) fails)
     by_replay (Illegal done why) e fails = absurd (cc)
-    by_replay (Faulted done spot kind) e fails = let met = fault_met m found.steps done spot kind e in record { done = done; within = met.0; meets = (spot, kind, met.1) }
+    by_replay (Faulted done spot kind) e fails = let met = fault_met m found.steps done spot kind e in record { done = done; within = met.0; spot = spot; kind = kind; meets = met.1 }
 
 -- ---- the line of a node
 
 module _ (m : Model) (cert : Cert) (l place : ℕ) (n : CertNode) where
-  abbrev MeetsAs : Bool → Type 0
-  MeetsAs cut = NodeMeets m cert.prune (list_of cert.layers l place) cut
+  on_the_way : (cut : Bool) → IsStopped m (list_of cert.layers l place) → NodeMeets m cert l place cut
+  on_the_way true stopped = inl stopped
+  on_the_way false stopped = inl stopped
 
-  on_the_way : (cut : Bool) → FrontMeets m (list_of cert.layers l place) → MeetsAs cut
-  on_the_way true front = inl front
-  on_the_way false front = inl front
-
-  line_at : (r : Result Reached CertReason) → node_at m cert l place ≡ r → node_fails_at m cert (covering m cert cert.keep (l + 1)) n r ≡ Some reasons.Fault → MeetsAs n.cut
+  line_at : (r : Result Reached CertReason) → node_at m cert l place ≡ r → node_fails_at m cert (covering m cert cert.keep (l + 1)) n r ≡ Some reasons.Fault → NodeMeets m cert l place n.cut
   line_at (Err why) e h = on_the_way n.cut (node_met m cert l place (e ∙ ap (λ (x : CertReason). Err x) (some_same why reasons.Fault h)))
   line_at (Ok here) e h =
       let found = node_found m cert l place here e in
       elim (true_or n.cut) [
-        | inl cut ↦ subst MeetsAs (sym cut) (inr (cut_met m cert (list_of cert.layers l place) here found.path found.inner (rw cut at h)))
-        | inr uncut ↦ subst MeetsAs (sym uncut) (inr (steps_met m cert (covering m cert cert.keep (l + 1)) (list_of cert.layers l place) here found.path found.in_range found.inner (rw uncut at h)))
+        | inl cut ↦ subst (NodeMeets m cert l place) (sym cut) (inr (cut_met m cert l place here found.path found.inner (rw cut at h)))
+        | inr uncut ↦ subst (NodeMeets m cert l place) (sym uncut) (inr (open_met m cert l place here e (rw uncut at h)))
       ]
 
-  line_met : node_fails m cert l place n ≡ Some reasons.Fault → MeetsAs n.cut
+  line_met : node_fails m cert l place n ≡ Some reasons.Fault → NodeMeets m cert l place n.cut
   line_met h = line_at (node_at m cert l place) refl h
 
 -- ---- the first line that is wrong
@@ -138,7 +144,7 @@ layers_reject m cert l (nodes ∷ layers) ln h =
     ]
 
 -- the node that is rejected, with its own numbers
-node_line_met : (m : Model) (cert : Cert) (ln : ℕ) → RejectsIn m cert 0 cert.layers ln → NodeLineMeets m cert ln
+node_line_met : (m : Model) (cert : Cert) (ln : ℕ) → RejectsIn m cert 0 cert.layers ln → LineMeets m cert ln
 node_line_met m cert ln r =
     let x = subst (λ (l : ℕ). Rejects m cert l 0 r.nodes ln) (zero_plus r.k) r.rejects in
     let same : layer_of cert.layers r.k ≡ r.nodes = get_or_from_slice_get cert.layers r.k r.nodes [] r.at in
@@ -154,9 +160,9 @@ node_line_met m cert ln r =
 pub fault_is_met : FaultIsMet
 fault_is_met m cert line h =
     elim (told_no cert.first line (target_fails m cert) reasons.Fault (told_at (line_of_claim cert.first) (claim_fails m cert.claim) (layers_told m cert 0 cert.layers)) h) [
-      | inl first ↦ inl (first.1, target_met m cert first.0)
+      | inl first ↦ (let met = target_met m cert first.0 in inl (first.1, met.0, met.1))
       | inr more ↦ elim (told_no (line_of_claim cert.first) line (claim_fails m cert.claim) reasons.Fault (layers_told m cert 0 cert.layers) more) [
-        | inl claim ↦ inr (inl (claim.1, claim_met m cert.claim claim.0))
+        | inl claim ↦ inr (inl (claim_met m cert line cert.claim claim.1 claim.0))
         | inr lines ↦ inr (inr (node_line_met m cert line (layers_reject m cert 0 cert.layers line lines)))
       ]
     ]

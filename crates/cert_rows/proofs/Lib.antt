@@ -6,3 +6,5 @@ pub mod Events
 pub mod Ends
 pub mod Meeting
 pub mod Faulted
+pub mod Telling
+pub mod Firsts
