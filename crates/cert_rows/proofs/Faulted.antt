@@ -13,7 +13,6 @@ use Rattle.replay_list.specs.declared.replayed.Reached.{Reached}
 use Rattle.replay_list.specs.declared.replayed.Replayed.{Replayed}
 use Rattle.replay_list.specs.declared.replayed.Replayed.TheVariants.{Legal, Illegal, Faulted}
 use Rattle.visit_laws.proofs.Looks.{look_faults}
-use Rattle.replay_laws.proofs.Walks.{fault_met}
 use Rattle.cert_types.specs.Lines.{line_of_claim, line_of_node}
 use Rattle.cert_types.specs.declared.cert.Cert.{Cert}
 use Rattle.cert_types.specs.declared.nodes.CertNode.{CertNode}
@@ -25,8 +24,9 @@ use Rattle.cert_laws.specs.declared.answers.Checked.{Checked}
 use Rattle.cert_laws.specs.declared.answers.Checked.TheVariants.{Yes, No}
 use Rattle.cert_laws.proofs.Lists.{some_same, true_or}
 use Rattle.cert_laws.proofs.Walks.{node_found}
-use Rattle.cert_rows.specs.Faults.{ClaimMeets, FaultIsMet, FrontMeets, IsStopped, LineMeets, NodeMeets, TargetMeets}
-use Rattle.cert_rows.proofs.Meeting.{cut_met, must_no_fault, node_met, open_met, unless_some}
+use Rattle.cert_rows.specs.Faults.{ClaimMeets, FaultIsMet, IsStopped, NodeLineMeets, NodeMeets, TargetMeets, TotalMeets}
+use Rattle.cert_rows.proofs.Claims.{replay_met}
+use Rattle.cert_rows.proofs.Meeting.{cut_met, list_met, must_no_fault, open_met, unless_some}
 
 -- ---- the target and the claim
 
@@ -53,14 +53,14 @@ target_met m cert h =
     no_fault (looks.Base base) e = must_no_fault (is_high m cert.claim (Some base)) reasons.Target (λ e. cc) e
     no_fault (looks.Open floor) e = cc
 
-claim_met : (m : Model) (cert : Cert) (line : ℕ) (claim : Claim) → line ≡ line_of_claim cert.first → claim_fails m claim ≡ Some reasons.Fault → ClaimMeets m cert line claim
-claim_met m cert line Infeasible at h = absurd (cc)
-claim_met m cert line (Optimal found) at h = (at, by_replay (replayed m found.steps) refl h)
+claim_met : (m : Model) (claim : Claim) → claim_fails m claim ≡ Some reasons.Fault → ClaimMeets m claim
+claim_met m Infeasible h = absurd (cc)
+claim_met m (Optimal found) h = by_replay (replayed m found.steps) refl h
   where
-    by_replay : (r : Replayed) → replayed m found.steps ≡ r → list_fails found.cost r ≡ Some reasons.Fault → FrontMeets m found.steps
+    by_replay : (r : Replayed) → replayed m found.steps ≡ r → list_fails found.cost r ≡ Some reasons.Fault → IsStopped m found.steps ⊎ TotalMeets m found.steps
     by_replay (Legal total) e fails = absurd (must_no_fault _ reasons.Claim (λ e. cc) fails)
     by_replay (Illegal done why) e fails = absurd (cc)
-    by_replay (Faulted done spot kind) e fails = let met = fault_met m found.steps done spot kind e in record { done = done; within = met.0; spot = spot; kind = kind; meets = met.1 }
+    by_replay (Faulted done spot kind) e fails = replay_met m found.steps done spot kind e
 
 -- ---- the line of a node
 
@@ -70,7 +70,7 @@ module _ (m : Model) (cert : Cert) (l place : ℕ) (n : CertNode) where
   on_the_way false stopped = inl stopped
 
   line_at : (r : Result Reached CertReason) → node_at m cert l place ≡ r → node_fails_at m cert (covering m cert cert.keep (l + 1)) n r ≡ Some reasons.Fault → NodeMeets m cert l place n.cut
-  line_at (Err why) e h = on_the_way n.cut (node_met m cert l place (e ∙ ap (λ (x : CertReason). Err x) (some_same why reasons.Fault h)))
+  line_at (Err why) e h = on_the_way n.cut (list_met m (list_of cert.layers l place) (e ∙ ap (λ (x : CertReason). Err x) (some_same why reasons.Fault h)))
   line_at (Ok here) e h =
       let found = node_found m cert l place here e in
       elim (true_or n.cut) [
@@ -144,7 +144,7 @@ layers_reject m cert l (nodes ∷ layers) ln h =
     ]
 
 -- the node that is rejected, with its own numbers
-node_line_met : (m : Model) (cert : Cert) (ln : ℕ) → RejectsIn m cert 0 cert.layers ln → LineMeets m cert ln
+node_line_met : (m : Model) (cert : Cert) (ln : ℕ) → RejectsIn m cert 0 cert.layers ln → NodeLineMeets m cert ln
 node_line_met m cert ln r =
     let x = subst (λ (l : ℕ). Rejects m cert l 0 r.nodes ln) (zero_plus r.k) r.rejects in
     let same : layer_of cert.layers r.k ≡ r.nodes = get_or_from_slice_get cert.layers r.k r.nodes [] r.at in
@@ -162,7 +162,7 @@ fault_is_met m cert line h =
     elim (told_no cert.first line (target_fails m cert) reasons.Fault (told_at (line_of_claim cert.first) (claim_fails m cert.claim) (layers_told m cert 0 cert.layers)) h) [
       | inl first ↦ (let met = target_met m cert first.0 in inl (first.1, met.0, met.1))
       | inr more ↦ elim (told_no (line_of_claim cert.first) line (claim_fails m cert.claim) reasons.Fault (layers_told m cert 0 cert.layers) more) [
-        | inl claim ↦ inr (inl (claim_met m cert line cert.claim claim.1 claim.0))
+        | inl claim ↦ inr (inl (claim.1, claim_met m cert.claim claim.0))
         | inr lines ↦ inr (inr (node_line_met m cert line (layers_reject m cert 0 cert.layers line lines)))
       ]
     ]

@@ -1,6 +1,8 @@
 -- The first line that is wrong is told: where all before it is right, its reason is what the check tells.
 use Rattle.std.proofs.Common.{◌≡◌, ℕ, ◌+◌, ◌<◌, inl, inr, zero, suc, false, List, [], ◌∷◌, slice_get, Some, None, Ok, Err, refl, sym, ap, subst, ◌∙◌, arith}
 use Rattle.std.proofs.lemmas.Option.{get_or_from_slice_get}
+use Rattle.dp_model.specs.declared.answers.Claim.{Claim}
+use Rattle.dp_model.specs.declared.answers.Claim.TheVariants.{Optimal, Infeasible}
 use Rattle.dp_model.specs.declared.parts.PlainState.{PlainState}
 use Rattle.dp_model.specs.declared.whole.Model.{Model}
 use Rattle.dp_steps.specs.Faults.{MeetsIn}
@@ -13,7 +15,7 @@ use Rattle.cert_types.specs.Lines.{line_of_node}
 use Rattle.cert_types.specs.declared.cert.Cert.{Cert}
 use Rattle.cert_types.specs.declared.nodes.CertNode.{CertNode}
 use Rattle.cert_laws.specs.Shown.{layer_of, IsAt, Stands, TargetHolds}
-use Rattle.cert_laws.specs.Checks.{checked, is_alone, layer_told, layers_told, node_fails}
+use Rattle.cert_laws.specs.Checks.{checked, claim_fails, is_alone, layer_told, layers_told, node_fails}
 use Rattle.cert_laws.specs.Told.{IsBefore, IsRightBefore, LineShows}
 use Rattle.cert_laws.specs.declared.answers.CertReason.{CertReason}
 use Rattle.cert_laws.specs.declared.answers.CertReason.TheVariants as reasons
@@ -22,7 +24,8 @@ use Rattle.cert_laws.proofs.Fails.{found_line}
 use Rattle.cert_laws.proofs.Lists.{true_or}
 use Rattle.cert_laws.proofs.Walks.{found_node, reached}
 use Rattle.cert_laws.proofs.Yes.{layer_there, target_yes, yes_claim, yes_target}
-use Rattle.cert_rows.specs.Faults.{NodeFaultTold, TargetFaultTold, TargetMeets}
+use Rattle.cert_rows.specs.Faults.{ClaimFaultTold, ClaimMeets, NodeFaultTold, TargetFaultTold, TargetMeets}
+use Rattle.cert_rows.proofs.Claims.{met_replay}
 use Rattle.cert_rows.proofs.Telling.{line_stops}
 
 -- ---- nodes
@@ -116,6 +119,15 @@ line_told m cert l place n reason at right fails =
 
 pub node_fault_told : NodeFaultTold
 node_fault_told m cert l place n at right meets = line_told m cert l place n reasons.Fault at right (line_stops m cert l place n n.cut at refl meets)
+
+-- ---- the claim
+
+claim_stops : (m : Model) (claim : Claim) → ClaimMeets m claim → claim_fails m claim ≡ Some reasons.Fault
+claim_stops m Infeasible meets = absurd meets
+claim_stops m (Optimal found) meets = let told = met_replay m found.steps meets in rw told.3 refl
+
+pub claim_fault_told : ClaimFaultTold
+claim_fault_told m cert target meets = rw (yes_target m cert target) (rw (claim_stops m cert.claim meets) refl)
 
 -- ---- the target
 

@@ -5,6 +5,7 @@ pub mod Layers
 pub mod Events
 pub mod Ends
 pub mod Meeting
-pub mod Faulted
 pub mod Telling
+pub mod Claims
+pub mod Faulted
 pub mod Firsts

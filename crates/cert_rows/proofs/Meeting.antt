@@ -39,7 +39,7 @@ use Rattle.visit_laws.proofs.Transitions.{is_forced_there, may_step_faults, may_
 use Rattle.replay_laws.proofs.Ends.{bind_err}
 use Rattle.cert_types.specs.declared.cert.Cert.{Cert}
 use Rattle.cert_laws.specs.Shown.{list_of}
-use Rattle.cert_laws.specs.Checks.{covering, cut_fails, entered, entered_as, first_of, is_covered, is_high, led, led_if, looked_fails, moved, must, node_at, or_fault, start, step_fails, step_fails_if, stepped, steps_fail, successor_fails, taken_fails, unless_fault, walked}
+use Rattle.cert_laws.specs.Checks.{covering, cut_fails, entered, entered_as, first_of, is_covered, is_high, led, led_if, looked_fails, moved, must, node_at, or_fault, step_fails, step_fails_if, stepped, steps_fail, successor_fails, taken_fails, unless_fault, walked}
 use Rattle.cert_laws.specs.declared.answers.CertReason.{CertReason}
 use Rattle.cert_laws.specs.declared.answers.CertReason.TheVariants as reasons
 use Rattle.cert_laws.proofs.Fails.{accounts_found}
@@ -314,14 +314,18 @@ walked_met m here (g ∷ gs) range inner h =
           };
         }
 
--- a node whose line is rejected by a fault on the way of its list
-pub node_met : (m : Model) (cert : Cert) (l place : ℕ) → node_at m cert l place ≡ Err reasons.Fault → IsStopped m (list_of cert.layers l place)
-node_met m cert l place h =
-    elim (bind_err (start m) (λ here. walked m here (list_of cert.layers l place)) reasons.Fault h) [
-      | inl e ↦ record { done = zero; within = omega arith; meets = at_once (slice_get (list_of cert.layers l place) 0) (met_on m [] Looked (entered_met m m.target None e)) }
+-- what is found of a list in a state that is entered first
+abbrev pub Walk : Model → PlainState → Option ℤ → List ℕ → Result Reached CertReason
+Walk m s cost gs = entered m s cost >>= λ here. walked m here gs
+
+-- a list of which a fault is found is stopped by it
+pub list_met : (m : Model) (steps : List ℕ) → Walk m m.target None steps ≡ Err reasons.Fault → IsStopped m steps
+list_met m steps h =
+    elim (bind_err (entered m m.target None) (λ here. walked m here steps) reasons.Fault h) [
+      | inl e ↦ record { done = zero; within = omega arith; meets = at_once (slice_get steps 0) (met_on m [] Looked (entered_met m m.target None e)) }
       | inr p ↦ (let e = entered_inner m m.target None p.0 p.1 in
-          let on = walked_met m (reached m.target None) (list_of cert.layers l place) tt e.inner (subst (λ (x : Reached). walked m x (list_of cert.layers l place) ≡ Err reasons.Fault) (sym e.same) p.2) in
-          record { done = on.done; within = on.within; meets = met_on m (take on.done (list_of cert.layers l place)) (DecidesAt m (slice_get (list_of cert.layers l place) on.done)) on.on })
+          let on = walked_met m (reached m.target None) steps tt e.inner (subst (λ (x : Reached). walked m x steps ≡ Err reasons.Fault) (sym e.same) p.2) in
+          record { done = on.done; within = on.within; meets = met_on m (take on.done steps) (DecidesAt m (slice_get steps on.done)) on.on })
     ]
   where
     at_once : (next : Option ℕ) → MeetsAt m false [] Looked → MeetsAt m false [] (DecidesAt m next)

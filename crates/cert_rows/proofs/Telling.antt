@@ -3,7 +3,6 @@ use Rattle.std.proofs.Common.{◌≡◌, ℕ, ◌+◌, ◌<◌, ◌≤◌, ◌�
 use Rattle.std.specs.Prelude.{ℤ, IfSome}
 use Rattle.std.specs.List.{range_with_len}
 use Rattle.std.proofs.lemmas.Bool.{cases_lt, cases_order, false≢true}
-use Rattle.dp_base.specs.Results.{◌>>=◌}
 use Rattle.dp_model.specs.Costs.{InRange, join}
 use Rattle.dp_model.specs.declared.answers.FaultKind.{FaultKind}
 use Rattle.dp_model.specs.declared.answers.Spot.{Spot}
@@ -18,7 +17,6 @@ use Rattle.spot_eval.specs.Looks.{looked_at}
 use Rattle.spot_eval.specs.Moves.{first_enabled, forced_of, goes_before, may_step_at, number_enabled}
 use Rattle.spot_eval.specs.declared.ends.SpotFault.{SpotFault}
 use Rattle.spot_eval.specs.declared.looks.Look.TheVariants as looks
-use Rattle.replay_list.specs.declared.replayed.Reached.{Reached}
 use Rattle.dom_store.specs.declared.past_node.PastNode.{PastNode}
 use Rattle.visit_laws.specs.Fates.{is_on_arrival}
 use Rattle.visit_laws.specs.Looks.{is_looked}
@@ -28,13 +26,14 @@ use Rattle.visit_laws.proofs.Transitions.{before_found, before_none, enabled_fou
 use Rattle.cert_types.specs.declared.cert.Cert.{Cert}
 use Rattle.cert_types.specs.declared.nodes.CertNode.{CertNode}
 use Rattle.cert_laws.specs.Shown.{list_of, IsAt, Stands}
-use Rattle.cert_laws.specs.Checks.{covering, cut_fails, entered, first_of, looked_fails, moved, node_at, node_fails, step_fails, stepped, steps_fail, walked}
+use Rattle.cert_laws.specs.Checks.{covering, cut_fails, entered, first_of, looked_fails, moved, node_fails, step_fails, stepped, steps_fail, walked}
 use Rattle.cert_laws.specs.declared.answers.CertReason.{CertReason}
 use Rattle.cert_laws.specs.declared.answers.CertReason.TheVariants as reasons
 use Rattle.cert_laws.proofs.Fails.{found_accounts}
 use Rattle.cert_laws.proofs.Moves.{leads_range}
 use Rattle.cert_laws.proofs.Walks.{found_node, inner_entered, reached}
 use Rattle.cert_rows.specs.Faults.{Decides, DecidesAt, IsOfStep, IsStopped, NodeMeets, OpenMeets, StepMeets}
+use Rattle.cert_rows.proofs.Meeting.{Walk}
 
 abbrev fault_at : Spot → FaultKind → SpotFault
 fault_at spot kind = record { spot = spot; kind = kind }
@@ -153,10 +152,6 @@ stops_here : (m : Model) (s : PlainState) (cost : Option ℤ) (gs : List ℕ) (s
 stops_here m s cost [] spot kind range inner is meets = absurd (inner_looks m s cost spot kind inner is meets)
 stops_here m s cost (g ∷ gs) spot kind range inner is meets = rw (stepped_stops m s cost g spot kind range inner is meets) refl
 
--- what is found of a list in a state that is entered first
-abbrev Walk : Model → PlainState → Option ℤ → List ℕ → Result Reached CertReason
-Walk m s cost gs = entered m s cost >>= λ here. walked m here gs
-
 stops_at_once : (m : Model) (s to : PlainState) (cost total : Option ℤ) (gs : List ℕ) (spot : Spot) (kind : FaultKind) → IfSome cost InRange → Leads m s cost [] to total → DecidesAt m (slice_get gs 0) spot → MeetsIn m false total to spot kind → Walk m s cost gs ≡ Err reasons.Fault
 stops_at_once m s to cost total gs spot kind range leads is meets =
     let here : MeetsIn m false cost s spot kind = subst (λ (x : PlainState). MeetsIn m false cost x spot kind) (sym leads.0) (subst (λ (c : Option ℤ). MeetsIn m false c to spot kind) (sym leads.1) meets) in
@@ -172,11 +167,11 @@ walk_stops m s to cost total (g ∷ gs) (suc done) spot kind range leads is meet
     let rest = walk_stops m leads.0 to (join m.join cost leads.1) total gs done spot kind leads.3 leads.4 is meets in
     rw (inner_entered m s cost leads.2.inner) (rw (step_enters m s cost g leads.1 leads.0 range leads.2 leads.3) rest)
 
--- a fault that stops the list of a node
-pub stopped_node : (m : Model) (cert : Cert) (l place : ℕ) → IsStopped m (list_of cert.layers l place) → node_at m cert l place ≡ Err reasons.Fault
-stopped_node m cert l place stopped =
+-- a fault that stops a list is found of it
+pub stopped_list : (m : Model) (steps : List ℕ) → IsStopped m steps → Walk m m.target None steps ≡ Err reasons.Fault
+stopped_list m steps stopped =
     let met = stopped.meets in
-    walk_stops m m.target met.3.0 None met.3.1 (list_of cert.layers l place) stopped.done met.0 met.1 tt met.3.2 met.2 met.3.3
+    walk_stops m m.target met.3.0 None met.3.1 steps stopped.done met.0 met.1 tt met.3.2 met.2 met.3.3
 
 -- ---- a node that stands
 
@@ -293,8 +288,8 @@ open_stops m cert l place n at meets r =
 -- ---- the line of a node
 
 pub line_stops : (m : Model) (cert : Cert) (l place : ℕ) (n : CertNode) (cut : Bool) → IsAt cert l place n → n.cut ≡ cut → NodeMeets m cert l place cut → node_fails m cert l place n ≡ Some reasons.Fault
-line_stops m cert l place n true at is (inl stopped) = rw (stopped_node m cert l place stopped) refl
-line_stops m cert l place n false at is (inl stopped) = rw (stopped_node m cert l place stopped) refl
+line_stops m cert l place n true at is (inl stopped) = rw (stopped_list m (list_of cert.layers l place) stopped) refl
+line_stops m cert l place n false at is (inl stopped) = rw (stopped_list m (list_of cert.layers l place) stopped) refl
 line_stops m cert l place n true at is (inr met) =
     let found = found_node m cert l place met.2.0 met.2.1 met.2.2 met.2.3.0.0 in
     rw found (rw is (cut_stops m cert met.2.0 met.2.1 met.0 met.1 met.2.3))

@@ -14,7 +14,7 @@ use Rattle.visit_laws.specs.Looks.{is_looked}
 use Rattle.cert_types.specs.Lines.{line_of_claim, line_of_node}
 use Rattle.cert_types.specs.declared.cert.Cert.{Cert}
 use Rattle.cert_types.specs.declared.nodes.CertNode.{CertNode}
-use Rattle.cert_laws.specs.Shown.{list_of, Accounts, IsAt, Stands, StartsAlone}
+use Rattle.cert_laws.specs.Shown.{list_of, Accounts, IsAt, Stands, StartsAlone, TargetHolds}
 use Rattle.cert_laws.specs.Checks.{checked}
 use Rattle.cert_laws.specs.Told.{IsRightBefore}
 use Rattle.cert_laws.specs.declared.answers.CertReason.TheVariants as reasons
@@ -53,19 +53,15 @@ MeetsAt m prune steps At = (spot : Spot) × (kind : FaultKind) × At spot × Mee
 abbrev pub TargetMeets : Model → Type 0
 TargetMeets m = MeetsAt m false [] (λ spot. is_looked spot ≡ true)
 
--- A front of the list meets a fault.
-pub record FrontMeets (m : Model) (steps : List ℕ) : Type 0 where
-  pub done : ℕ
-  pub within : done ≤ length steps
-  pub spot : Spot
-  pub kind : FaultKind
-  pub meets : Meets m false (take done steps) spot kind
-
 -- A front of the list meets a fault that decides whether the next step is taken, or what the list leads to.
 pub record IsStopped (m : Model) (steps : List ℕ) : Type 0 where
   pub done : ℕ
   pub within : done ≤ length steps
   pub meets : MeetsAt m false (take done steps) (DecidesAt m (slice_get steps done))
+
+-- the list leads to a base state, and its total is a fault
+abbrev pub TotalMeets : Model → List ℕ → Type 0
+TotalMeets m steps = (kind : FaultKind) × Meets m false steps spots.Total kind
 
 -- The list meets a fault of the transition, which is considered and enabled; or with that step more it meets one on arrival.
 abbrev pub StepMeets : Model → (prune : Bool) → List ℕ → ℕ → Type 0
@@ -88,19 +84,23 @@ abbrev pub NodeMeets : Model → Cert → (l place : ℕ) → (cut : Bool) → T
 NodeMeets m cert l place true = IsStopped m (list_of cert.layers l place) ⊎ CutMeets m cert l place
 NodeMeets m cert l place false = IsStopped m (list_of cert.layers l place) ⊎ OpenMeets m cert l place
 
+-- a fault stops the claimed list, or it has no total
+abbrev pub ClaimMeets : Model → Claim → Type 0
+ClaimMeets m (Optimal found) = IsStopped m found.steps ⊎ TotalMeets m found.steps
+ClaimMeets m Infeasible = ⊥
+
 -- ---- where a fault is told, one is met
 
 -- it is the first line
-abbrev pub FirstMeets : Model → Cert → (line : ℕ) → Type 0
-FirstMeets m cert line = (line ≡ cert.first) × (StartsAlone cert → ⊥) × TargetMeets m
+abbrev pub FirstLineMeets : Model → Cert → (line : ℕ) → Type 0
+FirstLineMeets m cert line = (line ≡ cert.first) × (StartsAlone cert → ⊥) × TargetMeets m
 
 -- it is the line of the claim
-abbrev pub ClaimMeets : Model → Cert → (line : ℕ) → Claim → Type 0
-ClaimMeets m cert line (Optimal found) = (line ≡ line_of_claim cert.first) × FrontMeets m found.steps
-ClaimMeets m cert line Infeasible = ⊥
+abbrev pub ClaimLineMeets : Model → Cert → (line : ℕ) → Type 0
+ClaimLineMeets m cert line = (line ≡ line_of_claim cert.first) × ClaimMeets m cert.claim
 
 -- it is the line of this node
-pub record LineMeets (m : Model) (cert : Cert) (line : ℕ) : Type 0 where
+pub record NodeLineMeets (m : Model) (cert : Cert) (line : ℕ) : Type 0 where
   pub l : ℕ
   pub place : ℕ
   pub n : CertNode
@@ -111,13 +111,17 @@ pub record LineMeets (m : Model) (cert : Cert) (line : ℕ) : Type 0 where
 -- Where the check tells a fault, a list meets one: at the first line the empty list, at the line of the claim a front of the
 -- claimed list, at the line of a node a front of its list, or that list with one step more.
 abbrev pub FaultIsMet : Type 0
-FaultIsMet = (m : Model) (cert : Cert) (line : ℕ) → checked m cert ≡ No line reasons.Fault → FirstMeets m cert line ⊎ (ClaimMeets m cert line cert.claim ⊎ LineMeets m cert line)
+FaultIsMet = (m : Model) (cert : Cert) (line : ℕ) → checked m cert ≡ No line reasons.Fault → FirstLineMeets m cert line ⊎ (ClaimLineMeets m cert line ⊎ NodeLineMeets m cert line)
 
 -- ---- where one is met, a fault is told
 
 -- The target meets a fault, and layer 0 is not its node alone.
 abbrev pub TargetFaultTold : Type 0
 TargetFaultTold = (m : Model) (cert : Cert) → (StartsAlone cert → ⊥) → TargetMeets m → checked m cert ≡ No cert.first reasons.Fault
+
+-- The first line is right, and a fault stops the claimed list, or it has no total.
+abbrev pub ClaimFaultTold : Type 0
+ClaimFaultTold = (m : Model) (cert : Cert) → TargetHolds m cert → ClaimMeets m cert.claim → checked m cert ≡ No (line_of_claim cert.first) reasons.Fault
 
 -- A fault stops the list of a node or rejects it, and all before its line is right.
 abbrev pub NodeFaultTold : Type 0
