@@ -1,10 +1,16 @@
 -- Where the check of a certificate tells a fault, a list meets one: line by line.
-use Rattle.std.proofs.Common.{◌≡◌, ℕ, ◌+◌, ◌⊎◌, inl, inr, suc, Bool, true, false, List, [], ◌∷◌, slice_get, Option, Some, None, Result, Ok, Err, refl, sym, ap, subst, ◌∙◌, arith}
+use Rattle.std.proofs.Common.{◌≡◌, ℕ, ◌+◌, ◌⊎◌, inl, inr, suc, Bool, true, false, List, [], ◌∷◌, ◌++◌, slice_get, take, Option, Some, None, Result, Ok, Err, refl, sym, ap, subst, ◌∙◌, arith}
+use Rattle.std.specs.Prelude.{ℤ}
 use Rattle.std.proofs.lemmas.Bool.{false≢true}
 use Rattle.std.proofs.lemmas.Option.{get_or_from_slice_get}
 use Rattle.dp_model.specs.declared.answers.Claim.{Claim}
 use Rattle.dp_model.specs.declared.answers.Claim.TheVariants.{Optimal, Infeasible}
+use Rattle.dp_model.specs.declared.answers.FaultKind.{FaultKind}
+use Rattle.dp_model.specs.declared.answers.Spot.{Spot}
+use Rattle.dp_model.specs.declared.answers.Spot.TheVariants as spots
+use Rattle.dp_model.specs.declared.parts.PlainState.{PlainState}
 use Rattle.dp_model.specs.declared.whole.Model.{Model}
+use Rattle.dp_steps.specs.Faults.{Meets, MeetsIn}
 use Rattle.spot_eval.specs.Looks.{looked_at}
 use Rattle.spot_eval.specs.declared.looks.Look.{Look}
 use Rattle.spot_eval.specs.declared.looks.Look.TheVariants as looks
@@ -24,7 +30,7 @@ use Rattle.cert_laws.specs.declared.answers.Checked.{Checked}
 use Rattle.cert_laws.specs.declared.answers.Checked.TheVariants.{Yes, No}
 use Rattle.cert_laws.proofs.Lists.{some_same, true_or}
 use Rattle.cert_laws.proofs.Walks.{node_found}
-use Rattle.cert_rows.specs.Faults.{ClaimMeets, FaultIsMet, IsStopped, NodeLineMeets, NodeMeets, TargetMeets, TotalMeets}
+use Rattle.cert_rows.specs.Faults.{ClaimMeets, FaultHasList, FaultIsMet, IsStopped, NodeLineMeets, NodeMeets, StepMeets, TargetMeets, TotalMeets}
 use Rattle.cert_rows.proofs.Claims.{replay_met}
 use Rattle.cert_rows.proofs.Meeting.{cut_met, list_met, must_no_fault, open_met, unless_some}
 
@@ -165,4 +171,51 @@ fault_is_met m cert line h =
         | inl claim ↦ inr (inl (claim.1, claim_met m cert.claim claim.0))
         | inr lines ↦ inr (inr (node_line_met m cert line (layers_reject m cert 0 cert.layers line lines)))
       ]
+    ]
+
+-- ---- some list
+
+-- a fault that is met without dual bounds is met with them
+with_bounds : (m : Model) (prune : Bool) (s : PlainState) (cost : Option ℤ) (spot : Spot) (kind : FaultKind) → MeetsIn m false cost s spot kind → MeetsIn m prune cost s spot kind
+with_bounds m prune s cost (spots.Constraint i) kind meets = meets
+with_bounds m prune s cost (spots.BaseCondition i j) kind meets = meets
+with_bounds m prune s cost (spots.BaseCost i) kind meets = meets
+with_bounds m prune s cost spots.Total kind meets = meets
+with_bounds m prune s cost (spots.Bound i) kind meets = absurd (false≢true meets.0.1)
+with_bounds m prune s cost (spots.Precondition g j) kind meets = meets
+with_bounds m prune s cost (spots.Weight g) kind meets = meets
+with_bounds m prune s cost (spots.Cost g) kind meets = meets
+with_bounds m prune s cost (spots.Effect g i) kind meets = meets
+
+-- some list meets some fault
+abbrev IsMet : Model → (prune : Bool) → Type 0
+IsMet m prune = (steps : List ℕ) × (spot : Spot) × (kind : FaultKind) × Meets m prune steps spot kind
+
+module _ (m : Model) (cert : Cert) where
+  without : (steps : List ℕ) (spot : Spot) (kind : FaultKind) → Meets m false steps spot kind → IsMet m cert.prune
+  without steps spot kind meets = (steps, spot, kind, (meets.0, meets.1, meets.2, with_bounds m cert.prune meets.0 meets.1 spot kind meets.3))
+
+  of_stopped : (steps : List ℕ) → IsStopped m steps → IsMet m cert.prune
+  of_stopped steps stopped = let met = stopped.meets in without (take stopped.done steps) met.0 met.1 met.3
+
+  of_claim : (claim : Claim) → ClaimMeets m claim → IsMet m cert.prune
+  of_claim Infeasible meets = absurd meets
+  of_claim (Optimal found) (inl stopped) = of_stopped found.steps stopped
+  of_claim (Optimal found) (inr total) = without found.steps spots.Total total.0 total.1
+
+  of_step : (steps : List ℕ) (g : ℕ) → StepMeets m cert.prune steps g → IsMet m cert.prune
+  of_step steps g (inl met) = (steps, met.0, met.1, met.3)
+  of_step steps g (inr met) = (steps ++ g ∷ [], met.0, met.1, met.3)
+
+  of_node : (l place : ℕ) (cut : Bool) → NodeMeets m cert l place cut → IsMet m cert.prune
+  of_node l place true (inl stopped) = of_stopped (list_of cert.layers l place) stopped
+  of_node l place false (inl stopped) = of_stopped (list_of cert.layers l place) stopped
+  of_node l place true (inr met) = (list_of cert.layers l place, spots.Bound met.0, met.1, met.2)
+  of_node l place false (inr step) = of_step (list_of cert.layers l place) step.g step.meets
+
+pub fault_has_list : FaultHasList
+fault_has_list m cert line h =
+    elim (fault_is_met m cert line h) [
+      | inl first ↦ (let met = first.2 in without m cert [] met.0 met.1 met.3)
+      | inr more ↦ elim more [ inl claim ↦ of_claim m cert cert.claim claim.1 | inr node ↦ of_node m cert node.l node.place node.n.cut node.meets ]
     ]

@@ -22,8 +22,8 @@ use Rattle.cert_laws.specs.declared.answers.Checked.TheVariants.{No}
 
 -- ---- which spots decide
 
--- The spot decides whether the step is taken: it is one of a look at the state, a precondition of the transition or of a
--- forced one that is tested before it, or the transition's weight, its cost or one of its effects.
+-- The spot decides whether the step is taken from a state: it is one of a look at the state, a precondition of the transition
+-- or of a forced one that is tested before it, or the transition's weight, its cost or one of its effects.
 abbrev pub Decides : Model → ℕ → Spot → Type 0
 Decides m g (spots.Precondition h j) = (h ≡ g) ⊎ (IsForced m h × ((h < g) ⊎ (IsForced m g → ⊥)))
 Decides m g (spots.Weight h) = h ≡ g
@@ -53,7 +53,8 @@ MeetsAt m prune steps At = (spot : Spot) × (kind : FaultKind) × At spot × Mee
 abbrev pub TargetMeets : Model → Type 0
 TargetMeets m = MeetsAt m false [] (λ spot. is_looked spot ≡ true)
 
--- A front of the list meets a fault that decides whether the next step is taken, or what the list leads to.
+-- A front of the list meets a fault that decides whether its next step is taken, or what the whole list leads to. No dual bound
+-- is evaluated.
 pub record IsStopped (m : Model) (steps : List ℕ) : Type 0 where
   pub done : ℕ
   pub within : done ≤ length steps
@@ -91,6 +92,10 @@ ClaimMeets m Infeasible = ⊥
 
 -- ---- where a fault is told, one is met
 
+-- Where the check tells a fault, some list of the model meets one. Where no list does, no fault is told.
+abbrev pub FaultHasList : Type 0
+FaultHasList = (m : Model) (cert : Cert) (line : ℕ) → checked m cert ≡ No line reasons.Fault → (steps : List ℕ) × (spot : Spot) × (kind : FaultKind) × Meets m cert.prune steps spot kind
+
 -- it is the first line
 abbrev pub FirstLineMeets : Model → Cert → (line : ℕ) → Type 0
 FirstLineMeets m cert line = (line ≡ cert.first) × (StartsAlone cert → ⊥) × TargetMeets m
@@ -108,7 +113,7 @@ pub record NodeLineMeets (m : Model) (cert : Cert) (line : ℕ) : Type 0 where
   pub is_line : line ≡ line_of_node cert.first cert.claim cert.layers l place
   pub meets : NodeMeets m cert l place n.cut
 
--- Where the check tells a fault, a list meets one: at the first line the empty list, at the line of the claim a front of the
+-- Which list that is: at the first line the empty list, at the line of the claim a front of the
 -- claimed list, at the line of a node a front of its list, or that list with one step more.
 abbrev pub FaultIsMet : Type 0
 FaultIsMet = (m : Model) (cert : Cert) (line : ℕ) → checked m cert ≡ No line reasons.Fault → FirstLineMeets m cert line ⊎ (ClaimLineMeets m cert line ⊎ NodeLineMeets m cert line)

@@ -1,8 +1,9 @@
 //! What a certificate says of the nodes that a pass of one shard kept, and that the certificate of an exhausted pass shows its
-//! claim. There is no code: the public function is a law, and its contract is what is proved.
+//! claim. And when the check of any certificate tells a fault. There is no code: each public function is a law, and its contract
+//! is what is proved.
 #![tactic(auto)]
 
-ghost use Rattle.cert_rows.specs.Faults.{ClaimFaultTold, FaultIsMet, NodeFaultTold, TargetFaultTold};
+ghost use Rattle.cert_rows.specs.Faults.{ClaimFaultTold, FaultHasList, FaultIsMet, NodeFaultTold, TargetFaultTold};
 ghost use Rattle.cert_rows.specs.Laws.{LawCut, LawLayers, LawRows, LawTarget};
 
 /// The certificate whose nodes are those that a pass of one shard kept.
@@ -19,11 +20,12 @@ pub fn law_rows()
 
 /// When the check of a certificate tells a fault.
 ///
-/// `met`: where it does, a list meets one: at the first line the empty list; at the line of the claim a front of the claimed
-/// list; at the line of a node a front of its list, or that list with one step more. `target_told`, `claim_told`, `node_told`:
-/// where the target, the claimed list or the list of a node meets one that decides, and all before its line is right, a fault is
-/// told at that line.
+/// `has_list`: where it does, some list of the model meets one. `met`: which list: at the first line the empty one; at the line
+/// of the claim a front of the claimed one; at the line of a node a front of its list, or that list with one step more.
+/// `target_told`, `claim_told`, `node_told`: where the target, the claimed list or the list of a node meets one that decides, and
+/// all before its line is right, a fault is told at that line.
 pub fn law_faults()
+    ensures has_list { FaultHasList }
     ensures met { FaultIsMet }
     ensures target_told { TargetFaultTold }
     ensures claim_told { ClaimFaultTold }
