@@ -1,4 +1,5 @@
 pub mod Texts
+pub mod Named
 pub mod Turns
 pub mod Wholes
 pub mod Logged

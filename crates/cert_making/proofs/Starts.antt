@@ -1,5 +1,5 @@
 -- The pass of a search for a certificate, and what it begins with.
-use Rattle.std.proofs.Common.{◌≡◌, ℕ, ◌+◌, ◌^◌, ◌<◌, ◌≤◌, ◌%◌, ◌⊎◌, true, Bool, List, [], ◌∷◌, length, Option, Some, None, Ok, Err, refl, sym, ap, subst, ◌∙◌, arith}
+use Rattle.std.proofs.Common.{◌≡◌, ℕ, ◌+◌, ◌^◌, ◌<◌, ◌≤◌, ◌%◌, ◌⊎◌, inl, true, Bool, List, [], ◌∷◌, length, Option, Some, None, Ok, Err, refl, sym, ap, subst, ◌∙◌, arith}
 use Rattle.std.specs.Prelude.{ℤ, pos, ◌≤ℤ◌, ◌<ℤ◌}
 use Rattle.std.proofs.lemmas.List.{append-nil}
 use Rattle.std.proofs.lemmas.Nat.{mod_below}
@@ -16,7 +16,6 @@ use Rattle.dp_steps.specs.Faults.{Meets, MeetsIn}
 use Rattle.dp_steps.specs.Lists.{Solution}
 use Rattle.dp_steps.specs.States.{Base, Forbidden, Inner}
 use Rattle.pass_ledger.specs.Passes.{Pass, IsStart}
-use Rattle.solve_report.proofs.Written.{TakesFront-longer}
 use Rattle.state_layout.specs.Signatures.{hash_of, owner_of, signature_of}
 use Rattle.state_layout.specs.Slots.{slots_of}
 use Rattle.state_layout.specs.declared.node.Node.{Node}
@@ -25,7 +24,7 @@ use Rattle.cert_types.specs.declared.cert.Cert.{Cert}
 use Rattle.cert_types.specs.declared.nodes.CertNode.{CertNode}
 use Rattle.cert_laws.specs.Shown.{layer_of, ClaimHolds, IsNotBelow, Shown, TargetEnds, claimed_word}
 use Rattle.cert_rows.proofs.Backed.{law_of_cut, law_of_target}
-use Rattle.cert_text.specs.Texts.{end_line, head_lines, text_of_lines}
+use Rattle.cert_text.specs.Texts.{head_lines, text_of_lines}
 use Rattle.cert_making.specs.Makes.{IsPassFor}
 use Rattle.dp_model.specs.declared.answers.FaultAt.{FaultAt}
 use Rattle.dp_model.specs.declared.answers.Written.TheVariants as writtens
@@ -37,13 +36,13 @@ use Rattle.dp_model.specs.declared.answers.Found.{Found}
 use Rattle.dp_model.specs.declared.answers.Keep.{Keep}
 use Rattle.shard_core.specs.Stands.{Suited}
 use Rattle.cert_making.proofs.Wholes.{better_than}
-use Rattle.cert_making.specs.Written.{AreLayers, HasHead, IsBegun, IsBetterThan, IsBroken, Tells, open_lines}
+use Rattle.cert_making.specs.Written.{AreLayers, HasHead, IsBegun, IsBetterThan, IsBroken, Tells}
 use Rattle.cert_types.specs.Lines.{line_of_end}
 use Rattle.cost_laws.specs.Orders.{IsLawOf}
 use Rattle.dp_model.specs.declared.parts.JoinOp.{JoinOp}
 use Rattle.successors.specs.Starts.{StartFits, start_at}
 use Rattle.successors.specs.declared.starts.Start.{Start}
-use Rattle.cert_making.proofs.Texts.{lines_append, lines_push}
+use Rattle.cert_making.proofs.Texts.{lines_push}
 use Rattle.cert_making.proofs.Turns.{pos_less, pos_mono}
 
 -- ---- the pass
@@ -87,27 +86,21 @@ inner_in m options p is inner = subst (λ (x : Model). Inner x x.target) (sym is
 
 -- ---- no layers
 
-pub no_layers : AreLayers []
-no_layers = record { made = refl; parents = refl; full = λ l lt. absurd (none l lt) }
+pub no_layers : (m : Model) → AreLayers m []
+no_layers m = record { made = refl; parents = refl; named = refl; full = λ l lt. absurd (none l lt) }
   where
     none : (l : ℕ) → l < 0 → ⊥
     none l lt = absurd (omega (arith, lt))
 
 pub head_begun : (m : Model) (options : Options) (claim : Claim) (before now : Option (List ℕ)) → HasHead m options claim before now → IsBegun m options claim before now
-head_begun m options claim before now h = record { layers = []; are = no_layers; text = h }
+head_begun m options claim before now h = record { layers = []; are = no_layers m; text = h }
 
 pub head_whole : (m : Model) (options : Options) (claim : Claim) (before now : Option (List ℕ)) → Takes before now (text_of_lines (head_lines m options.keep options.prune claim)) → HasHead m options claim before now
 head_whole m options claim before now h = subst (λ (ls : List (List ℕ)). Takes before now (text_of_lines ls)) (sym (append-nil (head_lines m options.keep options.prune claim))) h
 
 pub head_broken : (m : Model) (options : Options) (claim : Claim) (before now : Option (List ℕ)) → TakesFront before now (text_of_lines (head_lines m options.keep options.prune claim)) → IsBroken m options claim before now
 head_broken m options claim before now h =
-    record {
-      layers = [];
-      are = no_layers;
-      text = subst (λ (t : List ℕ). TakesFront before now t) (sym (lines_append (open_lines m options claim []) (end_line 0 ∷ [])))
-          (TakesFront-longer before now (text_of_lines (open_lines m options claim [])) (text_of_lines (end_line 0 ∷ []))
-          (subst (λ (ls : List (List ℕ)). TakesFront before now (text_of_lines ls)) (sym (append-nil (head_lines m options.keep options.prune claim))) h));
-    }
+    inl (record { layers = []; are = no_layers m; text = subst (λ (ls : List (List ℕ)). TakesFront before now (text_of_lines ls)) (sym (append-nil (head_lines m options.keep options.prune claim))) h })
 
 -- ---- the target ends the search
 
@@ -135,8 +128,8 @@ cut_shown m options claim claimed n holds inner start is high cert ck cp same cl
     law_of_cut m cert (subst (ClaimHolds m) (sym same) holds) cl inner high.0 (subst (λ (b : Bool). IsFloor m b m.target None (Some high.0)) (sym cp) floor)
     (subst (λ (c : Claim). IsNotBelow m c high.0) (sym same) (subst (λ (w : ℤ). w ≤ℤ order_word m.minimize m.join (Some high.0)) (sym is) high.2))
 
-pub cut_layers : AreLayers (cut_layer ∷ [])
-cut_layers = record { made = refl; parents = refl; full = λ l lt. one l lt }
+pub cut_layers : (m : Model) → AreLayers m (cut_layer ∷ [])
+cut_layers m = record { made = refl; parents = refl; named = refl; full = λ l lt. one l lt }
   where
     one : (l : ℕ) → l < 1 → 0 < length (layer_of (cut_layer ∷ []) l)
     one l lt = subst (λ (k : ℕ). 0 < length (layer_of (cut_layer ∷ []) k)) (sym (first l lt)) (omega arith)

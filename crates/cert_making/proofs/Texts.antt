@@ -11,11 +11,11 @@ use Rattle.dp_model.specs.declared.answers.Options.{Options}
 use Rattle.dp_model.specs.declared.whole.Model.{Model}
 use Rattle.dp_outside.specs.Outside.{Takes, TakesFront}
 use Rattle.dp_outside.proofs.Steps.{Takes-more}
-use Rattle.solve_report.proofs.Written.{TakesFront-append, TakesFront-longer}
+use Rattle.solve_report.proofs.Written.{TakesFront-append}
 use Rattle.cert_types.specs.Lines.{line_of_end, lines_of_layer, lines_of_list}
 use Rattle.cert_types.specs.declared.nodes.CertNode.{CertNode}
 use Rattle.cert_laws.specs.Shown.{layer_of}
-use Rattle.cert_text.specs.Texts.{end_line, head_lines, layer_lines, layers_lines, text_of_lines}
+use Rattle.cert_text.specs.Texts.{head_lines, layer_lines, layers_lines, text_of_lines}
 use Rattle.cert_making.specs.Makes.{IsUnwritten, Writes, with_layer}
 use Rattle.cert_making.specs.Written.{open_lines}
 use Rattle.cert_making.specs.declared.ends.Halt.{Halt}
@@ -59,13 +59,10 @@ takes_front m options claim before now after layers more h k =
     subst (λ (t : List ℕ). TakesFront before after t) (sym (lines_append (open_lines m options claim layers) more))
     (TakesFront-append before now after (text_of_lines (open_lines m options claim layers)) (text_of_lines more) h k)
 
--- and of the layer, behind which the last line would stand
+-- and of the lines of one more layer
 pub broken_layer : (m : Model) (options : Options) (claim : Claim) (before after : Option (List ℕ)) (layers : List (List CertNode)) (cs : List CertNode) → TakesFront before after (text_of_lines (open_lines m options claim layers ++ layer_lines m (length layers) cs))
-    → TakesFront before after (text_of_lines (open_lines m options claim (layers ++ cs ∷ []) ++ end_line (length (layers ++ cs ∷ [])) ∷ []))
-broken_layer m options claim before after layers cs h =
-    subst (λ (t : List ℕ). TakesFront before after t) (sym (lines_append (open_lines m options claim (layers ++ cs ∷ [])) (end_line (length (layers ++ cs ∷ [])) ∷ [])))
-    (TakesFront-longer before after (text_of_lines (open_lines m options claim (layers ++ cs ∷ []))) (text_of_lines (end_line (length (layers ++ cs ∷ [])) ∷ []))
-    (subst (λ (ls : List (List ℕ)). TakesFront before after (text_of_lines ls)) (sym (open_push m options claim layers cs)) h))
+    → TakesFront before after (text_of_lines (open_lines m options claim (layers ++ cs ∷ [])))
+broken_layer m options claim before after layers cs h = subst (λ (ls : List (List ℕ)). TakesFront before after (text_of_lines ls)) (sym (open_push m options claim layers cs)) h
 
 -- ---- the number of the last line
 

@@ -29,24 +29,25 @@ use Rattle.cert_rows.proofs.Ends.{exhausted}
 use Rattle.cert_rows.proofs.Layers.{law_of_layers}
 use Rattle.cert_text.specs.Texts.{end_line, layer_lines, layers_lines, head_lines, text_of_lines}
 use Rattle.cert_making.specs.Makes.{Ends, IsUnwritten, Makes, Stops, Works, Writes, with_layer}
-use Rattle.cert_making.specs.Written.{AreLayers, HasHead, IsBegun, IsBetterThan, IsWhole, PutsLast, PutsTarget, Tells, open_lines}
+use Rattle.cert_making.specs.Written.{AreLayers, HasHead, IsBegun, IsBetterThan, IsFrontOfWhole, IsMade, IsWhole, PutsLast, PutsTarget, Tells, open_lines}
 use Rattle.cert_making.specs.declared.ends.CertEnd.{CertEnd}
 use Rattle.cert_making.specs.declared.ends.CertEnd.TheVariants as ends
 use Rattle.cert_making.specs.declared.ends.Halt.{Halt}
 use Rattle.cert_making.specs.declared.ends.Halt.TheVariants as halts
 use Rattle.cert_making.specs.declared.progress.Progress.{Progress}
+use Rattle.cert_making.proofs.Named.{layers_named}
 use Rattle.cert_making.proofs.Turns.{if_err, if_ok, me_first}
-use Rattle.cert_making.proofs.Texts.{broken_layer, full_push, lines_append, lines_enough, takes_front}
+use Rattle.cert_making.proofs.Texts.{broken_layer, full_push, lines_append, lines_enough, open_push}
 
 -- ---- the layers
 
 module _ {A B : Type 0} (p : Pass) (claimed budget : ℕ) (s : Shard A B) (layers : List (List CertNode)) (first : ℕ) (a : Makes p claimed budget s layers first) where
-  pub are_layers : ((l : ℕ) → l < length layers → 0 < length (layer_of layers l)) → AreLayers layers
+  pub are_layers : ((l : ℕ) → l < length layers → 0 < length (layer_of layers l)) → AreLayers p.model layers
   are_layers full =
       let law = law_of_layers p a.shard_record layers a.on.rows in
-      record { made = law.0; parents = law.1; full = full }
+      record { made = law.0; parents = law.1; named = layers_named p a.shard_record layers a.on.rows; full = full }
 
-pub begun : (m : Model) (options : Options) (claim : Claim) (before now : Option (List ℕ)) (layers : List (List CertNode)) (progress : Progress) → Writes m options claim before now layers progress → AreLayers layers → IsBegun m options claim before now
+pub begun : (m : Model) (options : Options) (claim : Claim) (before now : Option (List ℕ)) (layers : List (List CertNode)) (progress : Progress) → Writes m options claim before now layers progress → AreLayers m layers → IsBegun m options claim before now
 begun m options claim before now layers progress w are = record { layers = layers; are = are; text = w.text }
 
 pub full_with : (layers : List (List CertNode)) (cs : List CertNode) → ((l : ℕ) → l < length layers → 0 < length (layer_of layers l)) → (l : ℕ) → l < length (with_layer layers cs) → 0 < length (layer_of (with_layer layers cs) l)
@@ -58,7 +59,7 @@ full_with layers (c ∷ cs) full = full_push layers (c ∷ cs) full (some (lengt
 
 -- a layer was not written
 pub unwritten : {A B : Type 0} (p : Pass) (options : Options) (claim : Claim) (claimed budget : ℕ) (s : Shard A B) (before now : Option (List ℕ)) (layers : List (List CertNode)) (cs : List CertNode) (halt : Halt)
-    → IsUnwritten p.model options claim before now layers cs halt → AreLayers layers → AreLayers (with_layer layers cs) → Stops p options claim claimed budget s before now halt
+    → IsUnwritten p.model options claim before now layers cs halt → AreLayers p.model layers → AreLayers p.model (with_layer layers cs) → Stops p options claim claimed budget s before now halt
 unwritten p options claim claimed budget s before now layers cs halts.Budget h are with = absurd h
 unwritten p options claim claimed budget s before now layers cs halts.Better h are with = absurd h
 unwritten p options claim claimed budget s before now layers cs halts.Fault h are with = absurd h
@@ -67,7 +68,7 @@ unwritten p options claim claimed budget s before now layers [] halts.Write h ar
   where
     none : 0 < 0 → ⊥
     none lt = absurd (omega (arith, lt))
-unwritten p options claim claimed budget s before now layers (c ∷ cs) halts.Write h are with = record { layers = layers ++ (c ∷ cs) ∷ []; are = with; text = broken_layer p.model options claim before now layers (c ∷ cs) h.0 }
+unwritten p options claim claimed budget s before now layers (c ∷ cs) halts.Write h are with = inl (record { layers = layers ++ (c ∷ cs) ∷ []; are = with; text = broken_layer p.model options claim before now layers (c ∷ cs) h.0 })
 
 -- the shard ended behind a whole layer
 pub ended : {A B : Type 0} (p : Pass) (options : Options) (claim : Claim) (claimed budget : ℕ) (s : Shard A B) (before now : Option (List ℕ)) (halt : Halt) → Ends p claimed budget s halt → IsBegun p.model options claim before now → Stops p options claim claimed budget s before now halt
@@ -79,42 +80,41 @@ ended p options claim claimed budget s before now halts.Write h b = absurd h
 
 -- ---- whole certificates
 
-text_whole : (m : Model) (options : Options) (claim : Claim) (before now after : Option (List ℕ)) (layers : List (List CertNode)) → Takes before now (text_of_lines (open_lines m options claim layers)) → Takes now after (line (end_line (length layers)))
-    → Takes before after (text_of_lines (head_lines m options.keep options.prune claim ++ (layers_lines m 0 layers ++ end_line (length layers) ∷ [])))
-text_whole m options claim before now after layers h k =
-    let one : text_of_lines (end_line (length layers) ∷ []) ≡ line (end_line (length layers)) = append-nil (line (end_line (length layers))) in
-    let all : text_of_lines (open_lines m options claim layers) ++ line (end_line (length layers)) ≡ text_of_lines (head_lines m options.keep options.prune claim ++ (layers_lines m 0 layers ++ end_line (length layers) ∷ [])) =
-    ap (λ (t : List ℕ). text_of_lines (open_lines m options claim layers) ++ t) (sym one) ∙ (sym (lines_append (open_lines m options claim layers) (end_line (length layers) ∷ []))
-    ∙ ap text_of_lines (append_assoc (head_lines m options.keep options.prune claim) (layers_lines m 0 layers) (end_line (length layers) ∷ []))) in
-    subst (λ (t : List ℕ). Takes before after t) all (Takes-more before now after (text_of_lines (open_lines m options claim layers)) (line (end_line (length layers))) h k)
+-- the last line, behind the others, ends a certificate's text
+text_whole : (m : Model) (options : Options) (claim : Claim) (layers : List (List CertNode))
+    → text_of_lines (open_lines m options claim layers) ++ line (end_line (length layers)) ≡ text_of_lines (head_lines m options.keep options.prune claim ++ (layers_lines m 0 layers ++ end_line (length layers) ∷ []))
+text_whole m options claim layers =
+    ap (λ (t : List ℕ). text_of_lines (open_lines m options claim layers) ++ t) (sym (append-nil (line (end_line (length layers)))))
+    ∙ (sym (lines_append (open_lines m options claim layers) (end_line (length layers) ∷ []))
+    ∙ ap text_of_lines (append_assoc (head_lines m options.keep options.prune claim) (layers_lines m 0 layers) (end_line (length layers) ∷ [])))
 
--- a certificate of these layers, which shows the claim, was put
-whole_with : (m : Model) (options : Options) (claim : Claim) (before now after : Option (List ℕ)) (layers : List (List CertNode)) (are : AreLayers layers) (few : line_of_end 1 claim layers < 2 ^ 32)
-    → ((cert : Cert) → cert.keep ≡ options.keep → cert.prune ≡ options.prune → cert.claim ≡ claim → cert.layers ≡ layers → Shown m cert)
-    → Takes before now (text_of_lines (open_lines m options claim layers)) → Takes now after (line (end_line (length layers))) → IsWhole m options claim before after
-whole_with m options claim before now after layers are few shown h k =
-    record {
-      cert = record { first = 1; keep = options.keep; prune = options.prune; claim = claim; layers = layers; made = are.made; parents = are.parents; few_lines = few };
-      keep = refl;
-      prune = refl;
-      claim_is = refl;
-      full = are.full;
-      shown = shown (record { first = 1; keep = options.keep; prune = options.prune; claim = claim; layers = layers; made = are.made; parents = are.parents; few_lines = few }) refl refl refl refl;
-      text = text_whole m options claim before now after layers h k;
-    }
+-- a certificate of these layers, which shows the claim
+module _ (m : Model) (options : Options) (claim : Claim) (layers : List (List CertNode)) (are : AreLayers m layers) (few : line_of_end 1 claim layers < 2 ^ 32)
+    (shown : (cert : Cert) → cert.keep ≡ options.keep → cert.prune ≡ options.prune → cert.claim ≡ claim → cert.layers ≡ layers → Shown m cert) where
+  abbrev cert_with : Cert
+  cert_with = record { first = 1; keep = options.keep; prune = options.prune; claim = claim; layers = layers; made = are.made; parents = are.parents; few_lines = few }
+
+  made_with : IsMade m options claim cert_with
+  made_with = record { keep = refl; prune = refl; claim_is = refl; full = are.full; shown = shown cert_with refl refl refl refl }
+
+  whole_with : (before after : Option (List ℕ)) → Takes before after (text_of_lines (open_lines m options claim layers) ++ line (end_line (length layers))) → IsWhole m options claim before after
+  whole_with before after h = record { cert = cert_with; made = made_with; text = subst (λ (t : List ℕ). Takes before after t) (text_whole m options claim layers) h }
+
+  front_with : (before after : Option (List ℕ)) → TakesFront before after (text_of_lines (open_lines m options claim layers) ++ line (end_line (length layers))) → IsFrontOfWhole m options claim before after
+  front_with before after h = record { cert = cert_with; made = made_with; text = subst (λ (t : List ℕ). TakesFront before after t) (text_whole m options claim layers) h }
 
 -- the last line was put behind the layers
-pub told_last : (m : Model) (options : Options) (claim : Claim) (before now after : Option (List ℕ)) (faults_now faults_after count : ℕ) (layers : List (List CertNode)) (are : AreLayers layers) → line_of_end 1 claim layers < 2 ^ 32 → count ≡ length layers
+pub told_last : (m : Model) (options : Options) (claim : Claim) (before now after : Option (List ℕ)) (faults_now faults_after count : ℕ) (layers : List (List CertNode)) (are : AreLayers m layers) → line_of_end 1 claim layers < 2 ^ 32 → count ≡ length layers
     → ((cert : Cert) → cert.keep ≡ options.keep → cert.prune ≡ options.prune → cert.claim ≡ claim → cert.layers ≡ layers → Shown m cert)
     → Takes before now (text_of_lines (open_lines m options claim layers)) → (result : Result Written CertEnd) → PutsLast now after faults_now faults_after count result → Tells m options claim before after result
 told_last m options claim before now after faults_now faults_after count layers are few is shown h (Ok w) puts =
     let k = subst (λ (n : ℕ). Takes now after (line (end_line n))) is puts.whole.1 in
-    subst (λ (x : Written). Tells m options claim before after (Ok x)) (sym puts.whole.0) (whole_with m options claim before now after layers are few shown h k)
+    subst (λ (x : Written). Tells m options claim before after (Ok x)) (sym puts.whole.0)
+    (whole_with m options claim layers are few shown before after (Takes-more before now after (text_of_lines (open_lines m options claim layers)) (line (end_line (length layers))) h k))
 told_last m options claim before now after faults_now faults_after count layers are few is shown h (Err e) puts =
     let k = subst (λ (n : ℕ). TakesFront now after (line (end_line n))) is puts.broken.1 in
-    let one : line (end_line (length layers)) ≡ text_of_lines (end_line (length layers) ∷ []) = sym (append-nil (line (end_line (length layers)))) in
     subst (λ (x : CertEnd). Tells m options claim before after (Err x)) (sym puts.broken.0)
-    (record { layers = layers; are = are; text = takes_front m options claim before now after layers (end_line (length layers) ∷ []) h (subst (λ (t : List ℕ). TakesFront now after t) one k) })
+    (inr (front_with m options claim layers are few shown before after (TakesFront-append before now after (text_of_lines (open_lines m options claim layers)) (line (end_line (length layers))) h k)))
 
 -- the pass is exhausted
 pub exhausted_shown : {A B : Type 0} (p : Pass) (options : Options) (claim : Claim) (claimed budget : ℕ) (s : Shard A B) (before now : Option (List ℕ)) (progress : Progress) (w : Works p options claim claimed budget s before now progress) → Done p 0 w.makes.shard_record
@@ -139,7 +139,7 @@ better_than m claims.Infeasible claimed cost is less = tt
 -- ---- between two layers
 
 module _ {A B : Type 0} (p : Pass) (options : Options) (claim : Claim) (claimed budget : ℕ) (s : Shard A B) (before now : Option (List ℕ)) (progress : Progress) (w : Works p options claim claimed budget s before now progress) where
-  pub works_layers : AreLayers w.layers
+  pub works_layers : AreLayers p.model w.layers
   works_layers = are_layers p claimed budget s w.layers progress.first w.makes w.writes.full
 
   -- memory ran out before the next layer was written
@@ -199,6 +199,14 @@ cut_all m = text_of_lines (layer_lines m 0 (record { made = None; cut = true } �
 cut_whole : (m : Model) → cut_text m ++ line (end_line 1) ≡ cut_all m
 cut_whole m = ap (λ (t : List ℕ). cut_text m ++ t) (sym (append-nil (line (end_line 1)))) ∙ sym (lines_append (layer_lines m 0 (record { made = None; cut = true } ∷ [])) (end_line 1 ∷ []))
 
+-- behind the head these are all lines of a certificate
+cut_last : (m : Model) (options : Options) (claim : Claim) → text_of_lines (open_lines m options claim []) ++ cut_all m ≡ text_of_lines (open_lines m options claim ((record { made = None; cut = true } ∷ []) ∷ [])) ++ line (end_line 1)
+cut_last m options claim =
+    ap (λ (t : List ℕ). text_of_lines (open_lines m options claim []) ++ t) (sym (cut_whole m))
+    ∙ (sym (append_assoc (text_of_lines (open_lines m options claim [])) (cut_text m) (line (end_line 1)))
+    ∙ ap (λ (t : List ℕ). t ++ line (end_line 1))
+    (sym (lines_append (open_lines m options claim []) (layer_lines m 0 (record { made = None; cut = true } ∷ []))) ∙ ap text_of_lines (sym (open_push m options claim [] (record { made = None; cut = true } ∷ [])))))
+
 pub rose_later : (a b c : ℕ) → a ≤ b → Rose b c → Rose a c
 rose_later a b c h (inl less) = inl (omega (arith, h, less))
 rose_later a b c h (inr most) = inr most
@@ -217,39 +225,17 @@ target_more m before now after faults_before faults_now faults_after nodes done 
     up a b c h k = omega (arith, h, k)
 
 -- the target's node was put, which is cut, and the last line
-pub told_target : (m : Model) (options : Options) (claim : Claim) (before now after : Option (List ℕ)) (faults_now faults_after : ℕ) → AreLayers ((record { made = None; cut = true } ∷ []) ∷ []) → line_of_end 1 claim ((record { made = None; cut = true } ∷ []) ∷ []) < 2 ^ 32
+pub told_target : (m : Model) (options : Options) (claim : Claim) (before now after : Option (List ℕ)) (faults_now faults_after : ℕ) → AreLayers m ((record { made = None; cut = true } ∷ []) ∷ []) → line_of_end 1 claim ((record { made = None; cut = true } ∷ []) ∷ []) < 2 ^ 32
     → ((cert : Cert) → cert.keep ≡ options.keep → cert.prune ≡ options.prune → cert.claim ≡ claim → cert.layers ≡ (record { made = None; cut = true } ∷ []) ∷ [] → Shown m cert)
     → Takes before now (text_of_lines (open_lines m options claim [])) → (result : Result Written CertEnd) → PutsTarget m now after faults_now faults_after result → Tells m options claim before after result
 told_target m options claim before now after faults_now faults_after are few shown h (Ok w) puts =
     subst (λ (x : Written). Tells m options claim before after (Ok x)) (sym puts.whole.0)
-    (record {
-      cert = record { first = 1; keep = options.keep; prune = options.prune; claim = claim; layers = (record { made = None; cut = true } ∷ []) ∷ []; made = are.made; parents = are.parents; few_lines = few };
-      keep = refl;
-      prune = refl;
-      claim_is = refl;
-      full = are.full;
-      shown = shown (record { first = 1; keep = options.keep; prune = options.prune; claim = claim; layers = (record { made = None; cut = true } ∷ []) ∷ []; made = are.made; parents = are.parents; few_lines = few }) refl refl refl refl;
-      text = all (Takes before after) (Takes-more before now after (text_of_lines (open_lines m options claim [])) (text_of_lines (layer_lines m 0 (record { made = None; cut = true } ∷ []) ++ end_line 1 ∷ [])) h puts.whole.1);
-    })
-  where
-    all : (P : List ℕ → Type 0) → P (text_of_lines (open_lines m options claim []) ++ text_of_lines (layer_lines m 0 (record { made = None; cut = true } ∷ []) ++ end_line 1 ∷ []))
-        → P (text_of_lines (head_lines m options.keep options.prune claim ++ (layers_lines m 0 ((record { made = None; cut = true } ∷ []) ∷ []) ++ end_line 1 ∷ [])))
-    all P h =
-        subst P
-        (sym (lines_append (open_lines m options claim []) (layer_lines m 0 (record { made = None; cut = true } ∷ []) ++ end_line 1 ∷ []))
-        ∙ ap text_of_lines (ap (λ (ls : List (List ℕ)). ls ++ (layer_lines m 0 (record { made = None; cut = true } ∷ []) ++ end_line 1 ∷ [])) (append-nil (head_lines m options.keep options.prune claim))))
-        h
+    (whole_with m options claim ((record { made = None; cut = true } ∷ []) ∷ []) are few shown before after
+    (subst (λ (t : List ℕ). Takes before after t) (cut_last m options claim) (Takes-more before now after (text_of_lines (open_lines m options claim [])) (cut_all m) h puts.whole.1)))
 told_target m options claim before now after faults_now faults_after are few shown h (Err e) puts =
     subst (λ (x : CertEnd). Tells m options claim before after (Err x)) (sym puts.broken.0)
-    (record {
-      layers = (record { made = None; cut = true } ∷ []) ∷ [];
-      are = are;
-      text = subst (λ (ls : List (List ℕ)). TakesFront before after (text_of_lines ls)) (one_layer (head_lines m options.keep options.prune claim) (layer_lines m 0 (record { made = None; cut = true } ∷ [])) (end_line 1 ∷ []))
-          (takes_front m options claim before now after [] (layer_lines m 0 (record { made = None; cut = true } ∷ []) ++ end_line 1 ∷ []) h puts.broken.1);
-    })
-  where
-    one_layer : (a b c : List (List ℕ)) → (a ++ []) ++ (b ++ c) ≡ (a ++ (b ++ [])) ++ c
-    one_layer a b c = ap (λ (x : List (List ℕ)). x ++ (b ++ c)) (append-nil a) ∙ (sym (append_assoc a b c) ∙ ap (λ (x : List (List ℕ)). (a ++ x) ++ c) (sym (append-nil b)))
+    (inr (front_with m options claim ((record { made = None; cut = true } ∷ []) ∷ []) are few shown before after
+    (subst (λ (t : List ℕ). TakesFront before after t) (cut_last m options claim) (TakesFront-append before now after (text_of_lines (open_lines m options claim [])) (cut_all m) h puts.broken.1))))
 
 -- ---- the answers
 

@@ -34,7 +34,7 @@ use Rattle.solve_best.specs.Texts as bests
 use Rattle.solve_passes.specs.Ongoing.{Concluded}
 use Rattle.solve_passes.specs.Records.{Ending, Ended, OutOfMemory, claim_after, claim_of, ending_status, last_solution, record_text, solutions}
 use Rattle.solve_passes.specs.declared.progress.Printing.TheVariants.{All}
-use Rattle.solve_top.specs.Behind.{Behind, Nothing, Whole, Begun, OutOfRoom, NoRoom, Broken, Follows, IsBehind, Prints, RightBehind, RightCause, Solves, SolvesBest, TakesWith, WasPrinted, WritesBehind, behind_status, behind_text}
+use Rattle.solve_top.specs.Behind.{Behind, Nothing, Whole, Begun, OutOfRoom, NoRoom, Follows, IsBehind, Prints, RightBehind, RightCause, Solves, SolvesBest, WasPrinted, WritesBehind, behind_text}
 use Rattle.solve_top.specs.Jobs.{keeping_all}
 
 -- ---- a text behind another
@@ -56,16 +56,8 @@ as_text : (before after : Option (List ℕ)) (text other : List ℕ) (wanted sta
 as_text before after text other wanted status e writes = subst (λ (t : List ℕ). Writes before after t wanted status) e writes
 
 -- what stands behind a text, and that text
-with_front : (m : Model) (options : Options) (behind : Behind) (first second third : Option (List ℕ)) (front : List ℕ) → Takes first second front → TakesWith second third [] m options behind → TakesWith first third front m options behind
-with_front m options Nothing first second third front took h = Takes-more first second third front (behind_text m options Nothing) took h
-with_front m options (Whole cert) first second third front took h = Takes-more first second third front (behind_text m options (Whole cert)) took h
-with_front m options (Begun claim layers why) first second third front took h = Takes-more first second third front (behind_text m options (Begun claim layers why)) took h
-with_front m options (OutOfRoom claim layers) first second third front took h = Takes-more first second third front (behind_text m options (OutOfRoom claim layers)) took h
-with_front m options NoRoom first second third front took h = Takes-more first second third front (behind_text m options NoRoom) took h
-with_front m options (Broken claim layers) first second third front took h = h
-
 then_prints : (m : Model) (options : Options) (behind : Behind) (first second third : Option (List ℕ)) (front : List ℕ) (wanted status : Status) → Takes first second front → Prints second third [] m options behind wanted status → Prints first third front m options behind wanted status
-then_prints m options behind first second third front wanted status took (inl h) = inl (h.0, with_front m options behind first second third front took h.1)
+then_prints m options behind first second third front wanted status took (inl h) = inl (h.0, Takes-more first second third front (behind_text m options behind) took h.1)
 then_prints m options behind first second third front wanted status took (inr h) = inr (h.0, TakesFront-append first second third front (behind_text m options behind) took h.1)
 
 -- ---- behind a verdict
@@ -75,7 +67,7 @@ module _ (m : Model) (options : Options) (claim : Claim) (status : Status) (firs
   pub written_behind : (written : Written) → Tells m options claim first second (Ok written) → Writes second third (written_text m written) status result → WritesBehind m options claim status first third result
   written_behind writtens.Whole told writes = (
     Whole told.cert,
-    record { keep = told.keep; prune = told.prune; claim_is = told.claim_is; full = told.full; shown = told.shown },
+    told.made,
     as_text first third (text_of m (parts_of told.cert) ++ []) (text_of m (parts_of told.cert)) status result (append-nil (text_of m (parts_of told.cert)))
         (then_writes first second third (text_of m (parts_of told.cert)) [] status result told.text writes),
   )
@@ -94,9 +86,11 @@ module _ (m : Model) (options : Options) (claim : Claim) (status : Status) (firs
       (OutOfRoom claim b.layers, (refl, b.are), then_writes first second third (text_of_lines (open_lines m options claim b.layers)) (line (codes "memory")) statuses.Memory result b.text writes)
   no_room_behind (inr none) writes = (NoRoom, tt, then_writes first second third [] (line (codes "memory")) statuses.Memory result none writes)
 
--- a write failed
+-- A write failed. A front of whole lines is one of these lines and `memory` behind them.
 pub broken_behind : (m : Model) (options : Options) (claim : Claim) (status : Status) (first second : Option (List ℕ)) → Tells m options claim first second (Err ends.Write) → WritesBehind m options claim status first second statuses.WriteFault
-broken_behind m options claim status first second told = (Broken claim told.layers, (refl, told.are), inr (refl, told.text))
+broken_behind m options claim status first second (inl b) =
+    (OutOfRoom claim b.layers, (refl, b.are), inr (refl, TakesFront-longer first second (text_of_lines (open_lines m options claim b.layers)) (line (codes "memory")) b.text))
+broken_behind m options claim status first second (inr w) = (Whole w.cert, w.made, inr (refl, w.text))
 
 pub puts_behind : (m : Model) (options : Options) (claim : Claim) (status : Status) (first second third : Option (List ℕ)) (f g : ℕ) (written : Written) (put : Result (Unit {0}) Failed) (result : Status) → Tells m options claim first second (Ok written) → Puts second third f g (written_text m written) put → OnOk put (result ≡ status) → OnErr put (result ≡ statuses.WriteFault)
     → WritesBehind m options claim status first third result

@@ -24,7 +24,7 @@ use Rattle.solve_best.specs.Texts as bests
 use Rattle.run_ends.specs.Statuses.{code_of}
 use Rattle.run_ends.specs.declared.status.Status.{Status}
 use Rattle.solve_top.specs.Answers.{CanEnd, CanEndBest, CanEndBy, IsSettled, IsSmall, SettlesFiles, SettlesGenerated, SettlesSmall}
-use Rattle.solve_top.specs.Behind.{Behind, Nothing, Whole, Begun, OutOfRoom, NoRoom, Broken, behind_status}
+use Rattle.solve_top.specs.Behind.{Behind, Nothing, Whole, Begun, OutOfRoom, NoRoom, behind_status}
 use Rattle.solve_top.specs.Files.{IsShort, IsLong, IsText, AreTexts, AtFile, OfTexts}
 use Rattle.solve_top.specs.Jobs.{Asks, gen_options, names_of, third_of}
 use Rattle.solve_top.specs.Outcomes.{Outcome, NoMeaning, ReadFault, TooLong, Refused, NoMemory, Solving, SolvingBest, Replayed, Checked, Shown, NoGenerated, Generated, ComesOf, Printed, outcome_status}
@@ -85,7 +85,6 @@ behind_settled status (Whole cert) h = h
 behind_settled status (Begun claim layers why) h = h
 behind_settled status (OutOfRoom claim layers) h = memory
 behind_settled status NoRoom h = memory
-behind_settled status (Broken claim layers) h = write_fault
 
 -- ---- what cannot come where a job is asked for
 

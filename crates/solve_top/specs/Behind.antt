@@ -1,5 +1,5 @@
 -- What stands behind the verdict of a search for which a certificate is asked.
-use Rattle.std.specs.Prelude.{◌≡◌, ℕ, ◌<◌, ◌+◌, ◌⊎◌, Bool, true, false, List, [], ◌∷◌, ◌++◌, length, slice_get, Option, Some, None, codes}
+use Rattle.std.specs.Prelude.{◌≡◌, ℕ, ◌+◌, ◌⊎◌, Bool, true, false, List, [], ◌++◌, slice_get, Option, Some, None, codes}
 use Rattle.std.specs.Option.{is_some}
 use Rattle.dp_outside.specs.Outside.{Takes, TakesFront}
 use Rattle.dp_base.specs.Bytes.{line}
@@ -14,9 +14,8 @@ use Rattle.dp_claims.specs.Enough.{IsAtMostReached}
 use Rattle.cert_types.specs.Parts.{parts_of}
 use Rattle.cert_types.specs.declared.cert.Cert.{Cert}
 use Rattle.cert_types.specs.declared.nodes.CertNode.{CertNode}
-use Rattle.cert_laws.specs.Shown.{Shown, layer_of}
-use Rattle.cert_text.specs.Texts.{end_line, text_of, text_of_lines}
-use Rattle.cert_making.specs.Written.{AreLayers, IsBetterThan, open_lines}
+use Rattle.cert_text.specs.Texts.{text_of, text_of_lines}
+use Rattle.cert_making.specs.Written.{AreLayers, IsBetterThan, IsMade, open_lines}
 use Rattle.run_ends.specs.declared.solved.Solved.{Solved}
 use Rattle.run_ends.specs.declared.status.Status.{Status}
 use Rattle.run_ends.specs.declared.status.Status.TheVariants as statuses
@@ -41,8 +40,6 @@ pub data Behind : Type 0 where
   OutOfRoom : (claim : Claim) (layers : List (List CertNode)) → Behind
   -- memory ran out before the first line
   NoRoom : Behind
-  -- the lines of one, where a write failed before the last byte
-  Broken : (claim : Claim) (layers : List (List CertNode)) → Behind
 
 abbrev pub behind_text : Model → Options → Behind → List ℕ
 behind_text m options Nothing = []
@@ -50,7 +47,6 @@ behind_text m options (Whole cert) = text_of m (parts_of cert)
 behind_text m options (Begun claim layers why) = text_of_lines (open_lines m options claim layers) ++ written_text m why
 behind_text m options (OutOfRoom claim layers) = text_of_lines (open_lines m options claim layers) ++ line (codes "memory")
 behind_text m options NoRoom = line (codes "memory")
-behind_text m options (Broken claim layers) = text_of_lines (open_lines m options claim layers ++ end_line (length layers) ∷ [])
 
 -- the status of a run, where its verdict has this one
 abbrev pub behind_status : Status → Behind → Status
@@ -59,26 +55,13 @@ behind_status status (Whole cert) = status
 behind_status status (Begun claim layers why) = status
 behind_status status (OutOfRoom claim layers) = statuses.Memory
 behind_status status NoRoom = statuses.Memory
-behind_status status (Broken claim layers) = statuses.WriteFault
 
--- A text was taken, and whole what stands behind it. Of the lines of a certificate that a failed write broke off the last byte never is.
-abbrev pub TakesWith : (before after : Option (List ℕ)) → (front : List ℕ) → Model → Options → Behind → Type 0
-TakesWith before after front m options (Broken claim layers) = ⊥
-TakesWith before after front m options behind = Takes before after (front ++ behind_text m options behind)
-
--- This was so, with the status; or a write failed, before the last byte was taken.
+-- A text was taken and what stands behind it, with the status; or a write failed, before the last byte was taken. One that failed
+-- in the midst of a certificate leaves a front of whole lines with `memory` behind them, or of a certificate that shows the claim.
 abbrev pub Prints : (before after : Option (List ℕ)) → (front : List ℕ) → Model → Options → Behind → (wanted status : Status) → Type 0
 Prints before after front m options behind wanted status =
-    ((status ≡ behind_status wanted behind) × TakesWith before after front m options behind)
+    ((status ≡ behind_status wanted behind) × Takes before after (front ++ behind_text m options behind))
     ⊎ ((status ≡ statuses.WriteFault) × TakesFront before after (front ++ behind_text m options behind))
-
--- A certificate that shows the claim, and was made as the options say.
-pub record IsMade (m : Model) (options : Options) (claim : Claim) (cert : Cert) : Type 0 where
-  pub keep : cert.keep ≡ options.keep
-  pub prune : cert.prune ≡ options.prune
-  pub claim_is : cert.claim ≡ claim
-  pub full : (l : ℕ) → l < length cert.layers → 0 < length (layer_of cert.layers l)
-  pub shown : Shown m cert
 
 -- Why a certificate ends before it is whole: its visits reached the budget, and one more can be reached; a better solution; a fault
 -- that a list meets.
@@ -92,10 +75,9 @@ RightCause m options claim (writtens.Fault fault) = Meets m options.prune fault.
 abbrev pub RightBehind : Model → Options → Claim → Behind → Type 0
 RightBehind m options claim Nothing = ⊥
 RightBehind m options claim (Whole cert) = IsMade m options claim cert
-RightBehind m options claim (Begun told layers why) = (told ≡ claim) × AreLayers layers × RightCause m options claim why
-RightBehind m options claim (OutOfRoom told layers) = (told ≡ claim) × AreLayers layers
+RightBehind m options claim (Begun told layers why) = (told ≡ claim) × AreLayers m layers × RightCause m options claim why
+RightBehind m options claim (OutOfRoom told layers) = (told ≡ claim) × AreLayers m layers
 RightBehind m options claim NoRoom = Unit {0}
-RightBehind m options claim (Broken told layers) = (told ≡ claim) × AreLayers layers
 
 -- A certificate is asked for or not, and a search claims something or nothing: only where both are so something stands behind.
 abbrev pub IsBehind : (certificate : Bool) → Model → Options → (claimed : Option Claim) → Behind → Type 0

@@ -34,7 +34,7 @@ use Rattle.cert_laws.specs.declared.answers.CertReason.{CertReason}
 use Rattle.cert_laws.specs.declared.answers.CertReason.TheVariants as reasons
 use Rattle.cert_laws.specs.declared.answers.Checked.{Checked as Findings}
 use Rattle.cert_laws.specs.declared.answers.Checked.TheVariants as findings
-use Rattle.solve_top.specs.Behind.{Behind, IsAnnounced, IsBehind, TakesWith, behind_status, behind_text}
+use Rattle.solve_top.specs.Behind.{Behind, IsAnnounced, IsBehind, behind_status, behind_text}
 use Rattle.solve_top.specs.Jobs.{Asks, AskNothing, gen_options, keeping_all, names_of, third_of}
 use Rattle.solve_top.specs.Files.{IsReached, IsFirstLong, OfTexts}
 use Rattle.solve_top.specs.Texts.{Means, MeanCert, MeanModel, MeanSteps, AreRefused, IsRefused}
@@ -148,12 +148,6 @@ outcome_status (Shown model) = statuses.Success
 outcome_status (NoGenerated kind size seed refusal) = no_model_status refusal
 outcome_status (Generated kind size seed model options run) = ending_status run.ending
 
--- the outcome's text was taken whole: of the lines of a certificate that a failed write broke off it never is
-abbrev pub TakesWhole : (before after : Option (List ℕ)) → Outcome → Type 0
-TakesWhole before after (Solving model options gap announce run behind) = TakesWith before after (record_text (All announce) model run) model options behind
-TakesWhole before after (SolvingBest model options run behind) = TakesWith before after (run_text model run) model (keeping_all options) behind
-TakesWhole before after outcome = Takes before after (outcome_text outcome)
-
 -- the texts of a generated model are refused so, where they are
 abbrev pub IsRefusedOf : GenKind → (size seed : ℕ) → Option Refusal → Type 0
 IsRefusedOf kind size seed None = Unit {0}
@@ -191,7 +185,7 @@ ComesOf words files (Generated kind size seed model options run) =
 -- The sink took the outcome's text and the status is the outcome's; or a write failed, the status is that, and the sink took a front of the text.
 abbrev pub Printed : Option (List ℕ) → Option (List ℕ) → Outcome → Status → Type 0
 Printed before after outcome status =
-    ((status ≡ outcome_status outcome) × TakesWhole before after outcome) ⊎ ((status ≡ statuses.WriteFault) × TakesFront before after (outcome_text outcome))
+    ((status ≡ outcome_status outcome) × Takes before after (outcome_text outcome)) ⊎ ((status ≡ statuses.WriteFault) × TakesFront before after (outcome_text outcome))
 
 -- over these files a job comes to some outcome, which was printed
 abbrev pub Does : Job → (List ℕ → Option (List ℕ)) → Option (List ℕ) → Option (List ℕ) → Status → Type 0

@@ -30,6 +30,6 @@ returns-clause-told g c = λ before head.
     let fits : FitsSigned w64 c.args.cost = search rules in
     let word = subst (λ (n : ℤ). pos c.word.result ≡ order_word g.L.CostLaw.minimize g.L.CostLaw.operator (Some n)) (to_z-of_z w64 c.args.cost fits) c.word.ensures.word in
     let above = word_above m g.L.CostLaw.minimize g.L.CostLaw.operator c.requires.law c.args.claimed c.args.cost c.word.result word c.if-word-claimed.false in
-    told_last m o c.args.claim.now before (g.S.Sink.taken c.args.out.now) (g.S.Sink.taken c.put_last.new.out) _ _ 0 [] no_layers (head_few c.args.claim.now c.args.lines c.requires.lines.0 c.requires.lines.1) refl
+    told_last m o c.args.claim.now before (g.S.Sink.taken c.args.out.now) (g.S.Sink.taken c.put_last.new.out) _ _ 0 [] (no_layers m) (head_few c.args.claim.now c.args.lines c.requires.lines.0 c.requires.lines.1) refl
     (target_shown m o c.args.claim.now c.requires.claim (inr (base_ends m c.args.claim.now c.args.claimed c.args.cost c.requires.base c.requires.claimed above)))
     head c.put_last.result c.put_last.ensures

@@ -12,7 +12,7 @@ pub returns-in-NotAllowed-clause-told : goal.returns-in-NotAllowed-clause-told
 returns-in-NotAllowed-clause-told g c = λ before head.
     let m = c.args.model.now in
     let o = c.args.options.now in
-    told_last m o c.args.claim.now before (g.S.Sink.taken c.args.out.now) (g.S.Sink.taken c.put_last.new.out) _ _ 0 [] no_layers (head_few c.args.claim.now c.args.lines c.requires.lines.0 c.requires.lines.1) refl
+    told_last m o c.args.claim.now before (g.S.Sink.taken c.args.out.now) (g.S.Sink.taken c.put_last.new.out) _ _ 0 [] (no_layers m) (head_few c.args.claim.now c.args.lines c.requires.lines.0 c.requires.lines.1) refl
     (target_shown m o c.args.claim.now c.requires.claim (inl ((start_forbidden m o.prune).0 (is_start m o.prune c.args.start starts.NotAllowed c.in-NotAllowed.is c.requires.start))))
     head c.put_last.result c.put_last.ensures
 
