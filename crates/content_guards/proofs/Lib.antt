@@ -1,3 +1,4 @@
+pub mod StepTexts
 pub mod Variables
 pub mod Transitions
 mod Wording
