@@ -1,15 +1,14 @@
--- The step texts of a model that was loaded are lines, and name their ground transitions.
-use Rattle.std.proofs.Common.{◌≡◌, ℕ, zero, suc, ◌+◌, ◌<◌, ◌≤◌, ◌^◌, Bool, true, false, not, ◌||◌, ◌==◌, nat_lt, nat_le, List, [], ◌∷◌, ◌++◌, length, get_or, decimal, codes, Option, None, Some, Ok, refl, sym, ap, ◌∙◌, subst, inl, inr, arith}
+-- The step texts of a model that two trees mean: they name their ground transitions, and are lines where names are.
+use Rattle.std.proofs.Common.{◌≡◌, ℕ, zero, suc, ◌+◌, ◌<◌, ◌≤◌, ◌^◌, Bool, true, false, not, ◌||◌, ◌==◌, nat_lt, nat_le, List, [], ◌∷◌, ◌++◌, length, decimal, codes, Option, None, Some, Ok, refl, sym, ap, ◌∙◌, subst, inl, inr, arith}
 use Rattle.std.specs.Prelude.{slice_get}
 use Rattle.std.specs.Char.{is_control}
-use Rattle.std.specs.List.{list_all, list_any, flat_map}
-use Rattle.std.specs.Str.{IsUtf8, NonePass, bytes_eq, chars}
-use Rattle.std.proofs.lemmas.Bool.{and_parts, and_from, or_parts, cases_Bool}
+use Rattle.std.specs.List.{list_all, flat_map}
+use Rattle.std.specs.Str.{bytes_eq}
+use Rattle.std.proofs.lemmas.Bool.{and_parts, and_from, cases_Bool}
 use Rattle.std.proofs.lemmas.Bool.Decides.{nat_tests}
 use Rattle.std.proofs.lemmas.Fmt.{digits_decimal}
 use Rattle.std.proofs.lemmas.List.Folds.{list_all-append, list_all-map}
 use Rattle.std.proofs.lemmas.Slice.Eq.{bytes_eq-Decides}
-use Rattle.std.proofs.lemmas.Str.{NoCharPasses-byte, encodes-chars}
 use Rattle.dp_base.specs.Bytes.{is_digit}
 use Rattle.dp_base.specs.Results.{◌>>=◌}
 use Rattle.dp_model.specs.Limits.{has_most, is_name, is_small_object}
@@ -46,18 +45,17 @@ use Rattle.dypdl_load.proofs.RuleSizes.{named_so}
 use Rattle.dypdl_load.proofs.Steps.{meaning_steps, rules_steps}
 use Rattle.dypdl_load.specs.Meaning.{in_domain, in_problem, Parts, meaning, parts_of}
 use Rattle.content_laws.proofs.Outcomes.{ok_same}
-use Rattle.cert_text.specs.ReadBack.{is_line}
+use Rattle.cert_text.specs.ReadBack.{HasStepTexts, is_line}
 use Rattle.cert_text.proofs.ReadBack.{own}
 use Rattle.step_names.specs.StepNames.{named_from}
-use Rattle.content_guards.specs.StepTexts.{LawStepTexts}
 
 -- ---- lines
 
-abbrev is_inside : ℕ → Bool
+abbrev pub is_inside : ℕ → Bool
 is_inside byte = not (byte == 10 || byte == 13)
 
 -- a byte that is ASCII and no control character stands inside a line, and so does one that is not ASCII
-inside : (byte : ℕ) → (byte < 128 → is_control byte ≡ false) → is_inside byte ≡ true
+pub inside : (byte : ℕ) → (byte < 128 → is_control byte ≡ false) → is_inside byte ≡ true
 inside byte h = by (byte == 10) (byte == 13) refl refl
   where
     by : (ten thirteen : Bool) → (byte == 10) ≡ ten → (byte == 13) ≡ thirteen → not (ten || thirteen) ≡ true
@@ -70,18 +68,6 @@ inside byte h = by (byte == 10) (byte == 13) refl refl
         let is : byte ≡ 13 = grind (arith, nat_tests) in
         let no : is_control 13 ≡ false = subst (λ (k : ℕ). is_control k ≡ false) is (h (omega arith)) in
         absurd (cc no)
-
-line_of : (bytes : List ℕ) → ((i : ℕ) → i < length bytes → get_or bytes i 0 < 128 → is_control (get_or bytes i 0) ≡ false) → is_line bytes ≡ true
-line_of [] h = refl
-line_of (byte ∷ bytes) h = and_from (is_inside byte) (is_line bytes) (inside byte (h 0 (omega arith))) (line_of bytes (λ i less. h (suc i) (omega arith)))
-
-none_pass : (p : ℕ → Bool) (cs : List ℕ) → list_any p cs ≡ false → NonePass p cs
-none_pass p [] h = tt
-none_pass p (c ∷ cs) h = let parts = or_parts (p c) (list_any p cs) h in (parts.0, none_pass p cs parts.1)
-
--- UTF-8 without control characters is a line
-plain_line : (text : List ℕ) → IsUtf8 text → has_control text ≡ false → is_line text ≡ true
-plain_line text utf8 plain = line_of text (λ i less low. NoCharPasses-byte is_control text i (chars text, encodes-chars text utf8, none_pass is_control (chars text) plain) less low)
 
 joined_line : (a b : List ℕ) → is_line a ≡ true → is_line b ≡ true → is_line (a ++ b) ≡ true
 joined_line a b ha hb = list_all-append is_inside a b ∙ and_from (is_line a) (is_line b) ha hb
@@ -109,7 +95,7 @@ decimal_line n small = digits_line (decimal n) (digits_decimal own n small)
 
 -- ---- lists
 
-at_place : {A : Type 0} (p : A → Bool) (xs : List A) (i : ℕ) (x : A) → list_all p xs ≡ true → slice_get xs i ≡ Some x → p x ≡ true
+pub at_place : {A : Type 0} (p : A → Bool) (xs : List A) (i : ℕ) (x : A) → list_all p xs ≡ true → slice_get xs i ≡ Some x → p x ≡ true
 at_place p [] i x h e = absurd (cc e)
 at_place p (y ∷ ys) zero x h e = let same : y ≡ x = cc in subst (λ z. p z ≡ true) same (and_parts (p y) (list_all p ys) h).0
 at_place p (y ∷ ys) (suc i) x h e = at_place p ys i x (and_parts (p y) (list_all p ys) h).1 e
@@ -255,7 +241,7 @@ module _ (read : Reading) (d : Declared) where
         let same : it ≡ move = ok_same it move b.2 in
         let tested = named_so is_transition_name t.0 n.0 n.1 in
         let plain : not (has_control n.0) ≡ true = (and_parts (not (has_control n.0)) _ (and_parts (is_name n.0) _ tested).1).0 in
-        subst (λ (x : Move). not (has_control x.transition.name) ≡ true) {x = it} same (subst (λ (x : List ℕ). not (has_control x) ≡ true) (body_named n.0 p.0 a.0 b.0 b.1) plain)
+        subst (λ (x : Move). not (has_control x.transition.name) ≡ true) {x = it} same (subst (λ (x : List ℕ). not (has_control x) ≡ true) {x = n.0} {y = b.0.transition.name} (body_named n.0 p.0 a.0 b.0 b.1) plain)
 
   abbrev IsPlain : Move → Type 0
   IsPlain move = not (has_control move.transition.name) ≡ true
@@ -282,12 +268,14 @@ no_control : (name : List ℕ) (b : Bool) → has_control name ≡ b → not b �
 no_control name true e h = absurd (cc h)
 no_control name false e h = e
 
--- ---- the law
+-- ---- all step texts
 
-pub step_texts : LawStepTexts
-step_texts read domain problem m means utf8 g less =
+-- The step texts are lines where the names of transitions are that have no control characters.
+pub steps_are_lines : (read : Reading) (domain problem : Tree) (m : Model) → meaning read domain problem ≡ Ok (parts_of m)
+    → ((i : ℕ) (t : Transition) → slice_get m.transitions i ≡ Some t → has_control t.name ≡ false → is_line t.name ≡ true) → HasStepTexts m
+steps_are_lines read domain problem m means lines g less =
     let plain = plain_names read domain problem (parts_of m) means in
     let names : (i : ℕ) (t : Transition) → slice_get m.transitions i ≡ Some t → is_line t.name ≡ true =
-    λ i t at. plain_line t.name (utf8 i t at) (no_control t.name (has_control t.name) refl (at_place has_plain_name m.transitions i t plain at)) in
+    λ i t at. lines i t at (no_control t.name (has_control t.name) refl (at_place has_plain_name m.transitions i t plain at)) in
     let first = named_at m (step_text m g) g refl (λ i before same. steps_differ read domain problem m means i g before less same) m.dp_ground 0 (omega arith) (omega (arith, less)) in
     (first, text_line m names g less)

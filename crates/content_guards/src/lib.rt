@@ -3,7 +3,7 @@
 
 ghost use Rattle.content_guards.specs.Depot.{LawDepot};
 ghost use Rattle.content_guards.specs.Dresses.{LawDress};
-ghost use Rattle.content_guards.specs.StepTexts.{LawStepTexts};
+ghost use Rattle.content_guards.specs.StepTexts.{LawFileSteps, LawStepTexts};
 ghost use Rattle.content_guards.specs.Transitions.{LawCosts, LawTransitions, LawTransitionsOf};
 ghost use Rattle.content_guards.specs.Variables.{LawPreferences, LawVariables, LawVariablesOf};
 
@@ -38,5 +38,6 @@ pub fn block_text_may_be_dressed()
 
 /// The step texts of a model that two trees mean are lines, and no two ground transitions have the same one.
 pub fn loaded_steps_are_lines()
-    ensures { LawStepTexts }
+    ensures of_trees { LawStepTexts }
+    ensures of_files { LawFileSteps }
 {}
