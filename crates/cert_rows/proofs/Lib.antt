@@ -4,3 +4,8 @@ pub mod Backed
 pub mod Layers
 pub mod Events
 pub mod Ends
+pub mod Meeting
+pub mod Telling
+pub mod Claims
+pub mod Faulted
+pub mod Firsts

@@ -8,7 +8,6 @@ use Rattle.std.proofs.lemmas.Option.{slice_get-map}
 use Rattle.dp_base.specs.declared.place.Place.{Place}
 use Rattle.dp_base.specs.Results.{◌>>=◌, each}
 use Rattle.dp_model.specs.Typing.{kind_at}
-use Rattle.dp_model.specs.declared.parts.BaseCase.{BaseCase}
 use Rattle.dp_model.specs.declared.parts.Effect.{Effect}
 use Rattle.dp_model.specs.declared.parts.Effect.TheVariants as changes
 use Rattle.dp_model.specs.declared.parts.Ground.{Ground}
@@ -20,7 +19,6 @@ use Rattle.dp_model.specs.declared.parts.Variable.{Variable}
 use Rattle.dp_model.specs.declared.parts.VarKind.{VarKind}
 use Rattle.dp_model.specs.declared.parts.VarKind.TheVariants as kinds
 use Rattle.dp_model.specs.declared.trees.Cond.{Cond}
-use Rattle.dp_model.specs.declared.trees.Num.{Num}
 use Rattle.dp_model.specs.declared.trees.Over.{Over}
 use Rattle.dp_model.specs.declared.trees.Over.TheVariants.{Object, Members}
 use Rattle.yaml_tree.specs.declared.tree.Tree.{Tree}
@@ -41,7 +39,6 @@ use Rattle.dypdl_rules.specs.Expressions.{Reading, typed_by}
 use Rattle.dypdl_rules.specs.Parameters.{parameter_keys, members_over, over_named, over_of, param_names, param_of, param_step, params_of, overs}
 use Rattle.dypdl_rules.specs.Conditions.{condition_of, condition_step, conditions_in, conditions_of}
 use Rattle.dypdl_rules.specs.Effects.{effect_on, sets_variable, effect_step, effects_of}
-use Rattle.dypdl_rules.specs.BaseCases.{constraints_of, base_cases_of, bounds_of}
 use Rattle.dypdl_rules.specs.Moves.{transition_keys, weighing, weighing_of, direction_of, Body, body_of, move_of, move_step, moves_of}
 use Rattle.dypdl_rules.specs.declared.transitions.Joining.{Joining}
 use Rattle.dypdl_rules.specs.declared.transitions.Weighing.{Weighing}

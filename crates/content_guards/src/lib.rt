@@ -3,6 +3,7 @@
 
 ghost use Rattle.content_guards.specs.Depot.{LawDepot};
 ghost use Rattle.content_guards.specs.Dresses.{LawDress};
+ghost use Rattle.content_guards.specs.StepTexts.{LawFileSteps, LawStepTexts};
 ghost use Rattle.content_guards.specs.Transitions.{LawCosts, LawTransitions, LawTransitionsOf};
 ghost use Rattle.content_guards.specs.Variables.{LawPreferences, LawVariables, LawVariablesOf};
 
@@ -33,4 +34,10 @@ pub fn rules_mean_a_model()
 /// A text in block style may have a byte order mark, a line `---` with a comment before it, and carriage returns, all of them together.
 pub fn block_text_may_be_dressed()
     ensures { LawDress }
+{}
+
+/// The step texts of a model that two trees mean are lines, and no two ground transitions have the same one.
+pub fn loaded_steps_are_lines()
+    ensures of_trees { LawStepTexts }
+    ensures of_files { LawFileSteps }
 {}
