@@ -5,8 +5,9 @@ use Rattle.std.proofs.lemmas.Bool.{and_from}
 use Rattle.std.proofs.lemmas.List.Folds.{list_all-append}
 use Rattle.yaml_tree.specs.Fields.{list_items, map_entries, value_in}
 use Rattle.yaml_tree.specs.declared.tree.Tree.{Tree}
+use Rattle.cert_text.proofs.ReadBack.{read_back}
 use Rattle.content_laws.specs.Files.{word_in, under_key, or_no_items, items_in, items_of_both}
-use Rattle.content_guards.specs.StepTexts.{LawFileSteps, LawStepTexts}
+use Rattle.content_guards.specs.StepTexts.{LawFileSteps, LawReadOfFiles, LawStepTexts}
 use Rattle.content_guards.specs.Variables.{word_under}
 use Rattle.content_guards.proofs.StepTexts.{at_place, steps_are_lines}
 use Rattle.content_guards.proofs.Transitions.{transitions_of_law}
@@ -53,3 +54,7 @@ file_steps read domain_text problem_text domain problem m domain_spells problem_
     steps_are_lines read domain problem m means (λ i t at plain.
     let item = given.each_one i t at in
     whole_line t.name (word_whole item.0 (codes "name") t.name (at_place is_whole items i item.0 good item.1) item.2.name) plain)
+
+pub read_of_files : LawReadOfFiles
+read_of_files read domain_text problem_text domain problem m domain_spells problem_spells means p front back =
+    read_back m p front back (file_steps read domain_text problem_text domain problem m domain_spells problem_spells means)

@@ -3,7 +3,7 @@
 
 ghost use Rattle.content_guards.specs.Depot.{LawDepot};
 ghost use Rattle.content_guards.specs.Dresses.{LawDress};
-ghost use Rattle.content_guards.specs.StepTexts.{LawFileSteps, LawStepTexts};
+ghost use Rattle.content_guards.specs.StepTexts.{LawFileSteps, LawReadOfFiles, LawStepTexts};
 ghost use Rattle.content_guards.specs.Transitions.{LawCosts, LawTransitions, LawTransitionsOf};
 ghost use Rattle.content_guards.specs.Variables.{LawPreferences, LawVariables, LawVariablesOf};
 
@@ -36,8 +36,10 @@ pub fn block_text_may_be_dressed()
     ensures { LawDress }
 {}
 
-/// The step texts of a model that two trees mean are lines, and no two ground transitions have the same one.
+/// The step texts of a model that two trees mean are lines, and no two ground transitions have the same one. So what is written of a
+/// certificate for a model of two files is read back.
 pub fn loaded_steps_are_lines()
     ensures of_trees { LawStepTexts }
     ensures of_files { LawFileSteps }
+    ensures read_back { LawReadOfFiles }
 {}
