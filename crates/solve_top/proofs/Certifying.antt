@@ -13,7 +13,6 @@ use Rattle.command_line.specs.declared.jobs.Job.{Job}
 use Rattle.command_line.specs.declared.jobs.Job.TheVariants as jobs
 use Rattle.run_ends.specs.Statuses.{code_of}
 use Rattle.run_ends.specs.declared.status.Status.{Status}
-use Rattle.run_ends.specs.declared.status.Status.TheVariants as statuses
 use Rattle.solve_top.specs.Certified.{Certifies, HaveCert, IsCertified, IsRejected}
 use Rattle.solve_top.specs.Jobs.{Asks}
 use Rattle.solve_top.specs.Outcomes.{Outcome, NoMeaning, ReadFault, TooLong, Refused, NoMemory, Solving, SolvingBest, Replayed, Checked, Shown as WasShown, NoGenerated, Generated, ComesOf, Printed, checked_status, outcome_status}
