@@ -4,6 +4,8 @@ pub mod Keeps
 pub mod Readings
 pub mod Spelled
 pub mod ReadBack
+pub mod Missing
+pub mod LineNumbers
 pub mod Only
 pub mod FirstBad
 pub mod Holding

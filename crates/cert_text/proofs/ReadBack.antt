@@ -162,7 +162,7 @@ no_feed l h = all_from l h
     all_from (b ∷ l) h =
         All-cons (λ x. (x == 10) ≡ false) b l (by (b == 10) (b == 13) (and_left (not (b == 10 || b == 13)) (is_line l) h)) (all_from l (and_right (not (b == 10 || b == 13)) (is_line l) h))
 
-lines_back : (ls : List (List ℕ)) → list_all is_line ls ≡ true → lines (text_of_lines ls) ≡ ls
+pub lines_back : (ls : List (List ℕ)) → list_all is_line ls ≡ true → lines (text_of_lines ls) ≡ ls
 lines_back [] h = refl
 lines_back (l ∷ ls) h =
     let here = and_left (is_line l) (list_all is_line ls) h in
@@ -199,11 +199,11 @@ flag_line false = refl
 
 -- ---- one line
 
-begun_back : (n : ℕ) (keep : Keep) → looked true (n + 1) (keep_line keep) ≡ states.Kept n keep
+pub begun_back : (n : ℕ) (keep : Keep) → looked true (n + 1) (keep_line keep) ≡ states.Kept n keep
 begun_back n keeps.Layer = ap (λ k. states.Kept k keeps.Layer) (let e : n + 1 - 1 ≡ n = omega arith in e)
 begun_back n keeps.All = ap (λ k. states.Kept k keeps.All) (let e : n + 1 - 1 ≡ n = omega arith in e)
 
-mark_back : (marked : Bool) (n : ℕ) → looked marked n (codes "certificate 1") ≡ states.Nothing true
+pub mark_back : (marked : Bool) (n : ℕ) → looked marked n (codes "certificate 1") ≡ states.Nothing true
 mark_back true n = refl
 mark_back false n = refl
 
@@ -231,7 +231,7 @@ listed_back m start cost steps n g h =
 -- ---- several lines: what is read behind them
 
 -- a line that may follow
-reads : (m : Model) (n : ℕ) (said later : Said) (l : List ℕ) (ls : List (List ℕ)) → next m n said l ≡ Some later → read_from m n said (l ∷ ls) ≡ read_from m (n + 1) later ls
+pub reads : (m : Model) (n : ℕ) (said later : Said) (l : List ℕ) (ls : List (List ℕ)) → next m n said l ≡ Some later → read_from m n said (l ∷ ls) ≡ read_from m (n + 1) later ls
 reads m n said later l ls h = ap (λ o. or_bad n o (λ (later : Said). read_from m (n + 1) later ls)) h
 
 steps_back : (m : Model) (n : ℕ) (start : Start) (cost : ℤ) (gs done : List ℕ) (ls : List (List ℕ)) → HasStepTexts m → list_all (λ g. nat_lt g (length m.dp_ground)) gs ≡ true
@@ -415,7 +415,7 @@ layers_back m n start claim done ((x ∷ nodes) ∷ more) ls has small linked na
 
 -- ---- the end, and lines in front and behind
 
-same_bytes : (xs : List ℕ) → bytes_eq xs xs ≡ true
+pub same_bytes : (xs : List ℕ) → bytes_eq xs xs ≡ true
 same_bytes [] = refl
 same_bytes (x ∷ xs) = both (x == x) (bytes_eq xs xs) ((Decides-eqb x x).1 refl) (same_bytes xs)
 
@@ -436,7 +436,7 @@ looked_back true n l h = by (keep_said l) h
     by None is = refl
     by (Some keep) is = absurd (cc)
 
-front_skipped : (m : Model) (n : ℕ) (marked : Bool) (front ls : List (List ℕ)) → hides_none marked front ≡ true → (last : Bool) × (read_from m n (states.Nothing marked) (front ++ ls) ≡ read_from m (n + length front) (states.Nothing last) ls)
+pub front_skipped : (m : Model) (n : ℕ) (marked : Bool) (front ls : List (List ℕ)) → hides_none marked front ≡ true → (last : Bool) × (read_from m n (states.Nothing marked) (front ++ ls) ≡ read_from m (n + length front) (states.Nothing last) ls)
 front_skipped m n marked [] ls h = (marked, ap (λ k. read_from m k (states.Nothing marked) ls) (let e : n ≡ n + 0 = omega arith in e))
 front_skipped m n marked (l ∷ front) ls h =
     let here = and_left (not (marked && is_keep (keep_said l))) (hides_none (is_mark l) front) h in
@@ -448,7 +448,7 @@ front_skipped m n marked (l ∷ front) ls h =
     )
 
 -- the lines of a certificate, and blank ones
-whole_back : (m : Model) (n : ℕ) (marked : Bool) (p : Parts) (back : List (List ℕ)) → HasStepTexts m → IsCertificate m p → p.first ≡ n → list_all is_blank_line back ≡ true → read_from m n (states.Nothing marked) (cert_lines m p ++ back) ≡ Ok p
+pub whole_back : (m : Model) (n : ℕ) (marked : Bool) (p : Parts) (back : List (List ℕ)) → HasStepTexts m → IsCertificate m p → p.first ≡ n → list_all is_blank_line back ≡ true → read_from m n (states.Nothing marked) (cert_lines m p ++ back) ≡ Ok p
 whole_back m n marked p back has good first blank =
     let start : Start = record { first = n; keep = p.keep; prune = p.prune } in
     let grounds = length m.dp_ground in
@@ -477,7 +477,7 @@ whole_back m n marked p back has good first blank =
 
 -- ---- the lines of a certificate are lines
 
-all_two : {A : Type 0} (p : A → Bool) (xs ys : List A) → list_all p xs ≡ true → list_all p ys ≡ true → list_all p (xs ++ ys) ≡ true
+pub all_two : {A : Type 0} (p : A → Bool) (xs ys : List A) → list_all p xs ≡ true → list_all p ys ≡ true → list_all p (xs ++ ys) ≡ true
 all_two p xs ys hx hy = list_all-append p xs ys ∙ both (list_all p xs) (list_all p ys) hx hy
 
 steps_lines : (m : Model) (gs : List ℕ) → HasStepTexts m → list_all (λ g. nat_lt g (length m.dp_ground)) gs ≡ true → list_all is_line (map (step_text m) gs) ≡ true
@@ -555,7 +555,7 @@ layers_few (nodes ∷ layers) =
     let sum : sum_by lines_of_layer (nodes ∷ layers) ≡ lines_of_layer nodes + sum_by lines_of_layer layers = sum_by-cons lines_of_layer nodes layers in
     omega arith
 
-cert_are_lines : (m : Model) (p : Parts) → HasStepTexts m → IsCertificate m p → list_all is_line (cert_lines m p) ≡ true
+pub cert_are_lines : (m : Model) (p : Parts) → HasStepTexts m → IsCertificate m p → list_all is_line (cert_lines m p) ≡ true
 cert_are_lines m p has good =
     let grounds = length m.dp_ground in
     let is : last_line p.first p.claim p.layers ≡ line_of_end p.first p.claim p.layers = last_is_end p.first p.claim p.layers in

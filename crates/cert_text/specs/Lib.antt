@@ -3,3 +3,4 @@ pub mod Named
 pub mod Said
 pub mod Texts
 pub mod ReadBack
+pub mod LineNumbers

@@ -80,3 +80,12 @@ abbrev pub LawFirstBad : Type 0
 LawFirstBad =
     (m : Model) (text other : List ℕ) (shared rest more : List (List ℕ)) → lines text ≡ shared ++ rest → lines other ≡ shared ++ more → bad_byte text ≡ None → bad_byte other ≡ None → 1 < length shared
     → certificate_in m text ≡ Err (Bad (line_place (length shared))) → certificate_in m other ≡ Err (Bad (line_place (length shared)))
+
+-- A text that breaks off within a certificate is refused in the line behind its last one. It has the first two lines of the
+-- certificate, without which none begins, and not the last one.
+abbrev pub LawMissingLines : Type 0
+LawMissingLines =
+    (m : Model) (p : Parts) (front shown rest : List (List ℕ)) → HasStepTexts m → IsCertificate m p → AreInFront front → p.first ≡ length front + 1
+    → cert_lines m p ≡ shown ++ rest → 1 < length shown → 0 < length rest
+    → bad_byte (text_of_lines (front ++ shown)) ≡ None
+    → certificate_in m (text_of_lines (front ++ shown)) ≡ Err (Bad (line_place (length front + length shown + 1)))
