@@ -173,30 +173,6 @@ lines_back (l ∷ ls) h =
     ∙ ap (λ x. x ∷ lines rest) (strip_back l here)
     ∙ ap (λ xs. l ∷ xs) (lines_back ls (and_right (is_line l) (list_all is_line ls) h))
 
--- ---- which texts are lines
-
-line_append : (a b : List ℕ) → is_line a ≡ true → is_line b ≡ true → is_line (a ++ b) ≡ true
-line_append a b ha hb = list_all-append (λ byte. not (byte == 10 || byte == 13)) a b ∙ both (is_line a) (is_line b) ha hb
-
-digits_line : (ds : List ℕ) → list_all is_digit ds ≡ true → is_line ds ≡ true
-digits_line [] h = refl
-digits_line (d ∷ ds) h =
-    let range = digit_range d (and_left (is_digit d) (list_all is_digit ds) h) in
-    let ten : (d == 10) ≡ false = not_same d 10 (omega (arith, range.0)) in
-    let thirteen : (d == 13) ≡ false = not_same d 13 (omega (arith, range.0)) in
-    both (not (d == 10 || d == 13)) (is_line ds) (rw (ten, thirteen) refl) (digits_line ds (and_right (is_digit d) (list_all is_digit ds) h))
-
-decimal_line : (n : ℕ) → n < 2 ^ 64 → is_line (decimal n) ≡ true
-decimal_line n h = digits_line (decimal n) (decimal_digits n h)
-
-cost_line : (c : ℤ) → is_cost c ≡ true → is_line (signed_decimal c) ≡ true
-cost_line (pos n) h = let fits : n ≤ 4611686018427387903 = most n 4611686018427387903 h in decimal_line n (omega arith)
-cost_line (negsuc n) h = let fits : n < 4611686018427387903 = less n 4611686018427387903 h in decimal_line (suc n) (omega arith)
-
-flag_line : (cut : Bool) → is_line (flag_word cut) ≡ true
-flag_line true = refl
-flag_line false = refl
-
 -- ---- one line
 
 pub begun_back : (n : ℕ) (keep : Keep) → looked true (n + 1) (keep_line keep) ≡ states.Kept n keep
@@ -475,41 +451,34 @@ whole_back m n marked p back has good first blank =
     ∙ blank_back m (n + 1 + 1 + 1 + claim_size p.claim + sum_by lines_of_layer p.layers + 1) start p.claim p.layers back blank
     ∙ ap (λ k. Ok (record { first = k; keep = p.keep; prune = p.prune; claim = p.claim; layers = p.layers })) (sym first)
 
--- ---- the lines of a certificate are lines
+-- ---- the lines of a certificate are made of words, numbers and step texts
 
 pub all_two : {A : Type 0} (p : A → Bool) (xs ys : List A) → list_all p xs ≡ true → list_all p ys ≡ true → list_all p (xs ++ ys) ≡ true
 all_two p xs ys hx hy = list_all-append p xs ys ∙ both (list_all p xs) (list_all p ys) hx hy
 
-steps_lines : (m : Model) (gs : List ℕ) → HasStepTexts m → list_all (λ g. nat_lt g (length m.dp_ground)) gs ≡ true → list_all is_line (map (step_text m) gs) ≡ true
-steps_lines m [] has named = refl
-steps_lines m (g ∷ gs) has named =
-    both (is_line (step_text m g)) (list_all is_line (map (step_text m) gs))
-    (has g (less g (length m.dp_ground) (and_left (nat_lt g (length m.dp_ground)) (list_all (λ g. nat_lt g (length m.dp_ground)) gs) named))).1
-    (steps_lines m gs has (and_right (nat_lt g (length m.dp_ground)) (list_all (λ g. nat_lt g (length m.dp_ground)) gs) named))
+-- a byte of ASCII from the space on that is no control character
+abbrev pub is_print : ℕ → Bool
+is_print byte = nat_le 32 byte && nat_le byte 126
 
-claim_are_lines : (m : Model) (claim : Claim) → HasStepTexts m → has_cost claim ≡ true → claims_steps (length m.dp_ground) claim ≡ true → claim_size claim < 4294967296 → list_all is_line (claim_lines m claim) ≡ true
-claim_are_lines m claims.Infeasible has cost named small = refl
-claim_are_lines m (claims.Optimal found) has cost named small =
-    let wide : length found.steps < 2 ^ 64 = omega (arith, small) in
-    both (is_line (codes "claim optimal " ++ signed_decimal found.cost)) (is_line (codes "steps " ++ decimal (length found.steps)) && list_all is_line (map (step_text m) found.steps))
-    (line_append (codes "claim optimal ") (signed_decimal found.cost) refl (cost_line found.cost cost))
-    (both (is_line (codes "steps " ++ decimal (length found.steps))) (list_all is_line (map (step_text m) found.steps))
-    (line_append (codes "steps ") (decimal (length found.steps)) refl (decimal_line (length found.steps) wide)) (steps_lines m found.steps has named))
+pub digits_print : (ds : List ℕ) → list_all is_digit ds ≡ true → list_all is_print ds ≡ true
+digits_print [] h = refl
+digits_print (d ∷ ds) h =
+    let range = digit_range d (and_left (is_digit d) (list_all is_digit ds) h) in
+    let low : 32 ≤ d = omega (arith, range.0) in
+    let high : d ≤ 126 = omega (arith, range.1) in
+    both (is_print d) (list_all is_print ds) (both (nat_le 32 d) (nat_le d 126) (grind (arith, nat_tests)) (grind (arith, nat_tests))) (digits_print ds (and_right (is_digit d) (list_all is_digit ds) h))
+
+-- there are fewer layers than lines
+layers_few : (layers : List (List CertNode)) → length layers ≤ sum_by lines_of_layer layers
+layers_few [] = omega arith
+layers_few (nodes ∷ layers) =
+    let more : length layers ≤ sum_by lines_of_layer layers = layers_few layers in
+    let sum : sum_by lines_of_layer (nodes ∷ layers) ≡ lines_of_layer nodes + sum_by lines_of_layer layers = sum_by-cons lines_of_layer nodes layers in
+    omega arith
 
 abbrev is_fit : Option CertStep → Bool
 is_fit None = true
 is_fit (Some step) = nat_lt step.parent 4294967296
-
-node_is_line : (m : Model) (made : Option CertStep) (cut : Bool) → HasStepTexts m → names_step (length m.dp_ground) (record { made = made; cut = cut }) ≡ true → (parents : is_fit made ≡ true) → is_line (made_line m made cut) ≡ true
-node_is_line m None cut has named parents = line_append (codes "node - ") (flag_word cut) refl (flag_line cut)
-node_is_line m (Some step) cut has named parents =
-    let place : step.parent < 4294967296 = less step.parent 4294967296 parents in
-    let wide : step.parent < 2 ^ 64 = omega arith in
-    let text = step_text m step.dp_ground in
-    line_append (codes "node ") (decimal step.parent ++ (codes " " ++ (flag_word cut ++ (codes " " ++ text)))) refl
-    (line_append (decimal step.parent) (codes " " ++ (flag_word cut ++ (codes " " ++ text))) (decimal_line step.parent wide)
-    (line_append (codes " ") (flag_word cut ++ (codes " " ++ text)) refl
-    (line_append (flag_word cut) (codes " " ++ text) (flag_line cut) (line_append (codes " ") text refl (has step.dp_ground (less step.dp_ground (length m.dp_ground) named)).1))))
 
 -- a node's parent is a number of 32 bits
 fit_parent : (before : Option (List CertNode)) (made : Option CertStep) (cut : Bool) → width_of before < 4294967296 → fits before (record { made = made; cut = cut }) ≡ true → is_fit made ≡ true
@@ -520,56 +489,115 @@ fit_parent (Some nodes) (Some step) cut small fit =
     let fewer : step.parent < 4294967296 = omega (arith, small) in
     grind (arith, nat_tests)
 
-nodes_are_lines : (m : Model) (before : Option (List CertNode)) (nodes : List CertNode) → HasStepTexts m → width_of before < 4294967296 → is_layer before nodes ≡ true → list_all (names_step (length m.dp_ground)) nodes ≡ true → list_all is_line (map (node_line m) nodes) ≡ true
-nodes_are_lines m before [] has small fit named = refl
-nodes_are_lines m before (node ∷ nodes) has small fit named =
-    both (is_line (node_line m node)) (list_all is_line (map (node_line m) nodes))
-    (node_is_line m node.made node.cut has (and_left (names_step (length m.dp_ground) node) (list_all (names_step (length m.dp_ground)) nodes) named) (fit_parent before node.made node.cut small (and_left (fits before node) (is_layer before nodes) fit)))
-    (nodes_are_lines m before nodes has small (and_right (fits before node) (is_layer before nodes) fit) (and_right (names_step (length m.dp_ground) node) (list_all (names_step (length m.dp_ground)) nodes) named))
+-- A test that passes texts in ASCII, step texts, and a text behind another one if it passes both, passes each line.
+module _ (test : List ℕ → Bool) (two : (a b : List ℕ) → test a ≡ true → test b ≡ true → test (a ++ b) ≡ true) (ascii : (text : List ℕ) → list_all is_print text ≡ true → test text ≡ true)
+    (m : Model) (steps : (g : ℕ) → g < length m.dp_ground → test (step_text m g) ≡ true) where
+  number_passes : (n : ℕ) → n < 2 ^ 64 → test (decimal n) ≡ true
+  number_passes n h = ascii (decimal n) (digits_print (decimal n) (decimal_digits n h))
 
-layers_are_lines : (m : Model) (before : Option (List CertNode)) (at : ℕ) (layers : List (List CertNode)) → HasStepTexts m → at + width_of before + sum_by lines_of_layer layers < 4294967296 → are_linked before layers ≡ true → list_all (list_all (names_step (length m.dp_ground))) layers ≡ true → list_all is_line (layers_lines m at layers) ≡ true
-layers_are_lines m before at [] has small linked named = refl
-layers_are_lines m before at (nodes ∷ more) has small linked named =
-    let sum : sum_by lines_of_layer (nodes ∷ more) ≡ lines_of_layer nodes + sum_by lines_of_layer more = sum_by-cons lines_of_layer nodes more in
-    let few : width_of before < 4294967296 = omega (arith, small) in
-    let place : at < 2 ^ 64 = omega (arith, small) in
-    let wide : length nodes < 2 ^ 64 = omega (arith, small, sum) in
-    let later : at + 1 + length nodes + sum_by lines_of_layer more < 4294967296 = omega (arith, small, sum) in
-    all_two is_line (layer_lines m at nodes) (layers_lines m (at + 1) more)
-    (both (is_line (layer_line at nodes)) (list_all is_line (map (node_line m) nodes))
-    (line_append (codes "layer ") (decimal at ++ (codes " " ++ decimal (length nodes))) refl (line_append (decimal at) (codes " " ++ decimal (length nodes)) (decimal_line at place) (line_append (codes " ") (decimal (length nodes)) refl (decimal_line (length nodes) wide))))
-    (nodes_are_lines m before nodes has few (and_left (is_layer before nodes) (are_linked (Some nodes) more) linked) (and_left (list_all (names_step (length m.dp_ground)) nodes) (list_all (list_all (names_step (length m.dp_ground))) more) named)))
-    (layers_are_lines m (Some nodes) (at + 1) more has later (and_right (is_layer before nodes) (are_linked (Some nodes) more) linked) (and_right (list_all (names_step (length m.dp_ground)) nodes) (list_all (list_all (names_step (length m.dp_ground))) more) named))
+  cost_passes : (c : ℤ) → is_cost c ≡ true → test (signed_decimal c) ≡ true
+  cost_passes (pos n) h = let fits : n ≤ 4611686018427387903 = most n 4611686018427387903 h in number_passes n (omega arith)
+  cost_passes (negsuc n) h =
+      let fits : n < 4611686018427387903 = less n 4611686018427387903 h in
+      two (codes "-") (decimal (suc n)) (ascii (codes "-") refl) (number_passes (suc n) (omega arith))
 
-head_are_lines : (keep : Keep) (prune : Bool) → list_all is_line (codes "certificate 1" ∷ keep_line keep ∷ prune_line prune ∷ []) ≡ true
-head_are_lines keeps.Layer true = refl
-head_are_lines keeps.Layer false = refl
-head_are_lines keeps.All true = refl
-head_are_lines keeps.All false = refl
+  flag_passes : (cut : Bool) → test (flag_word cut) ≡ true
+  flag_passes true = ascii (codes "cut") refl
+  flag_passes false = ascii (codes "open") refl
 
--- there are fewer layers than lines
-layers_few : (layers : List (List CertNode)) → length layers ≤ sum_by lines_of_layer layers
-layers_few [] = omega arith
-layers_few (nodes ∷ layers) =
-    let more : length layers ≤ sum_by lines_of_layer layers = layers_few layers in
-    let sum : sum_by lines_of_layer (nodes ∷ layers) ≡ lines_of_layer nodes + sum_by lines_of_layer layers = sum_by-cons lines_of_layer nodes layers in
-    omega arith
+  keep_passes : (keep : Keep) → test (keep_line keep) ≡ true
+  keep_passes keeps.Layer = ascii (codes "keep layer") refl
+  keep_passes keeps.All = ascii (codes "keep all") refl
+
+  prune_passes : (prune : Bool) → test (prune_line prune) ≡ true
+  prune_passes true = ascii (codes "prune on") refl
+  prune_passes false = ascii (codes "prune off") refl
+
+  steps_pass : (gs : List ℕ) → list_all (λ g. nat_lt g (length m.dp_ground)) gs ≡ true → list_all test (map (step_text m) gs) ≡ true
+  steps_pass [] named = refl
+  steps_pass (g ∷ gs) named =
+      both (test (step_text m g)) (list_all test (map (step_text m) gs))
+      (steps g (less g (length m.dp_ground) (and_left (nat_lt g (length m.dp_ground)) (list_all (λ g. nat_lt g (length m.dp_ground)) gs) named)))
+      (steps_pass gs (and_right (nat_lt g (length m.dp_ground)) (list_all (λ g. nat_lt g (length m.dp_ground)) gs) named))
+
+  claim_passes : (claim : Claim) → has_cost claim ≡ true → claims_steps (length m.dp_ground) claim ≡ true → claim_size claim < 4294967296 → list_all test (claim_lines m claim) ≡ true
+  claim_passes claims.Infeasible cost named small = both (test (codes "claim infeasible")) true (ascii (codes "claim infeasible") refl) refl
+  claim_passes (claims.Optimal found) cost named small =
+      let wide : length found.steps < 2 ^ 64 = omega (arith, small) in
+      both (test (codes "claim optimal " ++ signed_decimal found.cost)) (test (codes "steps " ++ decimal (length found.steps)) && list_all test (map (step_text m) found.steps))
+      (two (codes "claim optimal ") (signed_decimal found.cost) (ascii (codes "claim optimal ") refl) (cost_passes found.cost cost))
+      (both (test (codes "steps " ++ decimal (length found.steps))) (list_all test (map (step_text m) found.steps))
+      (two (codes "steps ") (decimal (length found.steps)) (ascii (codes "steps ") refl) (number_passes (length found.steps) wide)) (steps_pass found.steps named))
+
+  node_passes : (made : Option CertStep) (cut : Bool) → names_step (length m.dp_ground) (record { made = made; cut = cut }) ≡ true → (parents : is_fit made ≡ true) → test (made_line m made cut) ≡ true
+  node_passes None cut named parents = two (codes "node - ") (flag_word cut) (ascii (codes "node - ") refl) (flag_passes cut)
+  node_passes (Some step) cut named parents =
+      let place : step.parent < 4294967296 = less step.parent 4294967296 parents in
+      let wide : step.parent < 2 ^ 64 = omega arith in
+      let text = step_text m step.dp_ground in
+      let space = ascii (codes " ") refl in
+      two (codes "node ") (decimal step.parent ++ (codes " " ++ (flag_word cut ++ (codes " " ++ text)))) (ascii (codes "node ") refl)
+      (two (decimal step.parent) (codes " " ++ (flag_word cut ++ (codes " " ++ text))) (number_passes step.parent wide)
+      (two (codes " ") (flag_word cut ++ (codes " " ++ text)) space
+      (two (flag_word cut) (codes " " ++ text) (flag_passes cut) (two (codes " ") text space (steps step.dp_ground (less step.dp_ground (length m.dp_ground) named))))))
+
+  nodes_pass : (before : Option (List CertNode)) (nodes : List CertNode) → width_of before < 4294967296 → is_layer before nodes ≡ true → list_all (names_step (length m.dp_ground)) nodes ≡ true → list_all test (map (node_line m) nodes) ≡ true
+  nodes_pass before [] small fit named = refl
+  nodes_pass before (node ∷ nodes) small fit named =
+      both (test (node_line m node)) (list_all test (map (node_line m) nodes))
+      (node_passes node.made node.cut (and_left (names_step (length m.dp_ground) node) (list_all (names_step (length m.dp_ground)) nodes) named) (fit_parent before node.made node.cut small (and_left (fits before node) (is_layer before nodes) fit)))
+      (nodes_pass before nodes small (and_right (fits before node) (is_layer before nodes) fit) (and_right (names_step (length m.dp_ground) node) (list_all (names_step (length m.dp_ground)) nodes) named))
+
+  layers_pass : (before : Option (List CertNode)) (at : ℕ) (layers : List (List CertNode)) → at + width_of before + sum_by lines_of_layer layers < 4294967296 → are_linked before layers ≡ true → list_all (list_all (names_step (length m.dp_ground))) layers ≡ true → list_all test (layers_lines m at layers) ≡ true
+  layers_pass before at [] small linked named = refl
+  layers_pass before at (nodes ∷ more) small linked named =
+      let sum : sum_by lines_of_layer (nodes ∷ more) ≡ lines_of_layer nodes + sum_by lines_of_layer more = sum_by-cons lines_of_layer nodes more in
+      let few : width_of before < 4294967296 = omega (arith, small) in
+      let place : at < 2 ^ 64 = omega (arith, small) in
+      let wide : length nodes < 2 ^ 64 = omega (arith, small, sum) in
+      let later : at + 1 + length nodes + sum_by lines_of_layer more < 4294967296 = omega (arith, small, sum) in
+      all_two test (layer_lines m at nodes) (layers_lines m (at + 1) more)
+      (both (test (layer_line at nodes)) (list_all test (map (node_line m) nodes))
+      (two (codes "layer ") (decimal at ++ (codes " " ++ decimal (length nodes))) (ascii (codes "layer ") refl) (two (decimal at) (codes " " ++ decimal (length nodes)) (number_passes at place) (two (codes " ") (decimal (length nodes)) (ascii (codes " ") refl) (number_passes (length nodes) wide))))
+      (nodes_pass before nodes few (and_left (is_layer before nodes) (are_linked (Some nodes) more) linked) (and_left (list_all (names_step (length m.dp_ground)) nodes) (list_all (list_all (names_step (length m.dp_ground))) more) named)))
+      (layers_pass (Some nodes) (at + 1) more later (and_right (is_layer before nodes) (are_linked (Some nodes) more) linked) (and_right (list_all (names_step (length m.dp_ground)) nodes) (list_all (list_all (names_step (length m.dp_ground))) more) named))
+
+  head_passes : (keep : Keep) (prune : Bool) → list_all test (codes "certificate 1" ∷ keep_line keep ∷ prune_line prune ∷ []) ≡ true
+  head_passes keep prune =
+      both (test (codes "certificate 1")) (test (keep_line keep) && (test (prune_line prune) && true)) (ascii (codes "certificate 1") refl)
+      (both (test (keep_line keep)) (test (prune_line prune) && true) (keep_passes keep) (both (test (prune_line prune)) true (prune_passes prune) refl))
+
+  pub cert_passes : (p : Parts) → IsCertificate m p → list_all test (cert_lines m p) ≡ true
+  cert_passes p good =
+      let grounds = length m.dp_ground in
+      let is : last_line p.first p.claim p.layers ≡ line_of_end p.first p.claim p.layers = last_is_end p.first p.claim p.layers in
+      let small : last_line p.first p.claim p.layers < 4294967296 = omega (arith, is, good.few_lines) in
+      let linked : are_linked None p.layers ≡ true = made_linked p.layers good.made good.parents in
+      let few : claim_size p.claim < 4294967296 = omega (arith, small) in
+      let fewer : 0 + 0 + sum_by lines_of_layer p.layers < 4294967296 = omega (arith, small) in
+      let count : length p.layers < 2 ^ 64 = omega (arith, small, layers_few p.layers) in
+      let named_claim = and_left (claims_steps grounds p.claim) (list_all (list_all (names_step grounds)) p.layers) good.named in
+      let named_layers = and_right (claims_steps grounds p.claim) (list_all (list_all (names_step grounds)) p.layers) good.named in
+      let ends : list_all test (end_line (length p.layers) ∷ []) ≡ true = both (test (end_line (length p.layers))) true (two (codes "end ") (decimal (length p.layers)) (ascii (codes "end ") refl) (number_passes (length p.layers) count)) refl in
+      let body = all_two test (layers_lines m 0 p.layers) (end_line (length p.layers) ∷ []) (layers_pass None 0 p.layers fewer linked named_layers) ends in
+      all_two test (codes "certificate 1" ∷ keep_line p.keep ∷ prune_line p.prune ∷ []) (claim_lines m p.claim ++ (layers_lines m 0 p.layers ++ end_line (length p.layers) ∷ [])) (head_passes p.keep p.prune)
+      (all_two test (claim_lines m p.claim) (layers_lines m 0 p.layers ++ end_line (length p.layers) ∷ []) (claim_passes p.claim good.cost named_claim few) body)
+
+-- ---- they are lines
+
+pub line_append : (a b : List ℕ) → is_line a ≡ true → is_line b ≡ true → is_line (a ++ b) ≡ true
+line_append a b ha hb = list_all-append (λ byte. not (byte == 10 || byte == 13)) a b ∙ both (is_line a) (is_line b) ha hb
+
+pub ascii_line : (text : List ℕ) → list_all is_print text ≡ true → is_line text ≡ true
+ascii_line [] h = refl
+ascii_line (x ∷ text) h =
+    let low : 32 ≤ x = most 32 x (and_left (nat_le 32 x) (nat_le x 126) (and_left (is_print x) (list_all is_print text) h)) in
+    let ten : (x == 10) ≡ false = not_same x 10 (omega (arith, low)) in
+    let thirteen : (x == 13) ≡ false = not_same x 13 (omega (arith, low)) in
+    both (not (x == 10 || x == 13)) (is_line text) (rw (ten, thirteen) refl) (ascii_line text (and_right (is_print x) (list_all is_print text) h))
 
 pub cert_are_lines : (m : Model) (p : Parts) → HasStepTexts m → IsCertificate m p → list_all is_line (cert_lines m p) ≡ true
-cert_are_lines m p has good =
-    let grounds = length m.dp_ground in
-    let is : last_line p.first p.claim p.layers ≡ line_of_end p.first p.claim p.layers = last_is_end p.first p.claim p.layers in
-    let small : last_line p.first p.claim p.layers < 4294967296 = omega (arith, is, good.few_lines) in
-    let linked : are_linked None p.layers ≡ true = made_linked p.layers good.made good.parents in
-    let few : claim_size p.claim < 4294967296 = omega (arith, small) in
-    let fewer : 0 + 0 + sum_by lines_of_layer p.layers < 4294967296 = omega (arith, small) in
-    let count : length p.layers < 2 ^ 64 = omega (arith, small, layers_few p.layers) in
-    let named_claim = and_left (claims_steps grounds p.claim) (list_all (list_all (names_step grounds)) p.layers) good.named in
-    let named_layers = and_right (claims_steps grounds p.claim) (list_all (list_all (names_step grounds)) p.layers) good.named in
-    let ends : list_all is_line (end_line (length p.layers) ∷ []) ≡ true = both (is_line (end_line (length p.layers))) true (line_append (codes "end ") (decimal (length p.layers)) refl (decimal_line (length p.layers) count)) refl in
-    let body = all_two is_line (layers_lines m 0 p.layers) (end_line (length p.layers) ∷ []) (layers_are_lines m None 0 p.layers has fewer linked named_layers) ends in
-    all_two is_line (codes "certificate 1" ∷ keep_line p.keep ∷ prune_line p.prune ∷ []) (claim_lines m p.claim ++ (layers_lines m 0 p.layers ++ end_line (length p.layers) ∷ [])) (head_are_lines p.keep p.prune)
-    (all_two is_line (claim_lines m p.claim) (layers_lines m 0 p.layers ++ end_line (length p.layers) ∷ []) (claim_are_lines m p.claim has good.cost named_claim few) body)
+cert_are_lines m p has good = cert_passes is_line line_append ascii_line m (λ g less. (has g less).1) p good
 
 pub read_back : LawReadBack
 read_back m p front back has good in_front are_behind first utf8 =
