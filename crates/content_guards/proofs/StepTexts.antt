@@ -4,12 +4,11 @@ use Rattle.std.specs.Prelude.{slice_get}
 use Rattle.std.specs.Char.{is_control}
 use Rattle.std.specs.List.{list_all, flat_map}
 use Rattle.std.specs.Str.{bytes_eq}
-use Rattle.std.proofs.lemmas.Bool.{and_parts, and_from, cases_Bool}
+use Rattle.std.proofs.lemmas.Bool.{and_parts, cases_Bool}
 use Rattle.std.proofs.lemmas.Bool.Decides.{nat_tests}
 use Rattle.std.proofs.lemmas.Fmt.{digits_decimal}
-use Rattle.std.proofs.lemmas.List.Folds.{list_all-append, list_all-map}
+use Rattle.std.proofs.lemmas.List.Folds.{list_all-map}
 use Rattle.std.proofs.lemmas.Slice.Eq.{bytes_eq-Decides}
-use Rattle.dp_base.specs.Bytes.{is_digit}
 use Rattle.dp_base.specs.Results.{◌>>=◌}
 use Rattle.dp_model.specs.Limits.{has_most, is_name, is_small_object}
 use Rattle.dp_model.specs.StepTexts.{named, step_text}
@@ -46,7 +45,7 @@ use Rattle.dypdl_load.proofs.Steps.{meaning_steps, rules_steps}
 use Rattle.dypdl_load.specs.Meaning.{in_domain, in_problem, Parts, meaning, parts_of}
 use Rattle.content_laws.proofs.Outcomes.{ok_same}
 use Rattle.cert_text.specs.ReadBack.{HasStepTexts, is_line}
-use Rattle.cert_text.proofs.ReadBack.{own}
+use Rattle.cert_text.proofs.ReadBack.{ascii_line, digits_print, is_print, line_append, own}
 use Rattle.step_names.specs.StepNames.{named_from}
 
 -- ---- lines
@@ -68,30 +67,6 @@ inside byte h = by (byte == 10) (byte == 13) refl refl
         let is : byte ≡ 13 = grind (arith, nat_tests) in
         let no : is_control 13 ≡ false = subst (λ (k : ℕ). is_control k ≡ false) is (h (omega arith)) in
         absurd (cc no)
-
-joined_line : (a b : List ℕ) → is_line a ≡ true → is_line b ≡ true → is_line (a ++ b) ≡ true
-joined_line a b ha hb = list_all-append is_inside a b ∙ and_from (is_line a) (is_line b) ha hb
-
-digit_inside : (byte : ℕ) → is_digit byte ≡ true → is_inside byte ≡ true
-digit_inside byte h = by (byte == 10) (byte == 13) refl refl
-  where
-    by : (ten thirteen : Bool) → (byte == 10) ≡ ten → (byte == 13) ≡ thirteen → not (ten || thirteen) ≡ true
-    by false false e f = refl
-    by true thirteen e f =
-        let is : byte ≡ 10 = grind (arith, nat_tests) in
-        let no : is_digit 10 ≡ true = subst (λ (k : ℕ). is_digit k ≡ true) is h in
-        absurd (cc no)
-    by false true e f =
-        let is : byte ≡ 13 = grind (arith, nat_tests) in
-        let no : is_digit 13 ≡ true = subst (λ (k : ℕ). is_digit k ≡ true) is h in
-        absurd (cc no)
-
-digits_line : (ds : List ℕ) → list_all is_digit ds ≡ true → is_line ds ≡ true
-digits_line [] h = refl
-digits_line (d ∷ ds) h = let parts = and_parts (is_digit d) (list_all is_digit ds) h in and_from (is_inside d) (is_line ds) (digit_inside d parts.0) (digits_line ds parts.1)
-
-decimal_line : (n : ℕ) → n < 2 ^ 64 → is_line (decimal n) ≡ true
-decimal_line n small = digits_line (decimal n) (digits_decimal own n small)
 
 -- ---- lists
 
@@ -115,39 +90,43 @@ small_count (o ∷ objects) zero h =
     grind (arith, nat_tests)
 small_count (o ∷ objects) (suc object) h = small_count objects object (and_parts (is_small_object o) (list_all is_small_object objects) h).1
 
-module _ (objects : List ObjectType) (variables : List Variable) (small : list_all is_small_object objects ≡ true) where
-  arguments_line : (params : List Over) (args : List ℕ) → are_arguments objects variables params args ≡ true → is_line (flat_map (λ k. codes " " ++ decimal k) args) ≡ true
-  arguments_line [] [] h = refl
-  arguments_line [] (k ∷ args) h = absurd (cc h)
-  arguments_line (over ∷ params) [] h = absurd (cc h)
-  arguments_line (over ∷ params) (k ∷ args) h =
+-- ---- step texts
+
+-- A test that passes texts in ASCII, and a text behind another one if it passes both, passes step texts where it passes names.
+module _ (test : List ℕ → Bool) (two : (a b : List ℕ) → test a ≡ true → test b ≡ true → test (a ++ b) ≡ true) (ascii : (text : List ℕ) → list_all is_print text ≡ true → test text ≡ true) where
+  number_passes : (n : ℕ) → n < 2 ^ 64 → test (decimal n) ≡ true
+  number_passes n small = ascii (decimal n) (digits_print (decimal n) (digits_decimal own n small))
+
+  arguments_pass : (objects : List ObjectType) (variables : List Variable) → list_all is_small_object objects ≡ true → (params : List Over) (args : List ℕ) → are_arguments objects variables params args ≡ true → test (flat_map (λ k. codes " " ++ decimal k) args) ≡ true
+  arguments_pass objects variables small [] [] h = ascii [] refl
+  arguments_pass objects variables small [] (k ∷ args) h = absurd (cc h)
+  arguments_pass objects variables small (over ∷ params) [] h = absurd (cc h)
+  arguments_pass objects variables small (over ∷ params) (k ∷ args) h =
       let count = type_count objects (over_object variables over) in
       let parts = and_parts (nat_lt k count) (are_arguments objects variables params args) h in
       let less : k < count = (let first = parts.0 in grind (arith, nat_tests)) in
       let few : count ≤ 4096 = small_count objects (over_object variables over) small in
-      joined_line (codes " " ++ decimal k) (flat_map (λ k. codes " " ++ decimal k) args)
-      (joined_line (codes " ") (decimal k) refl (decimal_line k (omega (arith, less, few)))) (arguments_line params args parts.1)
+      two (codes " " ++ decimal k) (flat_map (λ k. codes " " ++ decimal k) args)
+      (two (codes " ") (decimal k) (ascii (codes " ") refl) (number_passes k (omega (arith, less, few)))) (arguments_pass objects variables small params args parts.1)
 
--- ---- step texts
-
-module _ (m : Model) where
-  small_objects : list_all is_small_object m.objects ≡ true
-  small_objects = (and_parts (list_all is_small_object m.objects) _ (and_parts (has_most 1024 m.objects) _ m.few_names).1).0
-
-  text_line : ((i : ℕ) (t : Transition) → slice_get m.transitions i ≡ Some t → is_line t.name ≡ true) → (g : ℕ) → g < length m.dp_ground → is_line (step_text m g) ≡ true
-  text_line names g less =
+  pub text_passes : (m : Model) → ((i : ℕ) (t : Transition) → slice_get m.transitions i ≡ Some t → test t.name ≡ true) → (g : ℕ) → g < length m.dp_ground → test (step_text m g) ≡ true
+  text_passes m names g less =
       let x = there m.dp_ground g less in
       let fits = at_place (is_ground m.objects m.variables m.transitions) m.dp_ground g x.0 m.grounded x.1 in
       by x.0 x.1 (slice_get m.transitions x.0.transition) refl fits
     where
-      by : (x : Ground) → slice_get m.dp_ground g ≡ Some x → (t : Option Transition) → slice_get m.transitions x.transition ≡ t → is_ground m.objects m.variables m.transitions x ≡ true → is_line (step_text m g) ≡ true
+      small_objects : list_all is_small_object m.objects ≡ true
+      small_objects = (and_parts (list_all is_small_object m.objects) _ (and_parts (has_most 1024 m.objects) _ m.few_names).1).0
+
+      by : (x : Ground) → slice_get m.dp_ground g ≡ Some x → (t : Option Transition) → slice_get m.transitions x.transition ≡ t → is_ground m.objects m.variables m.transitions x ≡ true → test (step_text m g) ≡ true
       by x at None e fits = let no : false ≡ true = rw e at fits in absurd (cc no)
       by x at (Some t) e fits =
           let given : are_arguments m.objects m.variables t.params x.args ≡ true = rw e at fits in
           let text : step_text m g ≡ named (Some (t, x.args)) = rw (at, e) refl in
-          subst (λ (l : List ℕ). is_line l ≡ true) (sym text)
-          (joined_line t.name (flat_map (λ k. codes " " ++ decimal k) x.args) (names x.transition t e) (arguments_line m.objects m.variables small_objects t.params x.args given))
+          subst (λ (l : List ℕ). test l ≡ true) (sym text)
+          (two t.name (flat_map (λ k. codes " " ++ decimal k) x.args) (names x.transition t e) (arguments_pass m.objects m.variables small_objects t.params x.args given))
 
+module _ (m : Model) where
   -- the first ground transition with a text is the one that has it
   named_at : (line : List ℕ) (g : ℕ) → line ≡ step_text m g → ((i : ℕ) → i < g → step_text m i ≡ line → ⊥) → (gs : List Ground) (at : ℕ) → at ≤ g → g < at + length gs → named_from m at gs line ≡ Some g
   named_at line g is differ [] at low high = absurd (omega arith)
@@ -278,4 +257,4 @@ steps_are_lines read domain problem m means lines g less =
     let names : (i : ℕ) (t : Transition) → slice_get m.transitions i ≡ Some t → is_line t.name ≡ true =
     λ i t at. lines i t at (no_control t.name (has_control t.name) refl (at_place has_plain_name m.transitions i t plain at)) in
     let first = named_at m (step_text m g) g refl (λ i before same. steps_differ read domain problem m means i g before less same) m.dp_ground 0 (omega arith) (omega (arith, less)) in
-    (first, text_line m names g less)
+    (first, text_passes is_line line_append ascii_line m names g less)

@@ -1,103 +1,115 @@
--- Bytes that are whole characters of UTF-8: where they may be cut, and that without control characters they are a line.
-use Rattle.std.proofs.Common.{◌≡◌, ℕ, zero, suc, ◌+◌, ◌-◌, ◌*◌, ◌/◌, ◌<◌, ◌≤◌, Bool, true, false, ◌&&◌, nat_lt, nat_le, List, [], ◌∷◌, ◌++◌, length, take, drop, get_or, replicate, refl, sym, ◌∙◌, subst, inl, inr, arith, IsUtf8}
+-- Bytes that are UTF-8: where they may be cut, and that without control characters they are a line.
+use Rattle.std.proofs.Common.{◌≡◌, ℕ, zero, suc, ◌+◌, ◌/◌, ◌<◌, ◌≤◌, Bool, true, false, nat_lt, List, [], ◌∷◌, ◌++◌, length, take, drop, get_or, replicate, refl, sym, ap, ◌∙◌, subst, inl, inr, arith, append_assoc, length-append, IsUtf8}
 use Rattle.std.specs.Char.{is_control}
 use Rattle.std.specs.List.{list_any, prefix_len}
-use Rattle.std.specs.Str.{chars, chars_after, continuation_len, lead_bits}
-use Rattle.std.proofs.lemmas.Bool.{and_parts, and_from, or_parts, cases_Bool, cases_lt, cond-true, cond-false, leb-true, le-leb, lt-ltb, le-ltb}
-use Rattle.std.proofs.lemmas.Str.{encode_ascii}
+use Rattle.std.specs.Str.{IsAscii, chars, is_utf8}
+use Rattle.std.proofs.lemmas.Bool.{and_from, or_parts, cases_Bool, cases_lt, cond-true, cond-false, lt-ltb, le-ltb}
+use Rattle.std.proofs.lemmas.List.{append-nil}
+use Rattle.std.proofs.lemmas.Str.{IsCharBoundary-after_ascii, IsCharBoundary-before_ascii, IsUtf8-append, IsUtf8-drop, IsUtf8-from_ascii, IsUtf8-from_is_utf8, IsUtf8-nil, IsUtf8-take, chars-encodes, encode_ascii, is_utf8-from_IsUtf8}
 use lib.Utf8.{encode, encodes, next}
 use Rattle.cert_text.specs.ReadBack.{is_line}
 use Rattle.content_guards.proofs.StepTexts.{is_inside, inside}
 
--- so many bytes that still belong to a character, and then whole characters
-abbrev pub whole : ℕ → List ℕ → Bool
-whole zero [] = true
-whole (suc n) [] = false
-whole zero (byte ∷ bytes) = whole (continuation_len byte) bytes
-whole (suc n) (byte ∷ bytes) = nat_le 128 byte && whole n bytes
+-- whether bytes are UTF-8 behind others, which may end within a character
+abbrev pub whole : (before bytes : List ℕ) → Bool
+whole before bytes = is_utf8 (before ++ bytes)
+
+pub utf8_whole : (text : List ℕ) → IsUtf8 text → whole [] text ≡ true
+utf8_whole text utf8 = is_utf8-from_IsUtf8 text utf8
+
+pub whole_utf8 : (text : List ℕ) → whole [] text ≡ true → IsUtf8 text
+whole_utf8 text h = IsUtf8-from_is_utf8 text h
 
 -- ---- one byte
 
--- Behind a byte so many bytes still belong to its character. Other bytes may stand there of which that is so.
-pub record Step (n byte : ℕ) (bytes : List ℕ) : Type 0 where
-  pub left : ℕ
+-- Behind a byte there are more that others stand behind. Other bytes may stand there that are UTF-8 behind these.
+pub record Step (n : List ℕ) (byte : ℕ) (bytes : List ℕ) : Type 0 where
+  pub left : List ℕ
   pub rest : whole left bytes ≡ true
   pub again : (others : List ℕ) → whole left others ≡ true → whole n (byte ∷ others) ≡ true
 
-pub step : (n byte : ℕ) (bytes : List ℕ) → whole n (byte ∷ bytes) ≡ true → Step n byte bytes
-step zero byte bytes h = record { left = continuation_len byte; rest = h; again = λ others k. k }
-step (suc n) byte bytes h =
-    let parts = and_parts (nat_le 128 byte) (whole n bytes) h in
-    record { left = n; rest = parts.1; again = λ others k. and_from (nat_le 128 byte) (whole n others) parts.0 k }
+pub step : (n : List ℕ) (byte : ℕ) (bytes : List ℕ) → whole n (byte ∷ bytes) ≡ true → Step n byte bytes
+step n byte bytes h = record {
+  left = n ++ byte ∷ [];
+  rest = subst (λ (l : List ℕ). is_utf8 l ≡ true) (sym (append_assoc n (byte ∷ []) bytes)) h;
+  again = λ others k. subst (λ (l : List ℕ). is_utf8 l ≡ true) (append_assoc n (byte ∷ []) others) k;
+}
 
-pub low_length : (byte : ℕ) → byte < 128 → continuation_len byte ≡ 0
-low_length byte low = cond-true (nat_lt byte 128) 0 _ (lt-ltb byte 128 low)
+place_of : (n : List ℕ) (byte : ℕ) (bytes : List ℕ) → get_or (n ++ byte ∷ bytes) (length n) 0 ≡ byte
+place_of [] byte bytes = refl
+place_of (x ∷ n) byte bytes = place_of n byte bytes
 
--- a byte of ASCII is a character
-pub low_step : (n byte : ℕ) (bytes : List ℕ) → byte < 128 → whole n (byte ∷ bytes) ≡ true → (n ≡ 0) × (whole 0 bytes ≡ true)
-low_step zero byte bytes low h = (refl, subst (λ (k : ℕ). whole k bytes ≡ true) (low_length byte low) h)
-low_step (suc n) byte bytes low h = let high = leb-true 128 byte (and_parts (nat_le 128 byte) (whole n bytes) h).0 in absurd (omega (arith, high, low))
+front_of : (n bytes : List ℕ) → take (length n) (n ++ bytes) ≡ n
+front_of [] bytes = refl
+front_of (x ∷ n) bytes = ap (λ (l : List ℕ). x ∷ l) (front_of n bytes)
 
-pub low_more : (byte : ℕ) (bytes : List ℕ) → byte < 128 → whole 0 bytes ≡ true → whole 0 (byte ∷ bytes) ≡ true
-low_more byte bytes low h = subst (λ (k : ℕ). whole k bytes ≡ true) (sym (low_length byte low)) h
+behind_of : (n bytes : List ℕ) → drop (length n) (n ++ bytes) ≡ bytes
+behind_of [] bytes = refl
+behind_of (x ∷ n) bytes = behind_of n bytes
 
-high_more : (n byte : ℕ) (bytes : List ℕ) → 128 ≤ byte → whole n bytes ≡ true → whole (suc n) (byte ∷ bytes) ≡ true
-high_more n byte bytes high h = and_from (nat_le 128 byte) (whole n bytes) (le-leb 128 byte high) h
+-- a byte of ASCII is a character: what stands before it is UTF-8, and so is what stands behind it, and from it on
+pub low_step : (n : List ℕ) (byte : ℕ) (bytes : List ℕ) → byte < 128 → whole n (byte ∷ bytes) ≡ true → (whole n [] ≡ true) × (whole [] bytes ≡ true) × (whole [] (byte ∷ bytes) ≡ true)
+low_step n byte bytes low h =
+    let all : List ℕ = n ++ byte ∷ bytes in
+    let utf8 : IsUtf8 all = whole_utf8 all h in
+    let at : get_or all (length n) 0 ≡ byte = place_of n byte bytes in
+    let less : length n < length all = omega (arith, length-append n (byte ∷ bytes)) in
+    let cut = IsCharBoundary-before_ascii all (length n) less (omega (arith, at, low)) in
+    let front : IsUtf8 n = subst IsUtf8 (front_of n (byte ∷ bytes)) (IsUtf8-take all (length n) utf8 cut) in
+    let here : IsUtf8 (byte ∷ bytes) = subst IsUtf8 (behind_of n (byte ∷ bytes)) (IsUtf8-drop all (length n) utf8 cut) in
+    let behind : IsUtf8 bytes = IsUtf8-drop (byte ∷ bytes) 1 here (IsCharBoundary-after_ascii (byte ∷ bytes) 0 here (omega arith) low) in
+    (subst (λ (l : List ℕ). is_utf8 l ≡ true) (sym (append-nil n)) (utf8_whole n front), utf8_whole bytes behind, utf8_whole (byte ∷ bytes) here)
+
+pub no_bytes : whole [] [] ≡ true
+no_bytes = utf8_whole [] IsUtf8-nil
+
+ascii_one : (byte : ℕ) → byte < 128 → IsAscii (byte ∷ [])
+ascii_one byte low zero = low
+ascii_one byte low (suc i) = omega arith
 
 -- ---- lists
 
-pub joined : (n : ℕ) (xs ys : List ℕ) → whole n xs ≡ true → whole 0 ys ≡ true → whole n (xs ++ ys) ≡ true
-joined zero [] ys a b = b
-joined (suc n) [] ys a b = absurd (cc a)
-joined n (x ∷ xs) ys a b = let s = step n x xs a in s.again (xs ++ ys) (joined s.left xs ys s.rest b)
+pub joined : (n xs ys : List ℕ) → whole n xs ≡ true → whole [] ys ≡ true → whole n (xs ++ ys) ≡ true
+joined n xs ys a b =
+    subst (λ (l : List ℕ). is_utf8 l ≡ true) (append_assoc n xs ys)
+    (utf8_whole ((n ++ xs) ++ ys) (IsUtf8-append (n ++ xs) ys (whole_utf8 (n ++ xs) a) (whole_utf8 ys b)))
 
-pub copies : (n byte : ℕ) → byte < 128 → whole 0 (replicate n byte) ≡ true
-copies zero byte low = refl
+pub one_low : (byte : ℕ) → byte < 128 → whole [] (byte ∷ []) ≡ true
+one_low byte low = utf8_whole (byte ∷ []) (IsUtf8-from_ascii (byte ∷ []) (ascii_one byte low))
+
+pub low_more : (byte : ℕ) (bytes : List ℕ) → byte < 128 → whole [] bytes ≡ true → whole [] (byte ∷ bytes) ≡ true
+low_more byte bytes low h = joined [] (byte ∷ []) bytes (one_low byte low) h
+
+pub copies : (n byte : ℕ) → byte < 128 → whole [] (replicate n byte) ≡ true
+copies zero byte low = no_bytes
 copies (suc n) byte low = low_more byte (replicate n byte) low (copies n byte low)
 
 -- they may be cut before a byte of ASCII
-pub cut_before : (n k : ℕ) (bytes : List ℕ) → k < length bytes → get_or bytes k 0 < 128 → whole n bytes ≡ true → (whole n (take k bytes) ≡ true) × (whole 0 (drop k bytes) ≡ true)
+pub cut_before : (n : List ℕ) (k : ℕ) (bytes : List ℕ) → k < length bytes → get_or bytes k 0 < 128 → whole n bytes ≡ true → (whole n (take k bytes) ≡ true) × (whole [] (drop k bytes) ≡ true)
 cut_before n k [] less low h = absurd (omega arith)
-cut_before n zero (byte ∷ bytes) less low h =
-    let first = (low_step n byte bytes low h).0 in
-    (subst (λ (k : ℕ). whole k [] ≡ true) (sym first) refl, subst (λ (k : ℕ). whole k (byte ∷ bytes) ≡ true) first h)
+cut_before n zero (byte ∷ bytes) less low h = let cut = low_step n byte bytes low h in (cut.0, cut.2)
 cut_before n (suc k) (byte ∷ bytes) less low h =
     let s = step n byte bytes h in
     let rest = cut_before s.left k bytes (omega arith) low s.rest in
     (s.again (take k bytes) rest.0, rest.1)
 
 -- they may be cut behind the first ones that pass a test which only bytes of ASCII pass
-pub behind_low : (p : ℕ → Bool) → ((byte : ℕ) → p byte ≡ true → byte < 128) → (bytes : List ℕ) → whole 0 bytes ≡ true → whole 0 (drop (prefix_len p bytes) bytes) ≡ true
-behind_low p low [] h = refl
+pub behind_low : (p : ℕ → Bool) → ((byte : ℕ) → p byte ≡ true → byte < 128) → (bytes : List ℕ) → whole [] bytes ≡ true → whole [] (drop (prefix_len p bytes) bytes) ≡ true
+behind_low p low [] h = no_bytes
 behind_low p low (byte ∷ bytes) h = elim (cases_Bool (p byte)) [
   | inl is ↦
-      let past = behind_low p low bytes (low_step 0 byte bytes (low byte is) h).1 in
+      let past = behind_low p low bytes (low_step [] byte bytes (low byte is) h).1 in
       let count : prefix_len p (byte ∷ bytes) ≡ suc (prefix_len p bytes) = cond-true (p byte) (1 + prefix_len p bytes) 0 is ∙ (let e : 1 + prefix_len p bytes ≡ suc (prefix_len p bytes) = omega arith in e) in
-      subst (λ (k : ℕ). whole 0 (drop k (byte ∷ bytes)) ≡ true) (sym count) past
+      subst (λ (k : ℕ). whole [] (drop k (byte ∷ bytes)) ≡ true) (sym count) past
   | inr isnt ↦
       let count : prefix_len p (byte ∷ bytes) ≡ 0 = cond-false (p byte) (1 + prefix_len p bytes) 0 isnt in
-      subst (λ (k : ℕ). whole 0 (drop k (byte ∷ bytes)) ≡ true) (sym count) h
+      subst (λ (k : ℕ). whole [] (drop k (byte ∷ bytes)) ≡ true) (sym count) h
 ]
 
--- ---- UTF-8
-
-two_length : (byte : ℕ) → 192 ≤ byte → byte < 224 → continuation_len byte ≡ 1
-two_length byte low high = cond-false (nat_lt byte 128) 0 _ (le-ltb byte 128 (omega (arith, low))) ∙ cond-true (nat_lt byte 224) 1 _ (lt-ltb byte 224 high)
-
-three_length : (byte : ℕ) → 224 ≤ byte → byte < 240 → continuation_len byte ≡ 2
-three_length byte low high =
-    cond-false (nat_lt byte 128) 0 _ (le-ltb byte 128 (omega (arith, low))) ∙ cond-false (nat_lt byte 224) 1 _ (le-ltb byte 224 low) ∙ cond-true (nat_lt byte 240) 2 3 (lt-ltb byte 240 high)
-
-four_length : (byte : ℕ) → 240 ≤ byte → continuation_len byte ≡ 3
-four_length byte low =
-    cond-false (nat_lt byte 128) 0 _ (le-ltb byte 128 (omega (arith, low))) ∙ cond-false (nat_lt byte 224) 1 _ (le-ltb byte 224 (omega (arith, low))) ∙ cond-false (nat_lt byte 240) 2 3 (le-ltb byte 240 low)
+-- ---- characters and lines
 
 next_high : (bits : ℕ) → 128 ≤ next bits
 next_high bits = omega arith
-
--- a first byte, and as many behind it as it asks for
-led : (n byte : ℕ) (bytes : List ℕ) → continuation_len byte ≡ n → whole n bytes ≡ true → whole 0 (byte ∷ bytes) ≡ true
-led n byte bytes is h = subst (λ (k : ℕ). whole k bytes ≡ true) (sym is) h
 
 two_bytes : (c : ℕ) → 128 ≤ c → c < 2048 → encode c ≡ (192 + c / 64) ∷ next c ∷ []
 unfolding encode
@@ -113,62 +125,40 @@ unfolding encode
 four_bytes c low =
     cond-false (nat_lt c 128) _ _ (le-ltb c 128 (omega (arith, low))) ∙ cond-false (nat_lt c 2048) _ _ (le-ltb c 2048 (omega (arith, low))) ∙ cond-false (nat_lt c 65536) _ _ (le-ltb c 65536 low)
 
-character : (c : ℕ) (rest : List ℕ) → whole 0 rest ≡ true → whole 0 (encode c ++ rest) ≡ true
-character c rest h = elim (cases_lt c 128) [
-  | inl one ↦ subst (λ (l : List ℕ). whole 0 (l ++ rest) ≡ true) (sym (encode_ascii c one)) (low_more c rest one h)
+high_inside : (byte : ℕ) → 128 ≤ byte → is_inside byte ≡ true
+high_inside byte high = inside byte (λ low. absurd (omega (arith, high, low)))
+
+more_inside : (byte : ℕ) (bytes : List ℕ) → 128 ≤ byte → is_line bytes ≡ true → is_line (byte ∷ bytes) ≡ true
+more_inside byte bytes high h = and_from (is_inside byte) (is_line bytes) (high_inside byte high) h
+
+-- a character that is no control character
+character : (c : ℕ) (rest : List ℕ) → is_control c ≡ false → is_line rest ≡ true → is_line (encode c ++ rest) ≡ true
+character c rest plain h = elim (cases_lt c 128) [
+  | inl one ↦ subst (λ (l : List ℕ). is_line (l ++ rest) ≡ true) (sym (encode_ascii c one)) (and_from (is_inside c) (is_line rest) (inside c (λ low. plain)) h)
   | inr more ↦ elim (cases_lt c 2048) [
     | inl two ↦
-        subst (λ (l : List ℕ). whole 0 (l ++ rest) ≡ true) (sym (two_bytes c more two))
-        (led 1 (192 + c / 64) (next c ∷ rest) (two_length (192 + c / 64) (omega arith) (omega arith)) (high_more 0 (next c) rest (next_high c) h))
+        subst (λ (l : List ℕ). is_line (l ++ rest) ≡ true) (sym (two_bytes c more two))
+        (more_inside (192 + c / 64) (next c ∷ rest) (omega arith) (more_inside (next c) rest (next_high c) h))
     | inr three_or_four ↦ elim (cases_lt c 65536) [
       | inl three ↦
-          subst (λ (l : List ℕ). whole 0 (l ++ rest) ≡ true) (sym (three_bytes c three_or_four three))
-          (led 2 (224 + c / 4096) (next (c / 64) ∷ next c ∷ rest) (three_length (224 + c / 4096) (omega arith) (omega arith))
-          (high_more 1 (next (c / 64)) (next c ∷ rest) (next_high (c / 64)) (high_more 0 (next c) rest (next_high c) h)))
+          subst (λ (l : List ℕ). is_line (l ++ rest) ≡ true) (sym (three_bytes c three_or_four three))
+          (more_inside (224 + c / 4096) (next (c / 64) ∷ next c ∷ rest) (omega arith) (more_inside (next (c / 64)) (next c ∷ rest) (next_high (c / 64)) (more_inside (next c) rest (next_high c) h)))
       | inr four ↦
-          subst (λ (l : List ℕ). whole 0 (l ++ rest) ≡ true) (sym (four_bytes c four))
-          (led 3 (240 + c / 262144) (next (c / 4096) ∷ next (c / 64) ∷ next c ∷ rest) (four_length (240 + c / 262144) (omega arith))
-          (high_more 2 (next (c / 4096)) (next (c / 64) ∷ next c ∷ rest) (next_high (c / 4096)) (high_more 1 (next (c / 64)) (next c ∷ rest) (next_high (c / 64)) (high_more 0 (next c) rest (next_high c) h))))
+          subst (λ (l : List ℕ). is_line (l ++ rest) ≡ true) (sym (four_bytes c four))
+          (more_inside (240 + c / 262144) (next (c / 4096) ∷ next (c / 64) ∷ next c ∷ rest) (omega arith)
+          (more_inside (next (c / 4096)) (next (c / 64) ∷ next c ∷ rest) (next_high (c / 4096)) (more_inside (next (c / 64)) (next c ∷ rest) (next_high (c / 64)) (more_inside (next c) rest (next_high c) h))))
     ]
   ]
 ]
 
-pub utf8_whole : (text : List ℕ) → IsUtf8 text → whole 0 text ≡ true
-utf8_whole text utf8 = subst (λ (l : List ℕ). whole 0 l ≡ true) utf8.1.1 (characters utf8.0)
-  where
-    characters : (cs : List ℕ) → whole 0 (encodes cs) ≡ true
-    characters [] = refl
-    characters (c ∷ cs) = character c (encodes cs) (characters cs)
+characters : (cs : List ℕ) → list_any is_control cs ≡ false → is_line (encodes cs) ≡ true
+characters [] plain = refl
+characters (c ∷ cs) plain =
+    let parts = or_parts (is_control c) (list_any is_control cs) plain in
+    character c (encodes cs) parts.0 (characters cs parts.1)
 
--- ---- lines
-
-first_char : (c : ℕ) (bytes : List ℕ) → list_any is_control (chars_after 0 c bytes) ≡ false → is_control c ≡ false
-first_char c [] h = (or_parts (is_control c) false h).0
-first_char c (byte ∷ bytes) h = (or_parts (is_control c) (list_any is_control (chars_after (continuation_len byte) (lead_bits byte) bytes)) h).0
-
--- the first byte of a character, where that is no control character
-lead_inside : (byte : ℕ) (bytes : List ℕ) → list_any is_control (chars_after (continuation_len byte) (lead_bits byte) bytes) ≡ false → is_inside byte ≡ true
-lead_inside byte bytes h = inside byte ascii
-  where
-    ascii : byte < 128 → is_control byte ≡ false
-    ascii low =
-        let bits : lead_bits byte ≡ byte = cond-true (nat_lt byte 128) byte _ (lt-ltb byte 128 low) in
-        let one : list_any is_control (chars_after 0 (lead_bits byte) bytes) ≡ false = subst (λ (k : ℕ). list_any is_control (chars_after k (lead_bits byte) bytes) ≡ false) (low_length byte low) h in
-        first_char byte bytes (subst (λ (c : ℕ). list_any is_control (chars_after 0 c bytes) ≡ false) bits one)
-
-after_line : (n c : ℕ) (bytes : List ℕ) → whole n bytes ≡ true → list_any is_control (chars_after n c bytes) ≡ false → is_line bytes ≡ true
-after_line zero c [] h plain = refl
-after_line (suc n) c [] h plain = absurd (cc h)
-after_line zero c (byte ∷ bytes) h plain =
-    let rest = (or_parts (is_control c) (list_any is_control (chars_after (continuation_len byte) (lead_bits byte) bytes)) plain).1 in
-    and_from (is_inside byte) (is_line bytes) (lead_inside byte bytes rest) (after_line (continuation_len byte) (lead_bits byte) bytes h rest)
-after_line (suc n) c (byte ∷ bytes) h plain =
-    let parts = and_parts (nat_le 128 byte) (whole n bytes) h in
-    let high = leb-true 128 byte parts.0 in
-    and_from (is_inside byte) (is_line bytes) (inside byte (λ low. absurd (omega (arith, high, low)))) (after_line n (c * 64 + (byte - 128)) bytes parts.1 plain)
-
--- whole characters without control characters are a line
-pub whole_line : (bytes : List ℕ) → whole 0 bytes ≡ true → list_any is_control (chars bytes) ≡ false → is_line bytes ≡ true
-unfolding chars
-whole_line [] h plain = refl
-whole_line (byte ∷ bytes) h plain = and_from (is_inside byte) (is_line bytes) (lead_inside byte bytes plain) (after_line (continuation_len byte) (lead_bits byte) bytes h plain)
+-- UTF-8 without control characters is a line
+pub utf8_line : (text : List ℕ) → IsUtf8 text → list_any is_control (chars text) ≡ false → is_line text ≡ true
+utf8_line text utf8 plain =
+    let cs : chars text ≡ utf8.0 = sym (ap chars utf8.1.1) ∙ chars-encodes utf8.0 utf8.1.0 in
+    subst (λ (l : List ℕ). is_line l ≡ true) utf8.1.1 (characters utf8.0 (subst (λ (l : List ℕ). list_any is_control l ≡ false) cs plain))

@@ -18,7 +18,7 @@ use Rattle.yaml_tree.specs.declared.tree.Pair.{Pair}
 use Rattle.yaml_tree.specs.declared.tree.YamlEnd.{YamlEnd}
 use Rattle.yaml_tree.proofs.FlowMarks.{keyed-begins}
 use Rattle.yaml_tree.proofs.Sizes.{which, plain_text, scalar_at-ok, quoted_to-ok, list_made-ok, map_made-ok}
-use Rattle.content_guards.proofs.Whole.{whole, low_step}
+use Rattle.content_guards.proofs.Whole.{whole, low_step, no_bytes}
 use Rattle.content_guards.proofs.WholeScalars.{IsWhole, passed_whole, point_whole, part_whole, plain_whole, single_whole, double_whole}
 use Rattle.content_guards.proofs.WholeTrees.{is_whole, whole_pair, scalar_whole, list_whole, map_whole}
 
@@ -35,34 +35,34 @@ split P false a c = c refl
 
 -- what stands between quotes, and behind the closing one
 pub record Between (here : List ℕ) (single : Bool) (inside : ℕ) : Type 0 where
-  pub text : (text : List ℕ) → text_within single (take inside (drop 1 here)) ≡ Ok text → whole 0 text ≡ true
-  pub behind : whole 0 (drop (inside + 2) here) ≡ true
+  pub text : (text : List ℕ) → text_within single (take inside (drop 1 here)) ≡ Ok text → whole [] text ≡ true
+  pub behind : whole [] (drop (inside + 2) here) ≡ true
 
 two_more : (n : ℕ) → suc (suc n) ≡ n + 2
 two_more n = omega arith
 
-between_single : (byte : ℕ) (bytes inner : List ℕ) → byte < 128 → whole 0 (byte ∷ bytes) ≡ true → single_quoted bytes ≡ Some inner → Between (byte ∷ bytes) true (length inner)
+between_single : (byte : ℕ) (bytes inner : List ℕ) → byte < 128 → whole [] (byte ∷ bytes) ≡ true → single_quoted bytes ≡ Some inner → Between (byte ∷ bytes) true (length inner)
 between_single byte bytes inner low h is =
-    let c = single_whole bytes 0 inner (low_step 0 byte bytes low h).1 is in
-    record { text = texts c.closed.front c.text; behind = subst (λ (k : ℕ). whole 0 (drop k (byte ∷ bytes)) ≡ true) (two_more (length inner)) c.closed.behind }
+    let c = single_whole bytes [] inner (low_step [] byte bytes low h).1 is in
+    record { text = texts c.closed.front c.text; behind = subst (λ (k : ℕ). whole [] (drop k (byte ∷ bytes)) ≡ true) (two_more (length inner)) c.closed.behind }
   where
-    texts : take (length inner) bytes ≡ inner → whole 0 (single_text inner) ≡ true → (text : List ℕ) → text_within true (take (length inner) bytes) ≡ Ok text → whole 0 text ≡ true
+    texts : take (length inner) bytes ≡ inner → whole [] (single_text inner) ≡ true → (text : List ℕ) → text_within true (take (length inner) bytes) ≡ Ok text → whole [] text ≡ true
     texts front good text e =
         let same : single_text (take (length inner) bytes) ≡ text = cc e in
-        subst (λ (l : List ℕ). whole 0 l ≡ true) (sym (ap single_text front) ∙ same) good
+        subst (λ (l : List ℕ). whole [] l ≡ true) (sym (ap single_text front) ∙ same) good
 
-between_double : (byte : ℕ) (bytes inner : List ℕ) → byte < 128 → whole 0 (byte ∷ bytes) ≡ true → double_quoted bytes ≡ Some inner → Between (byte ∷ bytes) false (length inner)
+between_double : (byte : ℕ) (bytes inner : List ℕ) → byte < 128 → whole [] (byte ∷ bytes) ≡ true → double_quoted bytes ≡ Some inner → Between (byte ∷ bytes) false (length inner)
 between_double byte bytes inner low h is =
-    let c = double_whole bytes 0 inner (low_step 0 byte bytes low h).1 is in
-    record { text = texts c.closed.front (c.text 1); behind = subst (λ (k : ℕ). whole 0 (drop k (byte ∷ bytes)) ≡ true) (two_more (length inner)) c.closed.behind }
+    let c = double_whole bytes [] inner (low_step [] byte bytes low h).1 is in
+    record { text = texts c.closed.front (c.text 1); behind = subst (λ (k : ℕ). whole [] (drop k (byte ∷ bytes)) ≡ true) (two_more (length inner)) c.closed.behind }
   where
-    texts : take (length inner) bytes ≡ inner → ((text : List ℕ) → double_text 1 inner ≡ Ok text → whole 0 text ≡ true) → (text : List ℕ) → text_within false (take (length inner) bytes) ≡ Ok text → whole 0 text ≡ true
+    texts : take (length inner) bytes ≡ inner → ((text : List ℕ) → double_text 1 inner ≡ Ok text → whole [] text ≡ true) → (text : List ℕ) → text_within false (take (length inner) bytes) ≡ Ok text → whole [] text ≡ true
     texts front good text e = good text (ap (double_text 1) (sym front) ∙ e)
 
 low_quote : (byte : ℕ) → (byte == 34 || byte == 39) ≡ true → byte < 128
 low_quote byte is = grind (arith, nat_tests)
 
-between : (byte : ℕ) (bytes inner : List ℕ) (single : Bool) → byte < 128 → (byte == 39) ≡ single → whole 0 (byte ∷ bytes) ≡ true → inner_of (byte ∷ bytes) ≡ Some inner → Between (byte ∷ bytes) single (length inner)
+between : (byte : ℕ) (bytes inner : List ℕ) (single : Bool) → byte < 128 → (byte == 39) ≡ single → whole [] (byte ∷ bytes) ≡ true → inner_of (byte ∷ bytes) ≡ Some inner → Between (byte ∷ bytes) single (length inner)
 between byte bytes inner true low e h is = between_single byte bytes inner low h (ap (λ (b : Bool). if b then single_quoted bytes else double_quoted bytes) (sym e) ∙ is)
 between byte bytes inner false low e h is = between_double byte bytes inner low h (ap (λ (b : Bool). if b then single_quoted bytes else double_quoted bytes) (sym e) ∙ is)
 
@@ -82,7 +82,7 @@ plain_part_made from x good is =
 
 header_line_made : (from : Rest) (x : Tree × Rest) → IsWhole from → header_line from ≡ Ok x → Made x
 header_line_made from x good is =
-    let e : (trees.Scalar (place from) [], record from { here = [] }) ≡ x = cc is in subst Made e (scalar_whole (place from) [] refl, (refl, good.1))
+    let e : (trees.Scalar (place from) [], record from { here = [] }) ≡ x = cc is in subst Made e (scalar_whole (place from) [] no_bytes, (no_bytes, good.1))
 
 quoted_made : (from : Rest) (single : Bool) (inside : ℕ) (x : Tree × Rest) → Between from.here single inside → IsWhole from → quoted from single inside ≡ Ok x → Made x
 quoted_made from single inside x b good is =
@@ -163,7 +163,7 @@ pub entry_whole : (key value : Tree) → is_whole key ≡ true → is_whole valu
 entry_whole key value k v = and_from (is_whole key) (is_whole value) k v
 
 pub empty_whole : (at : Rest) → is_whole (empty_at at) ≡ true
-empty_whole at = scalar_whole (place at) [] refl
+empty_whole at = scalar_whole (place at) [] no_bytes
 
 module _ (Node : Reading) (makes : Makes Node) where
   list_turn_passes : TurnsPass is_whole (ListTurn Node)
@@ -250,7 +250,7 @@ module _ (Node : Reading) (makes : Makes Node) where
         by (byte ∷ bytes) e =
             let P : _ → Type 0 = λ o. FormOf flow Node Key o from (Ok x) → Made x in
             split P (byte == 34 || byte == 39)
-            (λ h. quotes_made flow from x (byte == 39) (inner_of (byte ∷ bytes)) (λ inner is. subst (λ (l : List ℕ). Between l (byte == 39) (length inner)) (sym e) (between byte bytes inner (byte == 39) (low_quote byte h) refl (ap (λ (l : List ℕ). whole 0 l) (sym e) ∙ good.0) is)) good)
+            (λ h. quotes_made flow from x (byte == 39) (inner_of (byte ∷ bytes)) (λ inner is. subst (λ (l : List ℕ). Between l (byte == 39) (length inner)) (sym e) (between byte bytes inner (byte == 39) (low_quote byte h) refl (ap (λ (l : List ℕ). whole [] l) (sym e) ∙ good.0) is)) good)
             (λ h. split P (byte == 91) (λ k form. list_form_made from x (ap (begins 91) e ∙ k) good form)
             (λ k. split P (byte == 123) (λ l. split P maps (λ m form. map_form_made from x (ap (begins 123) e ∙ l) good form) (λ m form. absurd (cc form)))
             (λ l. split P (byte == 38) (λ m form. absurd (cc form))

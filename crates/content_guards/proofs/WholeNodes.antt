@@ -16,7 +16,7 @@ use Rattle.yaml_tree.specs.BlockScalars.{is_blank_row, in_content, content_of, c
 use Rattle.yaml_tree.specs.declared.tree.Tree.{Tree}
 use Rattle.yaml_tree.specs.declared.tree.Pair.{Pair}
 use Rattle.yaml_tree.proofs.Sizes.{chosen, which, settled-ok, block_scalar-ok, list_made-ok, map_made-ok}
-use Rattle.content_guards.proofs.Whole.{whole, copies, joined as both_whole}
+use Rattle.content_guards.proofs.Whole.{whole, no_bytes, one_low, copies, joined as both_whole}
 use Rattle.content_guards.proofs.WholeScalars.{AreWhole, IsWhole, passed_whole, skipped_whole, content_whole, settled_whole, ended_whole}
 use Rattle.content_guards.proofs.WholeTrees.{is_whole, whole_pair, scalar_whole, list_whole, map_whole}
 use Rattle.content_guards.proofs.WholeForms.{Made, Makes, Passes, split, plain_made, entry_whole, empty_whole, one_passes, repeats_pass, form_made}
@@ -33,41 +33,41 @@ dropped_whole zero rows h = h
 dropped_whole (suc n) [] h = tt
 dropped_whole (suc n) (row ∷ rows) h = dropped_whole n rows h.1
 
-line_text_whole : (indent : ℕ) (row : Row) → whole 0 row.text ≡ true → whole 0 (line_text indent row) ≡ true
+line_text_whole : (indent : ℕ) (row : Row) → whole [] row.text ≡ true → whole [] (line_text indent row) ≡ true
 line_text_whole indent row h = by (is_blank_row row)
   where
-    by : (b : Bool) → whole 0 (if b then [] else replicate (row.indent - indent) 32 ++ row.text) ≡ true
-    by true = refl
-    by false = both_whole 0 (replicate (row.indent - indent) 32) row.text (copies (row.indent - indent) 32 (omega arith)) h
+    by : (b : Bool) → whole [] (if b then [] else replicate (row.indent - indent) 32 ++ row.text) ≡ true
+    by true = no_bytes
+    by false = both_whole [] (replicate (row.indent - indent) 32) row.text (copies (row.indent - indent) 32 (omega arith)) h
 
 module _ (byte : ℕ) (indent : ℕ) where
-  break_whole : (row : Row) (rows : List Row) → whole 0 (break_behind (style_of byte) indent row rows) ≡ true
-  break_whole row [] = refl
+  break_whole : (row : Row) (rows : List Row) → whole [] (break_behind (style_of byte) indent row rows) ≡ true
+  break_whole row [] = no_bytes
   break_whole row (next ∷ rows) = by (folds (style_of byte) indent row (next ∷ rows)) (is_blank_row next)
     where
-      by : (b c : Bool) → whole 0 (if b then (if c then [] else 32 ∷ []) else 10 ∷ []) ≡ true
-      by true true = refl
-      by true false = refl
-      by false c = refl
+      by : (b c : Bool) → whole [] (if b then (if c then [] else 32 ∷ []) else 10 ∷ []) ≡ true
+      by true true = no_bytes
+      by true false = one_low 32 (omega arith)
+      by false c = one_low 10 (omega arith)
 
-  joined_whole : (rows : List Row) → AreWhole rows → whole 0 (joined (style_of byte) indent rows) ≡ true
+  joined_whole : (rows : List Row) → AreWhole rows → whole [] (joined (style_of byte) indent rows) ≡ true
   unfolding joined
-  joined_whole [] h = refl
+  joined_whole [] h = no_bytes
   joined_whole (row ∷ rows) h =
-      both_whole 0 (line_text indent row) (break_behind (style_of byte) indent row rows ++ joined (style_of byte) indent rows) (line_text_whole indent row h.0)
-      (both_whole 0 (break_behind (style_of byte) indent row rows) (joined (style_of byte) indent rows) (break_whole row rows) (joined_whole rows h.1))
+      both_whole [] (line_text indent row) (break_behind (style_of byte) indent row rows ++ joined (style_of byte) indent rows) (line_text_whole indent row h.0)
+      (both_whole [] (break_behind (style_of byte) indent row rows) (joined (style_of byte) indent rows) (break_whole row rows) (joined_whole rows h.1))
 
-  last_whole : (rows : List Row) → whole 0 (last_break rows) ≡ true
-  last_whole [] = refl
-  last_whole (row ∷ rows) = refl
+  last_whole : (rows : List Row) → whole [] (last_break rows) ≡ true
+  last_whole [] = no_bytes
+  last_whole (row ∷ rows) = one_low 10 (omega arith)
 
-  block_text_whole : (bytes : List ℕ) (rows : List Row) → AreWhole rows → whole 0 (block_text (style_of byte) (chomping_of bytes) indent rows) ≡ true
+  block_text_whole : (bytes : List ℕ) (rows : List Row) → AreWhole rows → whole [] (block_text (style_of byte) (chomping_of bytes) indent rows) ≡ true
   block_text_whole bytes rows h =
-      let P : _ → Type 0 = λ c. whole 0 (block_text (style_of byte) c indent rows) ≡ true in
+      let P : _ → Type 0 = λ c. whole [] (block_text (style_of byte) c indent rows) ≡ true in
       let trim = taken_whole (length rows - suffix_len is_blank_row rows) rows h in
       split P (begins 45 bytes) (λ k. joined_whole (trimmed rows) trim)
-      (λ k. split P (begins 43 bytes) (λ l. both_whole 0 (joined (style_of byte) indent rows) (last_break rows) (joined_whole rows h) (last_whole rows))
-      (λ l. both_whole 0 (joined (style_of byte) indent (trimmed rows)) (last_break (trimmed rows)) (joined_whole (trimmed rows) trim) (last_whole (trimmed rows))))
+      (λ k. split P (begins 43 bytes) (λ l. both_whole [] (joined (style_of byte) indent rows) (last_break rows) (joined_whole rows h) (last_whole rows))
+      (λ l. both_whole [] (joined (style_of byte) indent (trimmed rows)) (last_break (trimmed rows)) (joined_whole (trimmed rows) trim) (last_whole (trimmed rows))))
 
 block_scalar_made : (byte : ℕ) (bytes : List ℕ) (least : ℕ) (at : Place) (r : Rest) (x : Tree × Rest) → IsWhole r → block_scalar (style_of byte) (chomping_of bytes) least at r ≡ Ok x → Made x
 block_scalar_made byte bytes least at r x good is =

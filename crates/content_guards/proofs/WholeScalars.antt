@@ -1,7 +1,6 @@
 -- Scalars of lines that are whole characters are whole characters, and so is what is left behind them.
 use Rattle.std.proofs.Common.{◌≡◌, ℕ, zero, suc, ◌+◌, ◌-◌, ◌<◌, ◌≤◌, Bool, true, false, not, ◌==◌, if◌then◌else◌, List, [], ◌∷◌, ◌++◌, length, take, drop, get_or, reverse, replicate, Option, None, Some, Result, Ok, Err, refl, sym, ap, ◌∙◌, subst, inl, inr, arith, length-take}
 use Rattle.std.specs.List.{prefix_len, suffix_len}
-use Rattle.std.specs.Str.{continuation_len}
 use Rattle.std.proofs.lemmas.Bool.{cases_Bool, cases_lt, eqb-true}
 use Rattle.std.proofs.lemmas.Bool.Decides.{nat_tests}
 use Rattle.std.proofs.lemmas.List.{get_or-reverse}
@@ -16,18 +15,18 @@ use Rattle.yaml_tree.proofs.BasePoints.{below-blank}
 use Rattle.yaml_tree.proofs.ScalarQuotes.{single_other, single_pair, single_closes, single_open, double_other, double_escape, double_closes, double_cut, double_open}
 use Rattle.yaml_tree.proofs.ScalarTexts.{longer-some, with_front, doubled_other, doubled_escape}
 use Rattle.yaml_tree.proofs.Sizes.{chosen, with_text-ok, plain_text}
-use Rattle.content_guards.proofs.Whole.{whole, Step, step, low_length, low_step, low_more, joined, copies, cut_before, behind_low}
+use Rattle.content_guards.proofs.Whole.{whole, Step, step, low_step, low_more, no_bytes, one_low, joined, copies, cut_before, behind_low}
 
 -- ---- what is left of a text
 
 abbrev pub AreWhole : List Row → Type 0
 AreWhole [] = Unit {0}
-AreWhole (row ∷ rows) = (whole 0 row.text ≡ true) × AreWhole rows
+AreWhole (row ∷ rows) = (whole [] row.text ≡ true) × AreWhole rows
 
 abbrev pub IsWhole : Rest → Type 0
-IsWhole r = (whole 0 r.here ≡ true) × AreWhole r.below
+IsWhole r = (whole [] r.here ≡ true) × AreWhole r.below
 
-pub blanks_passed : (bytes : List ℕ) → whole 0 bytes ≡ true → whole 0 (drop (prefix_len is_blank bytes) bytes) ≡ true
+pub blanks_passed : (bytes : List ℕ) → whole [] bytes ≡ true → whole [] (drop (prefix_len is_blank bytes) bytes) ≡ true
 blanks_passed bytes h = behind_low is_blank below-blank bytes h
 
 pub skipped_whole : (r : Rest) → IsWhole r → IsWhole (skip_blanks r)
@@ -37,9 +36,9 @@ skipped_whole r h = (blanks_passed r.here h.0, h.1)
 pub passed_whole : (byte : ℕ) (r : Rest) → byte < 128 → begins byte r.here ≡ true → IsWhole r → IsWhole (on 1 r)
 passed_whole byte r low is h = (past r.here is h.0, h.1)
   where
-    past : (here : List ℕ) → begins byte here ≡ true → whole 0 here ≡ true → whole 0 (drop 1 here) ≡ true
+    past : (here : List ℕ) → begins byte here ≡ true → whole [] here ≡ true → whole [] (drop 1 here) ≡ true
     past [] e k = absurd (cc e)
-    past (first ∷ bytes) e k = let same : first ≡ byte = eqb-true first byte e in (low_step 0 first bytes (omega (arith, same, low)) k).1
+    past (first ∷ bytes) e k = let same : first ≡ byte = eqb-true first byte e in (low_step [] first bytes (omega (arith, same, low)) k).1
 
 pub content_whole : (rows : List Row) → AreWhole rows → AreWhole (from_content rows)
 content_whole [] h = tt
@@ -50,7 +49,7 @@ content_whole (row ∷ rows) h = by (has_content row) (content_whole rows h.1)
     by false rest = rest
 
 pub settled_whole : (r : Rest) → IsWhole r → IsWhole (settle r)
-settled_whole r h = (refl, content_whole r.below h.1)
+settled_whole r h = (no_bytes, content_whole r.below h.1)
 
 below_whole : (r q : Rest) (rows : List Row) → AreWhole rows → flow_below r rows ≡ Ok q → IsWhole q
 below_whole r q [] h is = absurd (cc is)
@@ -76,14 +75,13 @@ ended_whole r q h is = elim (chosen (is_clear r.here) _ _ _ is) [
 low_end : (flow behind : Bool) (byte : ℕ) (bytes : List ℕ) → ends_before flow behind byte bytes ≡ true → byte < 128
 low_end flow behind byte bytes is = grind (arith, nat_tests)
 
-run_whole : (flow behind : Bool) (n : ℕ) (bytes : List ℕ) → whole n bytes ≡ true → (whole n (run_of flow behind bytes) ≡ true) × (whole 0 (drop (length (run_of flow behind bytes)) bytes) ≡ true)
+run_whole : (flow behind : Bool) (n bytes : List ℕ) → whole n bytes ≡ true → (whole n (run_of flow behind bytes) ≡ true) × (whole [] (drop (length (run_of flow behind bytes)) bytes) ≡ true)
 unfolding run_of
-run_whole flow behind zero [] h = (refl, refl)
-run_whole flow behind (suc n) [] h = absurd (cc h)
+run_whole flow behind n [] h = (h, no_bytes)
 run_whole flow behind n (byte ∷ bytes) h = elim (cases_Bool (ends_before flow behind byte bytes)) [
   | inl ends ↦
-      let first = (low_step n byte bytes (low_end flow behind byte bytes ends) h).0 in
-      rw ends (subst (λ (k : ℕ). whole k [] ≡ true) (sym first) refl, subst (λ (k : ℕ). whole k (byte ∷ bytes) ≡ true) first h)
+      let cut = low_step n byte bytes (low_end flow behind byte bytes ends) h in
+      rw ends (cut.0, cut.2)
   | inr goes ↦
       let s = step n byte bytes h in
       let rest = run_whole flow (is_blank byte) s.left bytes s.rest in
@@ -107,13 +105,13 @@ take_whole zero (x ∷ l) le = absurd (omega arith)
 take_whole (suc k) (x ∷ l) le = ap (λ (m : List ℕ). x ∷ m) (take_whole k l (omega arith))
 
 -- the blanks at the end may be cut off, also where more stands behind them
-pub trim_whole : (run : List ℕ) (count : ℕ) → count ≡ length run - suffix_len is_blank run → whole 0 run ≡ true → whole 0 (take count run) ≡ true
+pub trim_whole : (run : List ℕ) (count : ℕ) → count ≡ length run - suffix_len is_blank run → whole [] run ≡ true → whole [] (take count run) ≡ true
 trim_whole run count is h = elim (cases_lt count (length run)) [
   | inl less ↦
       let within = suffix_len-le-length is_blank run in
       let blank : is_blank (get_or run count 0) ≡ true = subst (λ (k : ℕ). is_blank (get_or run k 0) ≡ true) (sym is) (blank_behind run (omega (arith, within, is))) in
-      (cut_before 0 count run less (below-blank (get_or run count 0) blank) h).0
-  | inr all ↦ subst (λ (l : List ℕ). whole 0 l ≡ true) (sym (take_whole count run all)) h
+      (cut_before [] count run less (below-blank (get_or run count 0) blank) h).0
+  | inr all ↦ subst (λ (l : List ℕ). whole [] l ≡ true) (sym (take_whole count run all)) h
 ]
 
 -- a run is what stands in front
@@ -138,16 +136,16 @@ run_length flow behind (byte ∷ bytes) = elim (cases_Bool (ends_before flow beh
   | inr goes ↦ let rest = run_length flow (is_blank byte) bytes in rw goes (omega (arith, rest))
 ]
 
-pub part_whole : (flow : Bool) (here : List ℕ) → whole 0 here ≡ true → (whole 0 (part_of flow here) ≡ true) × (whole 0 (drop (length (part_of flow here)) here) ≡ true)
+pub part_whole : (flow : Bool) (here : List ℕ) → whole [] here ≡ true → (whole [] (part_of flow here) ≡ true) × (whole [] (drop (length (part_of flow here)) here) ≡ true)
 part_whole flow here h =
     let run : List ℕ = run_of flow false here in
     let count : ℕ = length run - suffix_len is_blank run in
-    let both = run_whole flow false 0 here h in
+    let both = run_whole flow false [] here h in
     let within = suffix_len-le-length is_blank run in
     let long : length (part_of flow here) ≡ count = omega (arith, length-take count run, within) in
-    (trim_whole run count refl both.0, subst (λ (k : ℕ). whole 0 (drop k here) ≡ true) (sym long) (behind run refl count refl both.1))
+    (trim_whole run count refl both.0, subst (λ (k : ℕ). whole [] (drop k here) ≡ true) (sym long) (behind run refl count refl both.1))
   where
-    behind : (run : List ℕ) → run ≡ run_of flow false here → (count : ℕ) → count ≡ length run - suffix_len is_blank run → whole 0 (drop (length run) here) ≡ true → whole 0 (drop count here) ≡ true
+    behind : (run : List ℕ) → run ≡ run_of flow false here → (count : ℕ) → count ≡ length run - suffix_len is_blank run → whole [] (drop (length run) here) ≡ true → whole [] (drop count here) ≡ true
     behind run is count at rest = elim (cases_lt count (length run)) [
       | inl less ↦
           let within = suffix_len-le-length is_blank run in
@@ -155,22 +153,22 @@ part_whole flow here h =
           let long : length run ≡ length (run_of flow false here) = ap (λ (l : List ℕ). length l) is in
           let same : get_or run count 0 ≡ get_or here count 0 = ap (λ (l : List ℕ). get_or l count 0) is ∙ run_same flow false here count (omega (arith, long, less)) in
           let low = below-blank (get_or run count 0) blank in
-          (cut_before 0 count here (omega (arith, less, long, run_length flow false here)) (omega (arith, low, same)) h).1
-      | inr all ↦ let same : length run ≡ count = omega (arith, all, at) in subst (λ (k : ℕ). whole 0 (drop k here) ≡ true) same rest
+          (cut_before [] count here (omega (arith, less, long, run_length flow false here)) (omega (arith, low, same)) h).1
+      | inr all ↦ let same : length run ≡ count = omega (arith, all, at) in subst (λ (k : ℕ). whole [] (drop k here) ≡ true) same rest
     ]
 
 -- a text and what is left behind it
 abbrev pub BothWhole : List ℕ × Rest → Type 0
-BothWhole x = (whole 0 x.0 ≡ true) × IsWhole x.1
+BothWhole x = (whole [] x.0 ≡ true) × IsWhole x.1
 
 nothing_more : (r : Rest) (x : List ℕ × Rest) → IsWhole r → ◌≡◌ {A = Result (List ℕ × Rest) YamlEnd} (Ok ([], r)) (Ok x) → BothWhole x
-nothing_more r x h is = let e : ([], r) ≡ x = cc in subst BothWhole e (refl, h)
+nothing_more r x h is = let e : ([], r) ≡ x = cc in subst BothWhole e (no_bytes, h)
 
-break_whole : (blanks : ℕ) → whole 0 (break_text blanks) ≡ true
+break_whole : (blanks : ℕ) → whole [] (break_text blanks) ≡ true
 break_whole blanks = by (blanks == 0)
   where
-    by : (b : Bool) → whole 0 (if b then 32 ∷ [] else replicate blanks 10) ≡ true
-    by true = refl
+    by : (b : Bool) → whole [] (if b then 32 ∷ [] else replicate blanks 10) ≡ true
+    by true = one_low 32 (omega arith)
     by false = copies blanks 10 (omega arith)
 
 abbrev line_end : (flow : Bool) (r : Rest) (row : Row) (rows : List Row) → Rest
@@ -186,7 +184,7 @@ line_whole flow r blanks row rows more x h rest is =
       | inl n ↦ rest w.0 n.1
       | inr n ↦ nothing_more (line_end flow r row rows) w.0 (part.1, h.1) n.1
     ] in
-    subst BothWhole (sym w.2) (joined 0 (break_text blanks ++ part_of flow row.text) w.0.0 (joined 0 (break_text blanks) (part_of flow row.text) (break_whole blanks) part.0) behind.0, behind.1)
+    subst BothWhole (sym w.2) (joined [] (break_text blanks ++ part_of flow row.text) w.0.0 (joined [] (break_text blanks) (part_of flow row.text) (break_whole blanks) part.0) behind.0, behind.1)
 
 lines_whole : (flow : Bool) (least : ℕ) (r : Rest) (blanks : ℕ) (rows : List Row) (x : List ℕ × Rest) → IsWhole r → AreWhole rows → lines_added flow least r blanks rows ≡ Ok x → BothWhole x
 unfolding lines_added
@@ -220,16 +218,16 @@ plain_whole flow least r x good is =
     let w = with_text-ok (part_of flow r.here) (added flow least (on (length (part_of flow r.here)) r)) x is in
     let part = part_whole flow r.here good.0 in
     let behind = added_whole flow least (on (length (part_of flow r.here)) r) w.0 (part.1, good.1) w.1 in
-    subst BothWhole (sym w.2) (joined 0 (part_of flow r.here) w.0.0 part.0 behind.0, behind.1)
+    subst BothWhole (sym w.2) (joined [] (part_of flow r.here) w.0.0 part.0 behind.0, behind.1)
 
 -- ---- quoted scalars
 
 -- what closes behind these bytes, what it stands for, and what is left behind the closing quote
-pub record Closed (n : ℕ) (bytes inner : List ℕ) : Type 0 where
+pub record Closed (n bytes inner : List ℕ) : Type 0 where
   pub front : take (length inner) bytes ≡ inner
-  pub behind : whole 0 (drop (suc (length inner)) bytes) ≡ true
+  pub behind : whole [] (drop (suc (length inner)) bytes) ≡ true
 
-pub record Single (n : ℕ) (bytes inner : List ℕ) : Type 0 where
+pub record Single (n bytes inner : List ℕ) : Type 0 where
   pub closed : Closed n bytes inner
   pub text : whole n (single_text inner) ≡ true
 
@@ -250,33 +248,33 @@ differs : (a b : ℕ) → (a == b) ≡ false → a ≡ b → ⊥
 differs a b isnt e = grind (arith, nat_tests)
 
 -- one byte further
-closed_more : (n k byte : ℕ) (bytes inner : List ℕ) → Closed k bytes inner → Closed n (byte ∷ bytes) (byte ∷ inner)
+closed_more : (n k : List ℕ) (byte : ℕ) (bytes inner : List ℕ) → Closed k bytes inner → Closed n (byte ∷ bytes) (byte ∷ inner)
 closed_more n k byte bytes inner c = record { front = ap (λ (l : List ℕ). byte ∷ l) c.front; behind = c.behind }
 
-closes : (n byte : ℕ) (bytes : List ℕ) → byte < 128 → whole n (byte ∷ bytes) ≡ true → Closed n (byte ∷ bytes) []
+closes : (n : List ℕ) (byte : ℕ) (bytes : List ℕ) → byte < 128 → whole n (byte ∷ bytes) ≡ true → Closed n (byte ∷ bytes) []
 closes n byte bytes low h = record { front = refl; behind = (low_step n byte bytes low h).1 }
 
 abbrev pub SingleAt : List ℕ → Type 0
-SingleAt bytes = (n : ℕ) (inner : List ℕ) → whole n bytes ≡ true → single_quoted bytes ≡ Some inner → Single n bytes inner
+SingleAt bytes = (n inner : List ℕ) → whole n bytes ≡ true → single_quoted bytes ≡ Some inner → Single n bytes inner
 
 single_done : (bytes : List ℕ) → single_quoted (39 ∷ bytes) ≡ Some [] → SingleAt (39 ∷ bytes)
 single_done bytes closed n inner h is =
     let told : Some [] ≡ Some inner = sym closed ∙ is in
     let same : [] ≡ inner = cc told in
     let first = (low_step n 39 bytes (omega arith) h).0 in
-    subst (Single n (39 ∷ bytes)) same (record { closed = closes n 39 bytes (omega arith) h; text = subst (λ (l : List ℕ). whole n l ≡ true) (sym text_none) (subst (λ (k : ℕ). whole k [] ≡ true) (sym first) refl) })
+    subst (Single n (39 ∷ bytes)) same (record { closed = closes n 39 bytes (omega arith) h; text = subst (λ (l : List ℕ). whole n l ≡ true) (sym text_none) first })
 
 pair_whole : (bytes : List ℕ) → SingleAt bytes → SingleAt (39 ∷ (39 ∷ bytes))
 pair_whole bytes behind n inner h is =
     let first = low_step n 39 (39 ∷ bytes) (omega arith) h in
-    let second = low_step 0 39 bytes (omega arith) first.1 in
+    let second = low_step [] 39 bytes (omega arith) first.1 in
     let more = longer-some (39 ∷ (39 ∷ [])) (single_quoted bytes) inner (sym (single_pair bytes) ∙ is) in
-    let rest = behind 0 more.0 second.1 more.1 in
-    let text : whole 0 (39 ∷ single_text more.0) ≡ true = low_more 39 (single_text more.0) (omega arith) rest.text in
+    let rest = behind [] more.0 second.1 more.1 in
+    let text : whole [] (39 ∷ single_text more.0) ≡ true = low_more 39 (single_text more.0) (omega arith) rest.text in
     subst (Single n (39 ∷ (39 ∷ bytes))) {x = 39 ∷ (39 ∷ more.0)} more.2
     (record {
       closed = record { front = ap (λ (l : List ℕ). 39 ∷ (39 ∷ l)) rest.closed.front; behind = rest.closed.behind };
-      text = subst (λ (l : List ℕ). whole n l ≡ true) (sym (text_pair more.0)) (subst (λ (k : ℕ). whole k (39 ∷ single_text more.0) ≡ true) (sym first.0) text);
+      text = subst (λ (l : List ℕ). whole n l ≡ true) (sym (text_pair more.0)) (joined n [] (39 ∷ single_text more.0) first.0 text);
     })
 
 quote_whole : (next : ℕ) (bytes : List ℕ) → SingleAt bytes → SingleAt (39 ∷ (next ∷ bytes))
@@ -310,7 +308,7 @@ single_whole [] = no_single
 single_whole (byte ∷ []) = first_single byte [] no_single (single_done [] (single_closes [] refl))
 single_whole (byte ∷ next ∷ bytes) = first_single byte (next ∷ bytes) (single_whole (next ∷ bytes)) (quote_whole next bytes (single_whole bytes))
 
-pub record Double (n : ℕ) (bytes inner : List ℕ) : Type 0 where
+pub record Double (n bytes inner : List ℕ) : Type 0 where
   pub closed : Closed n bytes inner
   pub text : (at : ℕ) (text : List ℕ) → double_text at inner ≡ Ok text → whole n text ≡ true
 
@@ -331,7 +329,7 @@ unfolding double_text
 no_text at text is = cc
 
 abbrev pub DoubleAt : List ℕ → Type 0
-DoubleAt bytes = (n : ℕ) (inner : List ℕ) → whole n bytes ≡ true → double_quoted bytes ≡ Some inner → Double n bytes inner
+DoubleAt bytes = (n inner : List ℕ) → whole n bytes ≡ true → double_quoted bytes ≡ Some inner → Double n bytes inner
 
 no_double : DoubleAt []
 no_double n inner h is = let no : None ≡ Some inner = sym double_open ∙ is in absurd (cc no)
@@ -343,8 +341,8 @@ double_done bytes n inner h is =
     let first = (low_step n 34 bytes (omega arith) h).0 in
     subst (Double n (34 ∷ bytes)) empty (record { closed = closes n 34 bytes (omega arith) h; text = none first })
   where
-    none : n ≡ 0 → (at : ℕ) (text : List ℕ) → double_text at [] ≡ Ok text → whole n text ≡ true
-    none first at text e = subst (λ (l : List ℕ). whole n l ≡ true) (no_text at text e) (subst (λ (k : ℕ). whole k [] ≡ true) (sym first) refl)
+    none : whole n [] ≡ true → (at : ℕ) (text : List ℕ) → double_text at [] ≡ Ok text → whole n text ≡ true
+    none first at text e = subst (λ (l : List ℕ). whole n l ≡ true) (no_text at text e) first
 
 cut_escape : DoubleAt (92 ∷ [])
 cut_escape n inner h is = let no : None ≡ Some inner = sym double_cut ∙ is in absurd (cc no)
@@ -353,16 +351,16 @@ escape_whole : (next : ℕ) (bytes : List ℕ) → DoubleAt bytes → DoubleAt (
 escape_whole next bytes after n inner h is =
     let first = low_step n 92 (next ∷ bytes) (omega arith) h in
     let more = longer-some (92 ∷ (next ∷ [])) (double_quoted bytes) inner (sym (double_escape next bytes) ∙ is) in
-    let rest = after (continuation_len next) more.0 first.1 more.1 in
+    let rest = after (next ∷ []) more.0 first.1 more.1 in
     subst (Double n (92 ∷ (next ∷ bytes))) {x = 92 ∷ (next ∷ more.0)} more.2
-    (record { closed = closed_more n 0 92 (next ∷ bytes) (next ∷ more.0) (closed_more 0 (continuation_len next) next bytes more.0 rest.closed); text = texts more.0 first.0 rest.text })
+    (record { closed = closed_more n [] 92 (next ∷ bytes) (next ∷ more.0) (closed_more [] (next ∷ []) next bytes more.0 rest.closed); text = texts more.0 first.0 rest.text })
   where
-    texts : (behind : List ℕ) → n ≡ 0 → ((at : ℕ) (text : List ℕ) → double_text at behind ≡ Ok text → whole (continuation_len next) text ≡ true) → (at : ℕ) (text : List ℕ) → double_text at (92 ∷ (next ∷ behind)) ≡ Ok text → whole n text ≡ true
+    texts : (behind : List ℕ) → whole n [] ≡ true → ((at : ℕ) (text : List ℕ) → double_text at behind ≡ Ok text → whole (next ∷ []) text ≡ true) → (at : ℕ) (text : List ℕ) → double_text at (92 ∷ (next ∷ behind)) ≡ Ok text → whole n text ≡ true
     texts behind none rest at text e =
         let read = escape_at-ok at (escaped next) (double_text (at + 2) behind) text (sym (doubled_escape at next behind) ∙ e) in
         let low = low_escape next read.0 read.2 in
-        let left : whole 0 read.1 ≡ true = subst (λ (k : ℕ). whole k read.1 ≡ true) (low_length next low.0) (rest (at + 2) read.1 read.3) in
-        subst (λ (l : List ℕ). whole n l ≡ true) read.4 (subst (λ (k : ℕ). whole k (read.0 ∷ read.1) ≡ true) (sym none) (low_more read.0 read.1 low.1 left))
+        let left : whole [] read.1 ≡ true = (low_step [] next read.1 low.0 (rest (at + 2) read.1 read.3)).1 in
+        subst (λ (l : List ℕ). whole n l ≡ true) read.4 (joined n [] (read.0 ∷ read.1) none (low_more read.0 read.1 low.1 left))
 
 first_double : (byte : ℕ) (bytes : List ℕ) → DoubleAt bytes → DoubleAt (92 ∷ bytes) → DoubleAt (byte ∷ bytes)
 first_double byte bytes after escape = elim (cases_Bool (byte == 34)) [
@@ -373,7 +371,7 @@ first_double byte bytes after escape = elim (cases_Bool (byte == 34)) [
   ]
 ]
   where
-    texts : (byte == 92) ≡ false → (n : ℕ) (behind : List ℕ) (s : Step n byte bytes) → ((at : ℕ) (text : List ℕ) → double_text at behind ≡ Ok text → whole s.left text ≡ true) → (at : ℕ) (text : List ℕ) → double_text at (byte ∷ behind) ≡ Ok text → whole n text ≡ true
+    texts : (byte == 92) ≡ false → (n behind : List ℕ) (s : Step n byte bytes) → ((at : ℕ) (text : List ℕ) → double_text at behind ≡ Ok text → whole s.left text ≡ true) → (at : ℕ) (text : List ℕ) → double_text at (byte ∷ behind) ≡ Ok text → whole n text ≡ true
     texts no_escape n behind s rest at text e =
         let read = with_front-ok (byte ∷ []) (double_text (at + 1) behind) text (sym (doubled_other at byte behind (differs byte 92 no_escape)) ∙ e) in
         subst (λ (l : List ℕ). whole n l ≡ true) read.2 (s.again read.0 (rest (at + 1) read.0 read.1))

@@ -1,5 +1,5 @@
 -- The scalars of a text's tree are whole characters, since the text is.
-use Rattle.std.proofs.Common.{◌≡◌, ℕ, zero, suc, ◌+◌, ◌-◌, ◌<◌, ◌≤◌, Bool, true, false, ◌&&◌, ◌==◌, if◌then◌else◌, nat_lt, nat_le, codes, List, [], ◌∷◌, ◌++◌, length, map, take, drop, Option, None, Some, Result, Ok, Err, IsUtf8, refl, sym, ap, ◌∙◌, subst, inl, inr, arith}
+use Rattle.std.proofs.Common.{◌≡◌, ℕ, zero, suc, ◌+◌, ◌-◌, ◌<◌, ◌≤◌, Bool, true, false, ◌&&◌, ◌==◌, if◌then◌else◌, nat_lt, codes, List, [], ◌∷◌, ◌++◌, length, map, take, drop, Option, None, Some, Result, Ok, Err, IsUtf8, refl, sym, ap, ◌∙◌, subst, inl, inr, arith}
 use Rattle.std.specs.Prelude.{◌⊎◌}
 use Rattle.std.specs.List.{suffix_len}
 use Rattle.std.specs.Str.{bytes_eq, is_utf8}
@@ -7,7 +7,8 @@ use Rattle.std.specs.Str.Lossy.{utf8_valid_len, valid_len_up_to}
 use Rattle.std.proofs.lemmas.Bool.{and_parts, cases_Bool, cases_eq, cond-true, cond-false, eqb-true, ne_eqb}
 use Rattle.std.proofs.lemmas.Bool.Decides.{nat_tests}
 use Rattle.std.proofs.lemmas.List.{drop-drop, drop_at}
-use Rattle.std.proofs.lemmas.Str.{IsUtf8-from_is_utf8, IsUtf8-nil}
+use Rattle.std.proofs.lemmas.Str.{IsUtf8-from_is_utf8, IsUtf8-nil, IsUtf8-past_char}
+use lib.Utf8.{encode}
 use Rattle.dp_base.specs.Bytes.{is_blank}
 use Rattle.yaml_scan.specs.Bytes.{mark_length, before_first, cut, without_end, indent, content}
 use Rattle.yaml_scan.specs.Faults.{bad_byte, tab_indent}
@@ -23,7 +24,7 @@ use Rattle.yaml_tree.specs.Texts.{most_levels, before_lines, place_in, past_star
 use Rattle.yaml_tree.specs.declared.tree.Tree.{Tree}
 use Rattle.yaml_tree.specs.declared.tree.Tree.TheVariants as trees
 use Rattle.yaml_tree.proofs.Sizes.{chosen, which}
-use Rattle.content_guards.proofs.Whole.{whole, step, low_step, utf8_whole}
+use Rattle.content_guards.proofs.Whole.{whole, step, low_step, no_bytes, utf8_whole, whole_utf8}
 use Rattle.content_guards.proofs.WholeScalars.{AreWhole, content_whole, take_whole, trim_whole}
 use Rattle.content_guards.proofs.WholeTrees.{is_whole, scalar_whole}
 use Rattle.content_guards.proofs.WholeForms.{Made}
@@ -42,7 +43,7 @@ all_utf8 : (bytes : List ℕ) → length bytes ≤ utf8_valid_len bytes → IsUt
 unfolding utf8_valid_len
 all_utf8 bytes long = subst IsUtf8 (take_whole (valid_len_up_to bytes (length bytes)) bytes long) (front_utf8 bytes (length bytes))
 
-bytes_whole : (bytes : List ℕ) → bad_byte bytes ≡ None → whole 0 bytes ≡ true
+pub bytes_whole : (bytes : List ℕ) → bad_byte bytes ≡ None → whole [] bytes ≡ true
 bytes_whole bytes fine = elim (cases_Bool (nat_lt (utf8_valid_len bytes) (length bytes))) [
   | inl short ↦ let no : Some (utf8_valid_len bytes) ≡ None = sym (cond-true (nat_lt (utf8_valid_len bytes) (length bytes)) (Some (utf8_valid_len bytes)) None short) ∙ fine in absurd (cc no)
   | inr not_short ↦ utf8_whole bytes (all_utf8 bytes (let test : nat_lt (utf8_valid_len bytes) (length bytes) ≡ false = not_short in grind (arith, nat_tests)))
@@ -95,21 +96,21 @@ abbrev IsLow : List ℕ → Type 0
 IsLow [] = Unit {0}
 IsLow (byte ∷ bytes) = byte < 128
 
-front_whole : (n : ℕ) (xs tail : List ℕ) → IsLow tail → whole n (xs ++ tail) ≡ true → whole n xs ≡ true
+front_whole : (n xs tail : List ℕ) → IsLow tail → whole n (xs ++ tail) ≡ true → whole n xs ≡ true
 front_whole n [] [] low h = h
-front_whole n [] (byte ∷ tail) low h = let first = (low_step n byte tail low h).0 in subst (λ (k : ℕ). whole k [] ≡ true) (sym first) refl
+front_whole n [] (byte ∷ tail) low h = (low_step n byte tail low h).0
 front_whole n (x ∷ xs) tail low h = let s = step n x (xs ++ tail) h in s.again xs (front_whole s.left xs tail low s.rest)
 
 -- the lines behind one
-behind_feed : (n : ℕ) (line more : List ℕ) → EndsInFeed line → whole n (line ++ more) ≡ true → whole 0 more ≡ true
+behind_feed : (n line more : List ℕ) → EndsInFeed line → whole n (line ++ more) ≡ true → whole [] more ≡ true
 behind_feed n [] more ends h = absurd ends
 behind_feed n (byte ∷ []) more ends h = (low_step n byte more (omega (arith, ends)) h).1
 behind_feed n (byte ∷ next ∷ line) more ends h = let s = step n byte (next ∷ (line ++ more)) h in behind_feed s.left (next ∷ line) more ends s.rest
 
-more_whole : (line more : List ℕ) → (more ≡ []) ⊎ EndsInFeed line → whole 0 (line ++ more) ≡ true → whole 0 more ≡ true
+more_whole : (line more : List ℕ) → (more ≡ []) ⊎ EndsInFeed line → whole [] (line ++ more) ≡ true → whole [] more ≡ true
 more_whole line more ends h = elim ends [
-  | inl none ↦ subst (λ (l : List ℕ). whole 0 l ≡ true) (sym none) refl
-  | inr feed ↦ behind_feed 0 line more feed h
+  | inl none ↦ subst (λ (l : List ℕ). whole [] l ≡ true) (sym none) no_bytes
+  | inr feed ↦ behind_feed [] line more feed h
 ]
 
 -- what stands before the end of a line, and from there on
@@ -159,17 +160,17 @@ indent_within (byte ∷ next ∷ third ∷ line) =
     ]
 
 -- behind the leading spaces
-spaces_passed : (line more : List ℕ) → whole 0 (line ++ more) ≡ true → whole 0 (drop (indent line) (line ++ more)) ≡ true
+spaces_passed : (line more : List ℕ) → whole [] (line ++ more) ≡ true → whole [] (drop (indent line) (line ++ more)) ≡ true
 spaces_passed [] more h = h
 spaces_passed (byte ∷ line) more h = elim (cases_Bool (byte == 32)) [
   | inl space ↦
       let same : byte ≡ 32 = eqb-true byte 32 space in
-      let rest = spaces_passed line more (low_step 0 byte (line ++ more) (omega (arith, same)) h).1 in
+      let rest = spaces_passed line more (low_step [] byte (line ++ more) (omega (arith, same)) h).1 in
       let count : indent (byte ∷ line) ≡ suc (indent line) = cond-true (byte == 32) (1 + indent line) 0 space ∙ (let e : 1 + indent line ≡ suc (indent line) = omega arith in e) in
-      subst (λ (k : ℕ). whole 0 (drop k (byte ∷ (line ++ more))) ≡ true) (sym count) rest
+      subst (λ (k : ℕ). whole [] (drop k (byte ∷ (line ++ more))) ≡ true) (sym count) rest
   | inr other ↦
       let count : indent (byte ∷ line) ≡ 0 = cond-false (byte == 32) (1 + indent line) 0 other in
-      subst (λ (k : ℕ). whole 0 (drop k (byte ∷ (line ++ more))) ≡ true) (sym count) h
+      subst (λ (k : ℕ). whole [] (drop k (byte ∷ (line ++ more))) ≡ true) (sym count) h
 ]
 
 drop_front : (k : ℕ) (xs ys : List ℕ) → k ≤ length xs → drop k (xs ++ ys) ≡ drop k xs ++ ys
@@ -183,20 +184,20 @@ take_front (suc k) [] ys = refl
 take_front (suc k) (x ∷ xs) ys = ap (λ (l : List ℕ). x ∷ l) (take_front k xs ys)
 
 -- what stands in a line behind its leading spaces
-text_whole : (line more : List ℕ) → (more ≡ []) ⊎ EndsInFeed line → whole 0 (line ++ more) ≡ true → whole 0 (take (length (content line)) (drop (indent line) (line ++ more))) ≡ true
+text_whole : (line more : List ℕ) → (more ≡ []) ⊎ EndsInFeed line → whole [] (line ++ more) ≡ true → whole [] (take (length (content line)) (drop (indent line) (line ++ more))) ≡ true
 text_whole line more ends h =
     let text : List ℕ = drop (indent line) (without_end line) in
     let count : ℕ = length text - suffix_len is_blank text in
     let e = ended line more ends in
     let split : drop (indent line) (line ++ more) ≡ text ++ e.tail = ap (drop (indent line)) e.is ∙ drop_front (indent line) (without_end line) e.tail (indent_within line) in
-    let good : whole 0 (text ++ e.tail) ≡ true = subst (λ (l : List ℕ). whole 0 l ≡ true) split (spaces_passed line more h) in
-    let inside : whole 0 (take count text) ≡ true = trim_whole text count refl (front_whole 0 text e.tail e.low good) in
+    let good : whole [] (text ++ e.tail) ≡ true = subst (λ (l : List ℕ). whole [] l ≡ true) split (spaces_passed line more h) in
+    let inside : whole [] (take count text) ≡ true = trim_whole text count refl (front_whole [] text e.tail e.low good) in
     let same : take (length (content line)) (drop (indent line) (line ++ more)) ≡ take count text = ap (take (length (content line))) split ∙ take_front count text e.tail in
-    subst (λ (l : List ℕ). whole 0 l ≡ true) (sym same) inside
+    subst (λ (l : List ℕ). whole [] l ≡ true) (sym same) inside
 
 -- ---- all lines
 
-rows_whole : (bytes : List ℕ) (number at : ℕ) (lines : List (List ℕ)) → drop at bytes ≡ together lines → AreLines lines → whole 0 (together lines) ≡ true → AreWhole (map (row_of bytes) (lines_from number at lines))
+rows_whole : (bytes : List ℕ) (number at : ℕ) (lines : List (List ℕ)) → drop at bytes ≡ together lines → AreLines lines → whole [] (together lines) ≡ true → AreWhole (map (row_of bytes) (lines_from number at lines))
 unfolding lines_from
 rows_whole bytes number at [] is ends h = tt
 rows_whole bytes number at (line ∷ lines) is (ends, others) h =
@@ -206,9 +207,20 @@ rows_whole bytes number at (line ∷ lines) is (ends, others) h =
     let start : drop (at + indent line) bytes ≡ drop (indent line) (line ++ more) = sym (drop-drop (indent line) at bytes) ∙ ap (drop (indent line)) is in
     let text : take (at + indent line + length (content line) - (at + indent line)) (drop (at + indent line) bytes) ≡ take (length (content line)) (drop (indent line) (line ++ more)) =
     ap (λ (k : ℕ). take k (drop (at + indent line) bytes)) long ∙ ap (take (length (content line))) start in
-    (subst (λ (l : List ℕ). whole 0 l ≡ true) (sym text) (text_whole line more ends h), rows_whole bytes (number + 1) (at + length line) lines left others (more_whole line more ends h))
+    (subst (λ (l : List ℕ). whole [] l ≡ true) (sym text) (text_whole line more ends h), rows_whole bytes (number + 1) (at + length line) lines left others (more_whole line more ends h))
 
-past_mark : (bytes : List ℕ) → whole 0 bytes ≡ true → whole 0 (drop (mark_length bytes) bytes) ≡ true
+-- a byte order mark is one character
+mark_is : encode 65279 ≡ 239 ∷ 187 ∷ 191 ∷ []
+unfolding encode
+mark_is = refl
+
+mark_passed : (bytes : List ℕ) → whole [] (239 ∷ 187 ∷ 191 ∷ bytes) ≡ true → whole [] bytes ≡ true
+mark_passed bytes h =
+    let all : List ℕ = 239 ∷ 187 ∷ 191 ∷ bytes in
+    let begins : all ≡ encode 65279 ++ bytes = ap (λ (l : List ℕ). l ++ bytes) (sym mark_is) in
+    utf8_whole bytes (IsUtf8-past_char all bytes 65279 (whole_utf8 all h) begins)
+
+past_mark : (bytes : List ℕ) → whole [] bytes ≡ true → whole [] (drop (mark_length bytes) bytes) ≡ true
 past_mark [] h = h
 past_mark (a ∷ []) h = h
 past_mark (a ∷ b ∷ []) h = h
@@ -216,20 +228,21 @@ past_mark (a ∷ b ∷ c ∷ bytes) h = elim (cases_Bool (a == 239 && b == 187 &
   | inl mark ↦
       let both = and_parts (a == 239 && b == 187) (c == 191) mark in
       let first = and_parts (a == 239) (b == 187) both.0 in
-      let one : whole 0 (239 ∷ b ∷ c ∷ bytes) ≡ true = subst (λ (k : ℕ). whole 0 (k ∷ b ∷ c ∷ bytes) ≡ true) (eqb-true a 239 first.0) h in
-      let two = (and_parts (nat_le 128 c) (whole 0 bytes) (and_parts (nat_le 128 b) (nat_le 128 c && whole 0 bytes) one).1).1 in
+      let one : whole [] (239 ∷ b ∷ c ∷ bytes) ≡ true = subst (λ (k : ℕ). whole [] (k ∷ b ∷ c ∷ bytes) ≡ true) (eqb-true a 239 first.0) h in
+      let two : whole [] (239 ∷ 187 ∷ c ∷ bytes) ≡ true = subst (λ (k : ℕ). whole [] (239 ∷ k ∷ c ∷ bytes) ≡ true) (eqb-true b 187 first.1) one in
+      let three : whole [] (239 ∷ 187 ∷ 191 ∷ bytes) ≡ true = subst (λ (k : ℕ). whole [] (239 ∷ 187 ∷ k ∷ bytes) ≡ true) (eqb-true c 191 both.1) two in
       let count : mark_length (a ∷ b ∷ c ∷ bytes) ≡ 3 = cond-true (a == 239 && b == 187 && c == 191) 3 0 mark in
-      subst (λ (k : ℕ). whole 0 (drop k (a ∷ b ∷ c ∷ bytes)) ≡ true) (sym count) two
+      subst (λ (k : ℕ). whole [] (drop k (a ∷ b ∷ c ∷ bytes)) ≡ true) (sym count) (mark_passed bytes three)
   | inr none ↦
       let count : mark_length (a ∷ b ∷ c ∷ bytes) ≡ 0 = cond-false (a == 239 && b == 187 && c == 191) 3 0 none in
-      subst (λ (k : ℕ). whole 0 (drop k (a ∷ b ∷ c ∷ bytes)) ≡ true) (sym count) h
+      subst (λ (k : ℕ). whole [] (drop k (a ∷ b ∷ c ∷ bytes)) ≡ true) (sym count) h
 ]
 
-lines_whole : (bytes : List ℕ) → whole 0 bytes ≡ true → AreWhole (map (row_of bytes) (lines_of bytes))
+lines_whole : (bytes : List ℕ) → whole [] bytes ≡ true → AreWhole (map (row_of bytes) (lines_of bytes))
 lines_whole bytes h =
     let rest : List ℕ = drop (mark_length bytes) bytes in
     let lines = cut_lines rest in
-    rows_whole bytes 1 (mark_length bytes) (cut rest) (sym lines.1) lines.0 (subst (λ (l : List ℕ). whole 0 l ≡ true) (sym lines.1) (past_mark bytes h))
+    rows_whole bytes 1 (mark_length bytes) (cut rest) (sym lines.1) lines.0 (subst (λ (l : List ℕ). whole [] l ≡ true) (sym lines.1) (past_mark bytes h))
 
 told_fine : (file : ℕ) (bytes : List ℕ) (bad tab : Option ℕ) (lines : List Line) → told file bytes bad tab ≡ Ok lines → (bad ≡ None) × (lines ≡ lines_of bytes)
 told_fine file bytes None None lines is = (refl, cc)
@@ -261,7 +274,7 @@ whole_text_whole file (Err e) made tree is = absurd (cc is)
 
 top_whole : (file : ℕ) (start : Rest) (rows : List Row) (tree : Tree) → AreWhole rows → TopNode file start rows (Ok tree) → is_whole tree ≡ true
 top_whole file start [] tree h is =
-    let e : trees.Scalar (place_in file 1 1) [] ≡ tree = cc is in subst (λ (t : Tree). is_whole t ≡ true) e (scalar_whole (place_in file 1 1) [] refl)
+    let e : trees.Scalar (place_in file 1 1) [] ≡ tree = cc is in subst (λ (t : Tree). is_whole t ≡ true) e (scalar_whole (place_in file 1 1) [] no_bytes)
 top_whole file start (row ∷ rows) tree h is =
     elim (which (is_marker row) _ _ is) [
       | inl m ↦ absurd (cc m.1)

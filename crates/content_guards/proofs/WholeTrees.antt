@@ -15,7 +15,7 @@ use Rattle.yaml_tree.proofs.Sizes.{chosen}
 use Rattle.content_guards.proofs.Whole.{whole}
 
 abbrev whole_step : trees.Tree-F Bool Bool → Bool
-whole_step (trees.Tree-F.Scalar at text) = whole 0 text
+whole_step (trees.Tree-F.Scalar at text) = whole [] text
 whole_step (trees.Tree-F.List at items) = all_are items
 whole_step (trees.Tree-F.Map at entries) = all_are entries
 
@@ -43,7 +43,7 @@ all_pairs : (entries : List Pair) → all_are (map (pairs.fold-Pair Bool Bool wh
 all_pairs [] = refl
 all_pairs (entry ∷ entries) = λ i. whole_pair-fold entry i && all_pairs entries i
 
-is_whole-scalar : (tree : Tree) (at : Place) (text : List ℕ) → trees.out-Tree tree ≡ trees.Tree-F.Scalar at text → is_whole tree ≡ whole 0 text
+is_whole-scalar : (tree : Tree) (at : Place) (text : List ℕ) → trees.out-Tree tree ≡ trees.Tree-F.Scalar at text → is_whole tree ≡ whole [] text
 is_whole-scalar tree at text is = is_whole-form tree (trees.Tree-F.Scalar at text) is
 
 is_whole-list : (tree : Tree) (at : Place) (items : List Tree) → trees.out-Tree tree ≡ trees.Tree-F.List at items → is_whole tree ≡ list_all is_whole items
@@ -54,7 +54,7 @@ is_whole-map tree at entries is = is_whole-form tree (trees.Tree-F.Map at entrie
 
 -- ---- what makes a tree such a one
 
-pub scalar_whole : (at : Place) (text : List ℕ) → whole 0 text ≡ true → is_whole (made.Scalar at text) ≡ true
+pub scalar_whole : (at : Place) (text : List ℕ) → whole [] text ≡ true → is_whole (made.Scalar at text) ≡ true
 scalar_whole at text h = is_whole-scalar (made.Scalar at text) at text (made.outs-Scalar at text) ∙ h
 
 pub list_whole : (at : Place) (items : List Tree) → list_all is_whole items ≡ true → is_whole (made.List at items) ≡ true
@@ -65,11 +65,11 @@ map_whole at entries h = is_whole-map (made.Map at entries) at entries (made.out
 
 -- ---- what is known of such a tree
 
-pub text_whole : (tree : Tree) (text : List ℕ) → is_whole tree ≡ true → scalar_text tree ≡ Some text → whole 0 text ≡ true
+pub text_whole : (tree : Tree) (text : List ℕ) → is_whole tree ≡ true → scalar_text tree ≡ Some text → whole [] text ≡ true
 text_whole tree text h is = by (trees.out-Tree tree) refl is
   where
-    by : (form : trees.Tree-F Tree Pair) → trees.out-Tree tree ≡ form → form_text form ≡ Some text → whole 0 text ≡ true
-    by (trees.Tree-F.Scalar at other) e k = let same : other ≡ text = cc k in subst (λ (l : List ℕ). whole 0 l ≡ true) same (sym (is_whole-scalar tree at other e) ∙ h)
+    by : (form : trees.Tree-F Tree Pair) → trees.out-Tree tree ≡ form → form_text form ≡ Some text → whole [] text ≡ true
+    by (trees.Tree-F.Scalar at other) e k = let same : other ≡ text = cc k in subst (λ (l : List ℕ). whole [] l ≡ true) same (sym (is_whole-scalar tree at other e) ∙ h)
     by (trees.Tree-F.List at items) e k = absurd (cc k)
     by (trees.Tree-F.Map at entries) e k = absurd (cc k)
 

@@ -28,11 +28,12 @@ LawFileSteps =
     (read : Reading) (domain_text problem_text : List ℕ) (domain problem : Tree) (m : Model) → Spells 1 domain_text domain → Spells 2 problem_text problem
     → meaning read domain problem ≡ Ok (parts_of m) → HasStepTexts m
 
--- So what is written of a certificate for such a model is read back as that certificate, wherever its lines stand in a file.
+-- So what is written of a certificate for such a model is read back as that certificate, wherever its lines stand in a file. It is UTF-8, as
+-- are the names, and so the lines in front of it are all that has to be UTF-8 beside it.
 abbrev pub LawReadOfFiles : Type 0
 LawReadOfFiles =
     (read : Reading) (domain_text problem_text : List ℕ) (domain problem : Tree) (m : Model) → Spells 1 domain_text domain → Spells 2 problem_text problem
     → meaning read domain problem ≡ Ok (parts_of m)
     → (p : Parts) (front back : List (List ℕ)) → IsCertificate m p → AreInFront front → AreBehind back → p.first ≡ length front + 1
-    → bad_byte (text_of_lines (front ++ (cert_lines m p ++ back))) ≡ None
+    → bad_byte (text_of_lines front) ≡ None
     → certificate_in m (text_of_lines (front ++ (cert_lines m p ++ back))) ≡ Ok p

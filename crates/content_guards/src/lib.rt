@@ -37,7 +37,7 @@ pub fn block_text_may_be_dressed()
 {}
 
 /// The step texts of a model that two trees mean are lines, and no two ground transitions have the same one. So what is written of a
-/// certificate for a model of two files is read back.
+/// certificate for a model of two files is read back, behind lines in UTF-8 that hide none.
 pub fn loaded_steps_are_lines()
     ensures of_trees { LawStepTexts }
     ensures of_files { LawFileSteps }
