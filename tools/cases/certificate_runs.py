@@ -1,12 +1,12 @@
 """Runs of `solve --certificate on` and of `check` on what they print, worked out by hand: whole certificates, of a model without plans too,
-with the nodes of each layer and of all, with a bound and with several workers, and each end of one that is not whole.
+with the nodes of each layer and of all, with the best node first, with a bound and with several workers, and each end of one that is not whole.
 
 Each case is a title, its texts, its runs (words, output and status), and perhaps its runs of which the last line is shown
 alone. A text stays until another takes its place."""
 
 from pathlib import Path
 
-from small_runs import CLIMB, JUMP_OUT, JUMP_STOPPED, STUCK, STUCK_OUT, problem
+from small_runs import CLIMB, FLIP, JUMP_BEST, JUMP_OUT, JUMP_STOPPED, STUCK, STUCK_OUT, TOUR_BEST, problem, told
 
 # Light and heavy stand at one place. Light is at home at a cost of 5, and its bound says so; less load dominates more. So a search that knows
 # no cost yet goes on from light alone, and one that knows 5 goes on from heavy alone.
@@ -198,4 +198,37 @@ def shadows():
     yield "a shadow that breaks", [("domain", SHADOW.format(BREAK))], [solved("--prune on", SHADOW_OUT + opened + ending)]
 
 
-RUNS = [*climbs(), *small(), *tours(), *shadows()]
+# Without bounds all is visited: the tour that begins with 2 and 1 comes where that with 1 and 2 is, at a cost that is worse.
+ALL_TOURS = [START, ["0 open visit 1", "0 open visit 2"], ["1 open visit 3", "0 open visit 2", "1 open visit 1"], ["0 open visit 1", "1 open visit 3"]]
+CUT_TOURS = [START, ["0 open visit 1", "0 open visit 2"], ["1 open visit 3"]]
+TOUR_HEAD = ("claim optimal 14", "steps 4", "visit 2", "visit 3", "visit 1", "return")
+
+
+def best():
+    """The best node first: the nodes of all layers cover, whatever is kept."""
+    kept = whole(START, ["0 open inc"], ["0 open inc"])
+    climb = lambda domain, x: [("domain", domain), ("problem", problem("a", "x", x))]
+    for prune in ("off", "on"):
+        words = f"--engine best --prune {prune}"
+        yield from checked(f"a climb, {words}", climb(CLIMB, 0), words, JUMP_BEST, head("all", prune, *JUMP_HEAD) + kept, "optimal 5")
+    yield "a climb, --engine best, what is kept", [], [solved(f"--engine best --keep {keep}", JUMP_BEST + head("all", "on", *JUMP_HEAD) + kept) for keep in ("layer", "all")]
+    printed = "solution 0 0\nverdict optimal 0\n"
+    text = head("all", "off", "claim optimal 0", "steps 0") + whole()
+    yield from checked("a base target, the best node first", climb(CLIMB, 3), "--engine best --prune off", printed, text, "optimal 0")
+    text = head("all", "on", "claim infeasible") + whole()
+    yield from checked("a target that is not allowed, the best node first", climb(FORBIDDEN, 0), "--engine best", "verdict infeasible\n", text, "infeasible")
+    printed = told("search visited 3", "verdict infeasible")
+    yield from checked("no plan, the best node first", climb(STUCK, 0), "--engine best --prune off", printed, head("all", "off", "claim infeasible") + kept, "infeasible")
+    # What flips twice is where it was, and the target covers it.
+    printed, text = told("search visited 2", "verdict infeasible"), head("all", "on", "claim infeasible") + whole(START, ["0 open flip"])
+    texts = [("domain", FLIP), ("problem", problem("flip", "x", 0))]
+    yield from checked("to and fro, the best node first", texts, "--engine best", printed, text, "infeasible")
+    texts = [("domain", (TOUR / "time_windows.yaml").read_text()), ("problem", (TOUR / "four_customers.yaml").read_text())]
+    for prune, visited, rows in (("on", 6, CUT_TOURS), ("off", 8, ALL_TOURS)):
+        words, printed = f"--engine best --prune {prune}", TOUR_BEST.replace("visited 6", f"visited {visited}")
+        yield from checked(f"a tour, {words}", texts, words, printed, head("all", prune, *TOUR_HEAD) + whole(*rows), "optimal 14")
+        lasts = [(f"solve d p {words} --workers {workers} --certificate on".split(" "), f"end {len(rows)}\n", 0) for workers in (2, 7)]
+        yield f"a tour, {words}, with several workers", [], [], lasts
+
+
+RUNS = [*climbs(), *small(), *tours(), *shadows(), *best()]

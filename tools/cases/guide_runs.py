@@ -11,9 +11,10 @@ GUIDE = "docs/GUIDE.md"
 FILES = "models/**/*.yaml"
 NAMES = {"domain": "d", "problem": "p", "list": "l"}
 LAST = " | tail -n 1"
+PROGRAM = r"^(\./dypdl|dypdl|dypdl_solve) "
 STATUSES = {
-    "verdict optimal": 0, "verdict legal": 0, "bounds": 0, "usage:": 2, "refused": 3, "read fault": 4,
-    "verdict infeasible": 10, "verdict illegal": 10, "verdict stopped": 11, "verdict fault": 12,
+    "verdict optimal": 0, "verdict legal": 0, "verdict certified": 0, "bounds": 0, "usage:": 2, "refused": 3, "read fault": 4,
+    "verdict infeasible": 10, "verdict rejected": 10, "verdict illegal": 10, "verdict stopped": 11, "verdict fault": 12,
 }
 
 
@@ -39,12 +40,13 @@ def blocks(kind):
 
 
 def commands():
-    """The words of each command of the solver, whether its last line is shown alone, and its text."""
-    for block in blocks(""):
+    """The words of each command of the solver, whether its last line is shown alone, and its text. Behind those that are called as `./dypdl` stand
+    those of a folder with the program, which a fence of a console has."""
+    for block in [*blocks(""), *blocks("console")]:
         for part in re.split(r"^\$ ", block, flags=re.MULTILINE)[1:]:
             command, text = part.split("\n", 1)
             shortened = command.endswith(LAST)
-            yield command.removesuffix(LAST).removeprefix("./dypdl ").split(" "), shortened, text
+            yield re.sub(PROGRAM, "", command.removesuffix(LAST)).split(" "), shortened, text
 
 
 def case(words, shortened, text):
@@ -69,4 +71,7 @@ def check_pieces():
 
 def cases():
     check_pieces()
-    return [case(*command) for command in commands()]
+    found = {}
+    for made in (case(*command) for command in commands()):
+        assert found.setdefault(made[0], made) == made, made[0]  # what is shown twice is the same
+    return list(found.values())
