@@ -12,7 +12,7 @@ use Rattle.best_ledger.specs.declared.records.BestRecord.{BestRecord}
 use Rattle.best_ledger.proofs.Closing.{records_law}
 use Rattle.best_ledger.proofs.Pairs.{counted_law}
 use Rattle.pass_ends.specs.Ends.{IsCause, IsLegal, IsLowered}
-use Rattle.best_ends.specs.Ends.{HasDrawn, IsBestEnd}
+use Rattle.best_ends.specs.Ends.{HasDrawn, IsBestEnd, IsBestOf}
 use Rattle.best_ends.specs.Left.{AreLeft}
 use Rattle.best_ends.specs.declared.answers.BestEnd.{BestEnd}
 use Rattle.best_ends.specs.declared.answers.BestEnd.TheVariants as ends
@@ -28,8 +28,8 @@ module _ (b : BestSearch) (records : List BestRecord) (before after : View) (tal
   drew : HasDrawn b.model before after tally.visited
   drew = record { gained = left.gained; drawn = left.drawn; reached = counted.some left.gained left.few_drawn; late = left.late; visits = left.visits }
 
-  pub closes : cause ≡ 0 → (best : Option Found) → IsLegal b.model best → IsLowered (pass_of b) (best_known before) best (best_known after) → IsBestEnd b before after (ends.Closed tally.visited best)
-  closes none best legal lowered =
+  pub closes : cause ≡ 0 → (best : Option Found) → IsLegal b.model best → IsLowered (pass_of b) (best_known before) best (best_known after) → IsBestOf b records best → IsBestEnd b before after (ends.Closed tally.visited best)
+  closes none best legal lowered held =
       let done = left.all_done none in
       let ledger = (records_law b records left.long left.together).1 (best_known before) (best_known after) left.best_is left.prunes done.0 done.1 in (
         drew,
@@ -40,6 +40,7 @@ module _ (b : BestSearch) (records : List BestRecord) (before after : View) (tal
           closed = ledger.1;
           visits = visits_are tally.visited (after.drawn - after.limit) (before.drawn - after.limit) left.gained (visits_of records b.shards) left.visits done.3 done.2;
           best_is = lowered;
+          held_is = held;
           no_halt = sym left.cause_is ∙ none;
           on_time = done.3;
         },
@@ -48,8 +49,13 @@ module _ (b : BestSearch) (records : List BestRecord) (before after : View) (tal
   -- where memory ran out nothing is told but the number
   pub without_memory : (end : BestEnd) → end ≡ ends.Halted causes.Memory tally.visited None → IsBestEnd b before after end
   without_memory end is =
-      let h : IsBestEnd b before after (ends.Halted causes.Memory tally.visited None) = (drew, tt, record { cause_is = tt; best_is = λ other. absurd (other refl) }) in
+      let h : IsBestEnd b before after (ends.Halted causes.Memory tally.visited None) = (drew, tt, record { cause_is = tt; best_is = λ other. absurd (other refl) }, λ other. absurd (other refl)) in
       subst (λ (e : BestEnd). IsBestEnd b before after e) (sym is) h
 
-  pub halts : (why : Cause) → IsCause (pass_of b) before after why → (best : Option Found) → IsLegal b.model best → IsLowered (pass_of b) (best_known before) best (best_known after) → IsBestEnd b before after (ends.Halted why tally.visited best)
-  halts why cause_is best legal lowered = (drew, legal, record { cause_is = cause_is; best_is = λ other. lowered })
+  pub halts : (why : Cause) → IsCause (pass_of b) before after why → (best : Option Found) → IsLegal b.model best → IsLowered (pass_of b) (best_known before) best (best_known after) → IsBestOf b records best → IsBestEnd b before after (ends.Halted why tally.visited best)
+  halts why cause_is best legal lowered held = (
+    drew,
+    legal,
+    record { cause_is = cause_is; best_is = λ other. lowered },
+    λ other. record { records = records; long = left.long; together = left.together; held_is = held; best_is = left.best_is },
+  )

@@ -32,6 +32,7 @@ use Rattle.best_shard.specs.Calls.{IsEnd}
 use Rattle.best_shard.specs.declared.shard.BestShardEnd.{BestShardEnd}
 use Rattle.shard_core.proofs.Rows.{by_law}
 use Rattle.pass_ends.specs.Ends.{IsLowered}
+use Rattle.best_ends.specs.Ends.{IsBestOf}
 use Rattle.best_ends.specs.Left.{AreEnds, AreLeft, AreWide, IsBestHeld, IsSomeFault}
 use Rattle.best_ends.specs.declared.tally.BestTally.{BestTally}
 use Rattle.best_ends.proofs.Best.{no_held}
@@ -150,6 +151,23 @@ module _ (b : BestSearch) (records : List BestRecord) (before after : View) (tal
   pub lowered_some : (ends : List BestShardEnd) → ends ≡ tally.ends.items → (minimize : Bool) (operator : JoinOp) → IsLawOf p.model minimize operator → (held : Held) → IsBestHeld minimize operator ends (Some held) → (f : Found) → f.cost ≡ held.cost
       → IsLowered p (best_known before) (Some f) (best_known after)
   lowered_some ends same minimize operator law held best f cost = lowered_held ends same held (by_law p.model minimize operator (λ b o. IsBestHeld b o ends (Some held)) law best) f (sym cost)
+
+  -- ---- what the records hold
+
+  pub best_none : (ends : List BestShardEnd) → ends ≡ tally.ends.items → (minimize : Bool) (operator : JoinOp) → IsBestHeld minimize operator ends None → IsBestOf b records None
+  best_none ends same minimize operator none i lt =
+      let x = shard_is p records tally.ends.items tally.logs.items left.ends i lt in
+      sym x.4.held ∙ none i x.0 (subst (λ (es : List BestShardEnd). slice_get es i ≡ Some x.0) (sym same) x.2)
+
+  best_by : (ends : List BestShardEnd) → ends ≡ tally.ends.items → (held : Held) → IsBestHeld p.model.minimize p.model.join ends (Some held) → (f : Found) → held.cost ≡ f.cost → IsBestOf b records (Some f)
+  best_by ends same held best f cost =
+      let shard = held_in ends same held best.0 in (
+        (shard.0, held, shard.1, shard.2, cost),
+        λ i h lt is. let e = end_of ends same i h lt is in subst (λ (c : ℤ). word_of p c ≤ℤ word_of p h.cost) cost (best.1 i e.0 h e.1 e.2),
+      )
+
+  pub best_some : (ends : List BestShardEnd) → ends ≡ tally.ends.items → (minimize : Bool) (operator : JoinOp) → IsLawOf p.model minimize operator → (held : Held) → IsBestHeld minimize operator ends (Some held) → (f : Found) → f.cost ≡ held.cost → IsBestOf b records (Some f)
+  best_some ends same minimize operator law held best f cost = best_by ends same held (by_law p.model minimize operator (λ b o. IsBestHeld b o ends (Some held)) law best) f (sym cost)
 
   -- ---- the fault
 

@@ -8,6 +8,7 @@ ghost use Rattle.board_words.specs.declared.seat.View.{View};
 ghost use Rattle.best_ledger.specs.Searches.{BestSearch, pass_of};
 ghost use Rattle.best_ledger.specs.declared.records.BestRecord.{BestRecord};
 ghost use Rattle.pass_ends.specs.Ends.{IsLegal, IsLowered};
+ghost use Rattle.best_ends.specs.Ends.{IsBestOf};
 ghost use Rattle.best_ends.specs.Left.{AreLeft, AreWide, IsBestHeld};
 ghost use Rattle.pass_ends.specs.Bests.{better_held};
 
@@ -67,6 +68,7 @@ pub(crate) fn found_in<L: CostLaw>(
     requires { (b : BestSearch) × (records : List BestRecord) × (before : View) × (after : View) × IsLawOf b.model L.minimize L.operator × AreLeft b records before after tally.now cause }
     ensures legal { (b : BestSearch) (records : List BestRecord) (before after : View) → IsLawOf b.model L.minimize L.operator → AreLeft b records before after tally.now cause → IfOk result (IsLegal b.model) }
     ensures best { (b : BestSearch) (records : List BestRecord) (before after : View) → IsLawOf b.model L.minimize L.operator → AreLeft b records before after tally.now cause → IfOk result (λ best. IsLowered (pass_of b) (best_known before) best (best_known after)) }
+    ensures held { (b : BestSearch) (records : List BestRecord) (before after : View) → IsLawOf b.model L.minimize L.operator → AreLeft b records before after tally.now cause → IfOk result (IsBestOf b records) }
 {
     let _ = cause;
     match best_held::<L>(&tally.ends) {

@@ -39,6 +39,7 @@ halted_at_once b v late = (
   record { gained = 0; drawn = omega arith; reached = ([], nothing_drawn b.model, refl); late = late; visits = refl },
   tt,
   record { cause_is = tt; best_is = λ other. absurd (other refl) },
+  λ other. absurd (other refl),
 )
 
 pub no_memory : (b : BestSearch) (before after : View) (end : BestEnd) → end ≡ ends.Halted causes.Memory 0 None → after ≡ before → before.late ≡ before.drawn - before.limit → IsBestEnd b before after end

@@ -290,6 +290,7 @@ module _ (b : BestSearch) (budget visits : ℕ) (before after : View) (seats : L
         },
         tt,
         record { cause_is = tt; best_is = λ other. absurd (other refl) },
+        λ other. absurd (other refl),
       )
 
 module _ (b : BestSearch) (budget visits : ℕ) (before : View) (seat : SeatFacts) (seats : List SeatFacts) (ends : List BestShardEnd) (logs : List Log) (lost : Bool) (over : IsOver b budget visits before seat.view seats ends logs lost)

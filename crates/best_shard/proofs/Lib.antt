@@ -1,5 +1,6 @@
 mod Lists
 mod Opens
+mod Clocks
 mod Starts
 mod Takes
 mod Picks

@@ -1,18 +1,15 @@
 -- Members of lists, and what a history has after an event.
-use Rattle.std.proofs.Common.{◌≡◌, ℕ, zero, suc, ◌⊎◌, inl, inr, List, [], ◌∷◌, ◌++◌, map, slice_get, Some, subst, ◌∙◌, ap, append-nil, arith}
+use Rattle.std.proofs.Common.{◌≡◌, ℕ, zero, suc, inl, inr, List, [], ◌∷◌, ◌++◌, map, slice_get, Some, subst, ◌∙◌, ap, append-nil, arith}
 use Rattle.std.specs.List.{All}
 use Rattle.dp_claims.specs.Enough.{Has}
 use Rattle.state_layout.specs.declared.node.Node.{Node}
 use Rattle.pass_ledger.specs.declared.records.PrunedAt.{PrunedAt}
-use Rattle.pass_ledger.proofs.Lists.{has_none, has_head, has_cases}
+use Rattle.pass_ledger.proofs.Lists.{has_none, has_head}
 use Rattle.best_ledger.specs.Events.{moments_of}
 use Rattle.best_ledger.specs.Histories.{visit, visits_in}
-use Rattle.best_ledger.specs.declared.letters.BestLetter.{BestLetter}
 use Rattle.best_ledger.specs.declared.records.BestVisit.{BestVisit}
 use Rattle.best_ledger.specs.declared.records.Moment.{Moment}
-use Rattle.best_ledger.specs.declared.records.Moment.TheVariants.{Came, Visited, Pruned}
-use Rattle.best_ledger.proofs.Histories.{visited_same}
-use Rattle.best_ledger.proofs.Moments.{visits_append, all_pruned, no_visits_in}
+use Rattle.best_ledger.proofs.Moments.{visits_append, no_visits_in}
 
 pub map_has : {A B : Type 0} (f : A → B) (xs : List A) (x : A) → Has xs x → Has (map f xs) (f x)
 map_has f [] x h = absurd (has_none x h)
@@ -37,26 +34,3 @@ visits_same history more none = visits_append history more ∙ (ap (λ (vs : Lis
 pub visits_after : (history : List Moment) (stamp : ℕ) (n : Node) (prunes : List PrunedAt) → visits_in (history ++ moments_of stamp n prunes) ≡ visits_in history ++ visit stamp n ∷ []
 visits_after history stamp n prunes =
     visits_append history (moments_of stamp n prunes) ∙ ap (λ (vs : List BestVisit). visits_in history ++ visit stamp n ∷ vs) (no_visits_in prunes)
-
-pub visit_cases : (history : List Moment) (stamp : ℕ) (n : Node) (prunes : List PrunedAt) (w : BestVisit) → Has (history ++ moments_of stamp n prunes) (Visited w) → Has history (Visited w) ⊎ (visit stamp n ≡ w)
-visit_cases history stamp n prunes w h =
-    elim (has_cases history (moments_of stamp n prunes) (Visited w) h) [
-      | inl old ↦ inl old
-      | inr new ↦ elim (has_head (Visited (visit stamp n)) (map (λ (q : PrunedAt). Pruned q) prunes) (Visited w) new) [
-        | inl e ↦ inr (visited_same (visit stamp n) w e)
-        | inr later ↦ absurd (all_pruned prunes w later)
-      ]
-    ]
-
-letter_same : (x y : BestLetter) → Came x ≡ Came y → x ≡ y
-letter_same x y e = cc
-
-pub letter_cases : (history : List Moment) (x y : BestLetter) → Has (history ++ Came x ∷ []) (Came y) → Has history (Came y) ⊎ (x ≡ y)
-letter_cases history x y h =
-    elim (has_cases history (Came x ∷ []) (Came y) h) [
-      | inl old ↦ inl old
-      | inr new ↦ elim (has_head (Came x) [] (Came y) new) [
-        | inl e ↦ inr (letter_same x y e)
-        | inr none ↦ absurd (has_none (Came y) none)
-      ]
-    ]

@@ -13,22 +13,20 @@ use Rattle.pass_ledger.specs.Passes.{Pass, Prunes, StartsInner}
 use Rattle.pass_ledger.specs.Records.{Starts}
 use Rattle.pass_ledger.specs.declared.records.Held.{Held}
 use Rattle.pass_ledger.specs.declared.records.PrunedAt.{PrunedAt}
-use Rattle.pass_ledger.proofs.Lists.{has_cases}
 use Rattle.best_ledger.specs.Events.{CanPrune}
 use Rattle.best_ledger.specs.Histories.{HasCome, visits_in}
 use Rattle.best_ledger.specs.Logs.{entry_of}
 use Rattle.best_ledger.specs.Records.{IsHeld}
 use Rattle.best_ledger.specs.declared.records.BestRecord.{BestRecord}
 use Rattle.best_ledger.specs.declared.records.BestVisit.{BestVisit}
-use Rattle.best_ledger.specs.declared.records.Moment.{Moment}
-use Rattle.best_ledger.specs.declared.records.Moment.TheVariants.{Visited, Pruned}
-use Rattle.best_ledger.proofs.Moments.{all_pruned, none_came, came_back}
+use Rattle.best_ledger.specs.declared.records.Moment.TheVariants.{Pruned}
 use Rattle.best_ledger.proofs.Posts.{own_law}
 use Rattle.best_ledger.proofs.Steps.{without_this}
 use Rattle.shard_core.proofs.Rows.{by_law}
 use Rattle.best_shard.specs.Calls.{IsPruning}
-use Rattle.best_shard.specs.Stands.{Stands, Holds, Follows, IsClock, past_visit}
+use Rattle.best_shard.specs.Stands.{Stands, Holds, Follows, past_visit}
 use Rattle.best_shard.specs.declared.shard.BestShard.{BestShard}
+use Rattle.best_shard.proofs.Clocks.{clock_pruned}
 use Rattle.best_shard.proofs.Lists.{visits_same}
 
 -- ---- the nodes of the record are of the model
@@ -43,16 +41,6 @@ starts_inner p i (Some m) inner starts n e = subst (λ (k : Node). Inner p.model
 held_in : (p : Pass) (i : ℕ) (visits : List BestVisit) (held : Option Held) → ((h : Held) → held ≡ Some h → IsHeld p i visits h) → IfSome held (λ (h : Held). InRange h.cost)
 held_in p i visits None own = tt
 held_in p i visits (Some h) own = (own h refl).total.in_range
-
-clock_pruned : (clock : ℕ) (history : List Moment) (q : PrunedAt) → IsClock clock history → IsClock clock (history ++ Pruned q ∷ [])
-clock_pruned clock history q is =
-    record {
-      letters = λ y h. is.letters y (came_back history (Pruned q ∷ []) y (none_came (q ∷ [])) h);
-      visits = λ w h. elim (has_cases history (Pruned q ∷ []) (Visited w) h) [
-        | inl old ↦ is.visits w old
-        | inr new ↦ absurd (all_pruned (q ∷ []) w new)
-      ];
-    }
 
 some_if : (nodes : List Node) → (0 < length nodes) ⊎ (nodes ≡ [])
 some_if [] = inr refl

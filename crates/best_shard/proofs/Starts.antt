@@ -4,9 +4,7 @@ use Rattle.state_layout.specs.Conditions.{IsNodeOf}
 use Rattle.state_layout.specs.declared.node.Node.{Node}
 use Rattle.pass_ledger.specs.Passes.{Pass}
 use Rattle.pass_ledger.specs.Records.{Starts}
-use Rattle.pass_ledger.proofs.Lists.{has_none}
 use Rattle.best_ledger.specs.Events.{fresh, opens_with}
-use Rattle.best_ledger.specs.declared.records.Moment.TheVariants.{Came, Visited}
 use Rattle.best_ledger.proofs.Posts.{own_law}
 use Rattle.best_shard.specs.Stands.{Stands, Belongs}
 use Rattle.best_shard.specs.declared.shard.BestShard.{BestShard}
@@ -14,8 +12,8 @@ use Rattle.best_shard.specs.declared.shard.BestShard.{BestShard}
 module _ {A B : Type 0} where
   pub new_stands : (p : Pass) (start : Option Node) (s : BestShard A B) → Belongs p s.me s.shards s.expander s.layout → Starts p s.me start → ((n : Node) → start ≡ Some n → IsNodeOf p.model n)
       → s.waiting.layout ≡ s.layout → s.waiting.nodes ≡ opens_with start → s.past.layout ≡ s.layout → s.past.nodes ≡ [] → s.letters.items ≡ []
-      → s.visited ≡ 0 → s.log.shard ≡ s.me → s.log.entries ≡ [] → s.held ≡ None → s.fault ≡ None → Stands p s (fresh p.shards start)
-  new_stands p start s belongs starts good layout waiting past_layout past_none letters visited shard entries held fault =
+      → s.visited ≡ 0 → s.log.shard ≡ s.me → s.log.entries ≡ [] → s.held ≡ None → s.fault ≡ None → s.clock ≡ 0 → Stands p s (fresh p.shards start)
+  new_stands p start s belongs starts good layout waiting past_layout past_none letters visited shard entries held fault clock =
       record {
         follows = record {
           belongs = belongs;
@@ -25,7 +23,7 @@ module _ {A B : Type 0} where
           layout_is = layout;
           past = record { layout_is = past_layout; nodes_are = past_none };
           letters = letters;
-          clock = record { letters = λ x h. absurd (has_none (Came x) h); visits = λ w h. absurd (has_none (Visited w) h) };
+          clock = clock;
         };
         waiting = waiting;
       }

@@ -1,5 +1,6 @@
 -- A shard that takes a letter stands for the record that took it.
-use Rattle.std.proofs.Common.{◌≡◌, ℕ, ◌≤◌, inl, inr, List, [], ◌∷◌, ◌++◌, length, map, refl, sym, subst, ap, ◌∙◌, arith}
+use Rattle.std.proofs.Common.{◌≡◌, ℕ, inl, inr, List, [], ◌∷◌, ◌++◌, length, map, refl, sym, subst, ap, ◌∙◌}
+use Rattle.std.specs.Prelude.{max}
 use Rattle.dp_claims.specs.Enough.{Has}
 use Rattle.dp_claims.specs.Dominance.{Covers}
 use Rattle.dom_store.specs.Contents.{Contents, Apart}
@@ -9,6 +10,7 @@ use Rattle.state_layout.specs.Conditions.{IsNodeFor}
 use Rattle.state_layout.specs.declared.layout.Layout.{Layout}
 use Rattle.state_layout.specs.declared.node.Node.{Node}
 use Rattle.pass_ledger.specs.Passes.{Pass}
+use Rattle.pass_ledger.specs.Past.{IsCoveredBy}
 use Rattle.pass_ledger.specs.Rows as rows
 use Rattle.pass_ledger.proofs.Lists.{has_map}
 use Rattle.best_ledger.specs.Events.{CanTake, IsPastCovered}
@@ -20,16 +22,15 @@ use Rattle.best_ledger.specs.declared.records.BestVisit.{BestVisit}
 use Rattle.best_ledger.specs.declared.records.Moment.{Moment}
 use Rattle.best_ledger.specs.declared.records.Moment.TheVariants.{Came, Visited}
 use Rattle.best_ledger.proofs.Histories.{place_of, moment_of}
-use Rattle.best_ledger.proofs.Moments.{one_letter}
 use Rattle.best_ledger.proofs.Posts.{own_law}
 use Rattle.successors.specs.Searches.{Search}
 use Rattle.shard_core.proofs.Closes.{apart_in}
 use Rattle.best_shard.specs.Calls.{MayCome, IsTaking}
 use Rattle.best_shard.specs.Opening.{Opens}
-use Rattle.best_shard.specs.Stands.{Stands, Follows, Remembers, IsClock, past_visit}
+use Rattle.best_shard.specs.Stands.{Stands, Follows, Remembers, past_visit}
 use Rattle.best_shard.specs.declared.shard.BestShard.{BestShard}
-use Rattle.best_shard.proofs.Lists.{map_has, visits_same, letter_cases}
-use Rattle.pass_ledger.proofs.Lists.{has_cases}
+use Rattle.best_shard.proofs.Clocks.{clock_took}
+use Rattle.best_shard.proofs.Lists.{map_has, visits_same}
 
 -- what is apart in the ledger is apart in the store
 pub apart_out : (p : Pass) (ns : List Node) → rows.Apart p ns → Apart p.model p.prune ns
@@ -51,19 +52,6 @@ past_covers p layout past history is n c =
       subst (λ (k : PastNode). Covers p.model p.prune k.state k.cost n.state n.cost) (sym v.2) c.2,
     )
 
-clock_took : (clock clock' : ℕ) (history : List Moment) (x : BestLetter) → IsClock clock history → clock ≤ clock' → x.stamp ≤ clock' → IsClock clock' (history ++ Came x ∷ [])
-clock_took clock clock' history x is later least =
-    record {
-      letters = λ y h. elim (letter_cases history x y h) [
-        | inl old ↦ (let a = is.letters y old in omega (arith, a, later))
-        | inr e ↦ subst (λ (z : BestLetter). z.stamp ≤ clock') e least
-      ];
-      visits = λ w h. elim (has_cases history (Came x ∷ []) (Visited w) h) [
-        | inl old ↦ (let a = is.visits w old in omega (arith, a, later))
-        | inr new ↦ absurd (one_letter x w new)
-      ];
-    }
-
 module _ {A B : Type 0} where
   pub node_fits : (p : Pass) (s : BestShard A B) (r : BestRecord) → Stands p s r → (x : BestLetter) → MayCome p x → IsNodeFor s.layout x.node
   node_fits p s r st x may = (p.model, st.follows.belongs.layout_is, may.lawful.is_node)
@@ -78,7 +66,11 @@ module _ {A B : Type 0} where
         lawful = may.lawful;
         kept = λ n h. elim (o.kept n h) [
           | inl old ↦ inl (subst (λ (ns : List Node). Has ns n) st.waiting old)
-          | inr here ↦ inr (here.0, subst (IsNew p r.history) here.0 (not_past_new p s.layout s.past r.history st.follows.past x.node here.1))
+          | inr here ↦ inr (
+            here.0,
+            subst (IsNew p r.history) here.0 (not_past_new p s.layout s.past r.history st.follows.past x.node here.1),
+            subst (λ (k : Node). IsCoveredBy p r.waiting k → ⊥) here.0 (λ c. here.2 (subst (λ (ns : List Node). IsCoveredBy p ns x.node) (sym st.waiting) c)),
+          )
         ];
         apart = apart_in p new o.apart;
         left = λ n h. o.left n (subst (λ (ns : List Node). Has ns n) (sym st.waiting) h);
@@ -86,8 +78,8 @@ module _ {A B : Type 0} where
       }
 
   takes : (p : Pass) (s : BestShard A B) (r : BestRecord) → Stands p s r → (x : BestLetter) → MayCome p x → (waiting' : Contents) → Opens p s.past.nodes s.waiting.nodes x.node waiting'.nodes → waiting'.layout ≡ s.waiting.layout
-      → (clock' : ℕ) → s.clock ≤ clock' → x.stamp ≤ clock' → IsTaking p r x (record s { waiting = waiting'; clock = clock' })
-  takes p s r st x may waiting' o wl clock' later least =
+      → (clock' : ℕ) → clock' ≡ max s.clock x.stamp → IsTaking p r x (record s { waiting = waiting'; clock = clock' })
+  takes p s r st x may waiting' o wl clock' is =
       record {
         rest = waiting'.nodes;
         can = can;
@@ -109,7 +101,7 @@ module _ {A B : Type 0} where
             layout_is = wl ∙ f.layout_is;
             past = record { layout_is = f.past.layout_is; nodes_are = f.past.nodes_are ∙ sym (ap (map past_visit) same) };
             letters = f.letters;
-            clock = clock_took s.clock clock' r.history x f.clock later least;
+            clock = clock_took s.clock clock' r.history x f.clock is;
           };
           waiting = refl;
         };
@@ -126,9 +118,9 @@ module _ {A B : Type 0} where
 
   -- the expander is the same
   pub took : (p : Pass) (s : BestShard A B) (r : BestRecord) → Stands p s r → (x : BestLetter) → MayCome p x → (waiting' : Contents) → Opens p s.past.nodes s.waiting.nodes x.node waiting'.nodes → waiting'.layout ≡ s.waiting.layout
-      → (expander' : Search) → expander' ≡ s.expander → (clock' : ℕ) → s.clock ≤ clock' → x.stamp ≤ clock' → IsTaking p r x (record s { waiting = waiting'; expander = expander'; clock = clock' })
-  took p s r st x may waiting' o wl expander' same clock' later least =
-      subst (λ (y : Search). IsTaking p r x (record s { waiting = waiting'; expander = y; clock = clock' })) (sym same) (takes p s r st x may waiting' o wl clock' later least)
+      → (expander' : Search) → expander' ≡ s.expander → (clock' : ℕ) → clock' ≡ max s.clock x.stamp → IsTaking p r x (record s { waiting = waiting'; expander = expander'; clock = clock' })
+  took p s r st x may waiting' o wl expander' same clock' is =
+      subst (λ (y : Search). IsTaking p r x (record s { waiting = waiting'; expander = y; clock = clock' })) (sym same) (takes p s r st x may waiting' o wl clock' is)
 
   pub took_none : (p : Pass) (s : BestShard A B) (r : BestRecord) → Stands p s r → (waiting' : Contents) → waiting'.nodes ≡ s.waiting.nodes → waiting'.layout ≡ s.waiting.layout → (expander' : Search) → expander' ≡ s.expander
       → Stands p (record s { waiting = waiting'; expander = expander' }) r

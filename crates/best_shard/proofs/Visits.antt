@@ -1,5 +1,5 @@
 -- A shard that visits the node that it picked stands for the record that visited it.
-use Rattle.std.proofs.Common.{◌≡◌, ℕ, ◌+◌, ◌≤◌, inl, inr, suc, Bool, List, [], ◌∷◌, ◌++◌, length, map, Option, Some, None, Ok, Err, refl, sym, subst, ◌∙◌, ap, arith}
+use Rattle.std.proofs.Common.{◌≡◌, ℕ, ◌+◌, ◌<◌, ◌≤◌, inl, inr, suc, Bool, List, [], ◌∷◌, ◌++◌, length, map, Option, Some, None, Ok, Err, refl, sym, subst, ◌∙◌, ap, arith}
 use Rattle.std.specs.Prelude.{ℤ, pos, is_some, IfSome, Result}
 use Rattle.std.proofs.lemmas.List.{length_push, map-append}
 use Rattle.std.specs.declared.alloc.Global.{Global}
@@ -37,11 +37,8 @@ use Rattle.best_ledger.specs.Logs.{entry_of}
 use Rattle.best_ledger.specs.Records as best_records
 use Rattle.best_ledger.specs.Records.{node_to_post, to_post}
 use Rattle.best_ledger.specs.declared.records.BestRecord.{BestRecord}
-use Rattle.best_ledger.specs.declared.records.BestVisit.{BestVisit}
-use Rattle.best_ledger.specs.declared.records.Moment.{Moment}
-use Rattle.best_ledger.specs.declared.records.Moment.TheVariants.{Pruned}
+use Rattle.best_ledger.specs.declared.records.Moment.TheVariants.{Came, Visited, Pruned}
 use Rattle.best_ledger.specs.declared.records.ToPost.{ToPost}
-use Rattle.best_ledger.proofs.Moments.{came_back, no_letters}
 use Rattle.best_ledger.proofs.Posts.{own_law}
 use Rattle.successors.specs.Answers.{Met}
 use Rattle.successors.specs.Batches.{BatchFits}
@@ -62,9 +59,10 @@ use Rattle.shard_core.proofs.Visits.{expands_in}
 use Rattle.spot_eval.specs.declared.ends.SpotFault.{SpotFault}
 use Rattle.best_shard.specs.Calls.{IsVisit, IsFaulted}
 use Rattle.best_shard.specs.Outgoing.{addressed}
-use Rattle.best_shard.specs.Stands.{Holds, Follows, IsClock, Ends, EndsAs, past_visit}
+use Rattle.best_shard.specs.Stands.{Holds, Follows, Ends, EndsAs, clock_of, past_visit}
 use Rattle.best_shard.specs.declared.shard.BestShard.{BestShard}
-use Rattle.best_shard.proofs.Lists.{map_has, all_has, visits_after, visit_cases}
+use Rattle.best_shard.proofs.Clocks.{below, clock_after}
+use Rattle.best_shard.proofs.Lists.{map_has, all_has, visits_after}
 use Rattle.best_shard.proofs.Picks.{picked_good}
 
 -- ---- lists
@@ -112,16 +110,9 @@ meets_in : (p : Pass) (i place : ℕ) (n : Node) (best : ℕ) (last : Option ℕ
 meets_in p i place n best None met fault spot kind h = met_at p n.cost n.state met fault spot kind h
 meets_in p i place n best (Some t) met fault spot kind h = (h.0, h.1, h.2, h.3, met_at p (join p.model.join n.cost h.0) h.1 met fault spot kind h.4)
 
--- the clock stands at the stamp of the visit
-clock_after : (clock : ℕ) (history : List Moment) (n : Node) (prunes : List PrunedAt) → IsClock clock history → IsClock (clock + 1) (history ++ moments_of (clock + 1) n prunes)
-clock_after clock history n prunes is =
-    record {
-      letters = λ y h. (let a = is.letters y (came_back history (moments_of (clock + 1) n prunes) y (no_letters (clock + 1) n prunes) h) in omega (arith, a));
-      visits = λ w h. elim (visit_cases history (clock + 1) n prunes w h) [
-        | inl old ↦ (let a = is.visits w old in omega (arith, a))
-        | inr new ↦ (let a = ap (λ (v : BestVisit). v.stamp) new in omega (arith, a))
-      ];
-    }
+-- the stamp of a visit is above all that came before
+above : (stamp clock most : ℕ) → clock ≡ most → stamp ≤ most → stamp < clock + 1
+above stamp clock most e h = omega (arith, e, h)
 
 module _ {A B : Type 0} where
   -- what a shard hands back after a visit
@@ -153,8 +144,8 @@ module _ {A B : Type 0} where
       record {
         fine = f.fine;
         is_open = h.picked;
-        above_letters = λ x came. (let a = f.clock.letters x came in omega (arith, a));
-        above_visits = λ w was. (let a = f.clock.visits w was in omega (arith, a));
+        above_letters = λ x came. above x.stamp s.clock (clock_of r.history) f.clock (below r.history (Came x) came);
+        above_visits = λ w was. above w.stamp s.clock (clock_of r.history) f.clock (below r.history (Visited w) was);
         accounted = inl (subst (λ (place : ℕ). best_records.Accounted p s.me held [] made (moments_of (s.clock + 1) n prunes) place (visit (s.clock + 1) n)) f.ends.1.visited_is accounted);
         each_made = λ u there.
             (let m = has_map address batch.letters u there in
@@ -231,6 +222,7 @@ module _ {A B : Type 0} where
   visits p s n r h best batch fits found past' pl pn letters' lis clock' cis log' logged visited' vis held' his offer offered batch' =
       record {
         stamp = s.clock + 1;
+        stamp_is = ap (λ (k : ℕ). k + 1) f.clock;
         rest = s.waiting.nodes;
         made = made;
         prunes = prunes;
@@ -249,7 +241,7 @@ module _ {A B : Type 0} where
               nodes_are = pn ∙ (ap (λ (ns : List PastNode). ns ++ past_node n ∷ []) f.past.nodes_are ∙ sym (ap (map past_visit) after ∙ map-append past_visit (visits_in r.history) (visit (s.clock + 1) n ∷ [])));
             };
             letters = lis ∙ ap (λ (us : List ToPost). us ++ made) f.letters;
-            clock = subst (λ (k : ℕ). IsClock k (r.history ++ moments_of (s.clock + 1) n prunes)) (sym cis) (clock_after s.clock r.history n prunes f.clock);
+            clock = cis ∙ clock_after s.clock r.history n prunes f.clock;
           };
           waiting = refl;
         };
@@ -280,6 +272,7 @@ module _ {A B : Type 0} where
   faulted p s n r h best met found past' fault spot kind here his batch' =
       record {
         stamp = s.clock + 1;
+        stamp_is = ap (λ (k : ℕ). k + 1) f.clock;
         rest = s.waiting.nodes;
         met = here;
         spot = ap (λ (k : FaultHere). k.spot) his ∙ sym spot;
@@ -308,8 +301,8 @@ module _ {A B : Type 0} where
       can = record {
         fine = f.fine;
         is_open = h.picked;
-        above_letters = λ x came. (let a = f.clock.letters x came in omega (arith, a));
-        above_visits = λ w was. (let a = f.clock.visits w was in omega (arith, a));
+        above_letters = λ x came. above x.stamp s.clock (clock_of r.history) f.clock (below r.history (Came x) came);
+        above_visits = λ w was. above w.stamp s.clock (clock_of r.history) f.clock (below r.history (Visited w) was);
         accounted = inr at_is;
         each_made = λ u there. absurd (has_none u there);
         once = tt;

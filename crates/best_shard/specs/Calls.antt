@@ -1,5 +1,5 @@
 -- What the calls of a shard are, in the words of the record for which it stands.
-use Rattle.std.specs.Prelude.{◌≡◌, ℕ, ◌<◌, List, [], length, map, Option, Some, None}
+use Rattle.std.specs.Prelude.{◌≡◌, ℕ, ◌+◌, ◌<◌, List, [], length, map, Option, Some, None}
 use Rattle.dp_claims.specs.Enough.{Has}
 use Rattle.path_log.specs.Paths.{Log}
 use Rattle.pass_ledger.specs.Letters.{InOrder}
@@ -18,7 +18,7 @@ use Rattle.shard_core.specs.Calls.{IsOffer}
 use Rattle.shard_core.specs.declared.shard.Visited.{Visited}
 use Rattle.shard_core.specs.declared.shard.Visited.TheVariants.{Done, Fault, Memory}
 use Rattle.spot_eval.specs.declared.ends.SpotFault.{SpotFault}
-use Rattle.best_shard.specs.Stands.{Stands, EndsAs}
+use Rattle.best_shard.specs.Stands.{Stands, EndsAs, clock_of}
 use Rattle.best_shard.specs.declared.shard.BestShard.{BestShard}
 use Rattle.best_shard.specs.declared.shard.BestShardEnd.{BestShardEnd}
 
@@ -39,9 +39,11 @@ pub record IsPruning {A B : Type 0} (p : Pass) (best : ℕ) (r : BestRecord) (n 
   pub can : CanPrune p r n rest best
   pub stands : Stands p new (prune r n rest best)
 
--- The node that was picked is visited without a fault. Successors are pruned by the value that was given.
+-- The node that was picked is visited without a fault. The visit's stamp, which its letters have too, is one more than the clock.
+-- Successors are pruned by the value that was given.
 pub record IsVisit {A B : Type 0} (p : Pass) (i best : ℕ) (r : BestRecord) (n : Node) (offer : Option ℕ) (new : BestShard A B) : Type 0 where
   pub stamp : ℕ
+  pub stamp_is : stamp ≡ clock_of r.history + 1
   pub rest : List Node
   pub made : List ToPost
   pub prunes : List PrunedAt
@@ -53,6 +55,7 @@ pub record IsVisit {A B : Type 0} (p : Pass) (i best : ℕ) (r : BestRecord) (n 
 -- it is visited, and meets the fault
 pub record IsFaulted {A B : Type 0} (p : Pass) (i : ℕ) (r : BestRecord) (n : Node) (fault : SpotFault) (new : BestShard A B) : Type 0 where
   pub stamp : ℕ
+  pub stamp_is : stamp ≡ clock_of r.history + 1
   pub rest : List Node
   pub met : FaultHere
   pub spot : met.spot ≡ fault.spot

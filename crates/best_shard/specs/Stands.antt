@@ -1,6 +1,5 @@
 -- When a running shard of a best-first search stands for a record of it.
-use Rattle.std.specs.Prelude.{◌≡◌, ℕ, ◌≤◌, ◌<◌, List, length, map, Option, Some, None}
-use Rattle.dp_claims.specs.Enough.{Has}
+use Rattle.std.specs.Prelude.{◌≡◌, ℕ, ◌<◌, max, List, [], ◌∷◌, length, map, Option, Some, None}
 use Rattle.dp_model.specs.declared.parts.PlainState.{PlainState}
 use Rattle.path_log.specs.declared.logs.Entry.{Entry}
 use Rattle.state_layout.specs.Conditions.{IsLayoutOf, IsNodeOf}
@@ -16,11 +15,10 @@ use Rattle.best_ledger.specs.Events.{IsWithout}
 use Rattle.best_ledger.specs.Histories.{visits_in}
 use Rattle.best_ledger.specs.Logs.{entry_of}
 use Rattle.best_ledger.specs.Records.{Own}
-use Rattle.best_ledger.specs.declared.letters.BestLetter.{BestLetter}
 use Rattle.best_ledger.specs.declared.records.BestRecord.{BestRecord}
 use Rattle.best_ledger.specs.declared.records.BestVisit.{BestVisit}
 use Rattle.best_ledger.specs.declared.records.Moment.{Moment}
-use Rattle.best_ledger.specs.declared.records.Moment.TheVariants.{Came, Visited}
+use Rattle.best_ledger.specs.declared.records.Moment.TheVariants.{Came, Visited, Pruned}
 use Rattle.successors.specs.Searches.{Search}
 use Rattle.best_shard.specs.declared.shard.BestShard.{BestShard}
 
@@ -42,10 +40,16 @@ pub record Remembers (layout : Layout) (past : Past) (history : List Moment) : T
   pub layout_is : past.layout ≡ layout
   pub nodes_are : past.nodes ≡ map past_visit (visits_in history)
 
--- no stamp of a letter that came, or of a visit, is greater than the clock
-pub record IsClock (clock : ℕ) (history : List Moment) : Type 0 where
-  pub letters : (x : BestLetter) → Has history (Came x) → x.stamp ≤ clock
-  pub visits : (w : BestVisit) → Has history (Visited w) → w.stamp ≤ clock
+-- the stamp of a letter that came, or of a visit
+abbrev pub stamp_in : Moment → ℕ
+stamp_in (Came x) = x.stamp
+stamp_in (Visited w) = w.stamp
+stamp_in (Pruned q) = 0
+
+-- The clock is the greatest stamp of the letters that came and of the visits, and 0 before any.
+abbrev pub clock_of : List Moment → ℕ
+clock_of [] = 0
+clock_of (m ∷ history) = max (stamp_in m) (clock_of history)
 
 -- What a shard hands back is the record's: the log of its visits, what is held, and the fault.
 pub record Ends (p : Pass) (i : ℕ) (log : List Entry) (visited : ℕ) (held : Option Held) (fault : Option FaultHere) (r : BestRecord) : Type 0 where
@@ -67,7 +71,7 @@ pub record Follows {A B : Type 0} (p : Pass) (s : BestShard A B) (r : BestRecord
   pub layout_is : s.waiting.layout ≡ s.layout
   pub past : Remembers s.layout s.past r.history
   pub letters : s.letters.items ≡ r.unsent
-  pub clock : IsClock s.clock r.history
+  pub clock : s.clock ≡ clock_of r.history
 
 -- The shard stands for the record. Its open nodes stand in the order in which they came.
 pub record Stands {A B : Type 0} (p : Pass) (s : BestShard A B) (r : BestRecord) : Type 0 where

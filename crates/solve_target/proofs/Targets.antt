@@ -11,7 +11,8 @@ use Rattle.dp_model.specs.declared.whole.Model.{Model}
 use Rattle.dp_steps.specs.Faults.{Meets, MeetsIn}
 use Rattle.dp_steps.specs.Lists.{Solution}
 use Rattle.dp_steps.specs.States.{Base, Forbidden, Inner}
-use Rattle.solve_target.specs.Targets.{IsBaseTarget, IsForbiddenTarget}
+use Rattle.solve_target.specs.Targets.{IsBaseTarget, IsForbiddenTarget, found_to_be}
+use Rattle.solve_target.specs.declared.looks.AtTarget.TheVariants as targets
 use Rattle.state_layout.specs.declared.node.Node.{Node}
 use Rattle.successors.specs.Answers.{Met}
 use Rattle.successors.specs.Starts.{start_at}
@@ -60,6 +61,25 @@ no_steps m cost base within = record { reaches = (m.target, None, cost, (refl, r
 none_legal : (m : Model) (steps : List ℕ) (cost : ℤ) → Forbidden m m.target → Solution m steps cost → ⊥
 none_legal m [] cost forbidden s = forbidden_not_base m m.target cost forbidden s.completes
 none_legal m (g ∷ steps) cost forbidden s = forbidden_not_inner m m.target forbidden s.completes.3.inner
+
+-- ---- what is told of it is what it is found to be
+
+pub inner_first : (m : Model) (prune : Bool) (start : Start) (n : Node) → start_at m prune ≡ Ok start → start ≡ starts.Open n → targets.Inner ≡ found_to_be (start_at m prune)
+inner_first m prune start n e is = sym (ap found_to_be (e ∙ ap Ok is))
+
+pub base_first : (m : Model) (prune : Bool) (start : Start) (cost told : ℤ) (found : Found) → start_at m prune ≡ Ok start → start ≡ starts.Base cost → told ≡ cost → found ≡ record { cost = told; steps = [] } → targets.Base found ≡ found_to_be (start_at m prune)
+base_first m prune start cost told found e is same known =
+    let whole : ℤ → Found = λ (c : ℤ). record { cost = c; steps = [] } in
+    ap (λ (f : Found). targets.Base f) (known ∙ ap whole same) ∙ sym (ap found_to_be (e ∙ ap Ok is))
+
+pub forbidden_first : (m : Model) (prune : Bool) (start : Start) → start_at m prune ≡ Ok start → start ≡ starts.NotAllowed → targets.NotAllowed ≡ found_to_be (start_at m prune)
+forbidden_first m prune start e is = sym (ap found_to_be (e ∙ ap Ok is))
+
+pub fault_first : (m : Model) (prune : Bool) (met : Met) (spot : Spot) (kind : FaultKind) (fault : FaultAt) → start_at m prune ≡ Err met → fault ≡ record { steps = []; spot = spot; kind = kind } → spot ≡ met.spot → kind ≡ met.kind
+    → targets.Fault fault ≡ found_to_be (start_at m prune)
+fault_first m prune met spot kind fault e is same_spot same_kind =
+    let whole : Spot → FaultKind → FaultAt = λ s k. record { steps = []; spot = s; kind = k } in
+    ap (λ (f : FaultAt). targets.Fault f) (is ∙ ap (λ (s : Spot). whole s kind) same_spot ∙ ap (whole met.spot) same_kind) ∙ sym (ap found_to_be e)
 
 -- ---- what the target is found to be
 

@@ -1,5 +1,5 @@
 -- What the target of a model is, and what follows for all lists.
-use Rattle.std.specs.Prelude.{ℕ, Bool, List, ℤ}
+use Rattle.std.specs.Prelude.{ℕ, Bool, List, [], ℤ, Result, Ok, Err}
 use Rattle.dp_model.specs.Costs.{IsBetter}
 use Rattle.dp_model.specs.declared.answers.Found.{Found}
 use Rattle.dp_model.specs.declared.whole.Model.{Model}
@@ -8,6 +8,9 @@ use Rattle.dp_steps.specs.Lists.{Solution}
 use Rattle.dp_steps.specs.States.{Base, Forbidden, Inner}
 use Rattle.solve_target.specs.declared.looks.AtTarget.{AtTarget}
 use Rattle.solve_target.specs.declared.looks.AtTarget.TheVariants as targets
+use Rattle.successors.specs.Answers.{Met}
+use Rattle.successors.specs.declared.starts.Start.{Start}
+use Rattle.successors.specs.declared.starts.Start.TheVariants as starts
 
 -- the target is base, this list is legal, and no list is better
 pub record IsBaseTarget (m : Model) (found : Found) : Type 0 where
@@ -19,6 +22,17 @@ pub record IsBaseTarget (m : Model) (found : Found) : Type 0 where
 pub record IsForbiddenTarget (m : Model) : Type 0 where
   pub forbidden : Forbidden m m.target
   pub none_legal : (steps : List ℕ) (cost : ℤ) → Solution m steps cost → ⊥
+
+-- what the target is found to be when a search begins; a base target has the list without steps
+abbrev pub target_of : Start → AtTarget
+target_of (starts.Open n) = targets.Inner
+target_of (starts.Base cost) = targets.Base (record { cost = cost; steps = [] })
+target_of starts.NotAllowed = targets.NotAllowed
+
+-- the same, or the first fault that is met there, without steps
+abbrev pub found_to_be : Result Start Met → AtTarget
+found_to_be (Ok start) = target_of start
+found_to_be (Err met) = targets.Fault (record { steps = []; spot = met.spot; kind = met.kind })
 
 -- what is answered of the target is so
 abbrev pub TargetIs : Model → (prune : Bool) → AtTarget → Type 0

@@ -1,7 +1,8 @@
 //! What the target of a model turns out to be, and what follows for all lists.
 
 ghost use Rattle.std.specs.Prelude.{◌≡◌, [], IfOk};
-ghost use Rattle.solve_target.specs.Targets.{TargetIs};
+ghost use Rattle.solve_target.specs.Targets.{TargetIs, found_to_be};
+ghost use Rattle.successors.specs.Starts.{start_at as start_of};
 
 use dp_model::{FaultAt, FaultKind, Found, Model, Seq, Spot};
 use solve_start::start_at;
@@ -45,7 +46,8 @@ fn fault_without_steps(alloc: Global, spot: Spot, kind: FaultKind) -> FaultAt
 /// What the target of the model turns out to be. Where it is base no list is better than the one without steps, and where it is
 /// not allowed no list is legal. The fault is the first one that is met. Fails for want of memory alone.
 pub fn look_at_target(alloc: Global, model: &Model, prune: bool) -> Result<AtTarget, AllocError>
-    ensures { IfOk result (TargetIs model.now prune) }
+    ensures first { IfOk result (λ answer. answer ≡ found_to_be (start_of model.now prune)) }
+    ensures is { IfOk result (TargetIs model.now prune) }
 {
     match start_at(alloc, model, prune) {
         Ok(Start::Open(_)) => Ok(AtTarget::Inner),

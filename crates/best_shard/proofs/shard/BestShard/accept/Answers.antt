@@ -15,7 +15,7 @@ pub returns-in-Ok-clause-taken : goal.returns-in-Ok-clause-taken
 returns-in-Ok-clause-taken g c = λ p r suited st may.
     let is = c.max-self.ensures in
     took p c.args.self.now r st c.args.letter may c.take_in.new.waiting (c.in-Ok.ensures.opens p st.follows.belongs.layout_is suited.covering suited.prune_is (waits_apart p c.args.self.now r st)) c.take_in.ensures.layout
-    c.take_in.new.expander c.take_in.ensures.expander c.max-self.result (omega (arith, is)) (omega (arith, is))
+    c.take_in.new.expander c.take_in.ensures.expander c.max-self.result (omega (arith, is))
 
 pub returns-in-Err-clause-same : goal.returns-in-Err-clause-same
 returns-in-Err-clause-same g c = λ p r st. took_none p c.args.self.now r st c.take_in.new.waiting c.in-Err.ensures.err.1 c.take_in.ensures.layout c.take_in.new.expander c.take_in.ensures.expander

@@ -29,5 +29,5 @@ returns g c = λ p suited model prune shards owner inner starts.
           })
           starts (λ n e. subst (λ (m : Model). IsNodeOf m n) (sym model) (some_good c.args.model.now c.args.start c.requires.node n e))
           c.in_ok-waiting.ensures.layout c.in_ok-waiting.ensures.nodes c.in_ok-past.ensures.layout c.in_ok-past.ensures.nodes c.new-4.ensures.items
-          refl (ap (λ (l : Log). l.shard) c.new-3.ensures) (ap (λ (l : Log). l.entries) c.new-3.ensures) refl refl,
+          refl (ap (λ (l : Log). l.shard) c.new-3.ensures) (ap (λ (l : Log). l.entries) c.new-3.ensures) refl refl refl,
     )
