@@ -1,12 +1,12 @@
 -- What a pass announced, when its calls have ended.
-use Rattle.std.proofs.Common.{◌≡◌, ℕ, ◌^◌, ◌≤◌, ◌<◌, ◌⊎◌, inl, inr, Bool, true, false, if◌then◌else◌, List, [], ◌∷◌, ◌++◌, length, slice_get, Option, Some, None, Result, Ok, Err, ℤ, pos, refl, sym, ap, subst, ◌∙◌, arith}
+use Rattle.std.proofs.Common.{◌≡◌, ℕ, ◌≤◌, ◌<◌, ◌⊎◌, inl, inr, Bool, true, false, if◌then◌else◌, List, [], ◌∷◌, ◌++◌, slice_get, Option, Some, None, Result, Ok, Err, ℤ, pos, refl, sym, ap, subst, ◌∙◌, arith}
 use Rattle.std.specs.Prelude.{◌≤ℤ◌, IfSome, option_map, option_to_list}
 use Rattle.std.specs.Result.{is_err}
 use Rattle.announce_laws.proofs.Calls.{cried_law, left_law}
 use Rattle.announce_laws.proofs.Lasts.{last_law}
 use Rattle.announce_laws.specs.Called.{AreOfShards, IsSolved}
 use Rattle.announce_laws.specs.Last.{Improving, announced, is_announced, last_after, last_of, word_or_none}
-use Rattle.announcer.specs.Ends.{CallerFacts, CrierFacts, QueueFacts, AreLeft, IsBegunOf, IsCrierOf, new_crier}
+use Rattle.announcer.specs.Ends.{CallerFacts, CrierFacts, QueueFacts, AreLeft, IsBegunOf, new_crier}
 use Rattle.announcer.specs.declared.view.CalledCost.{CalledCost}
 use Rattle.announcing.specs.Hearing.{Hears, costs_cried}
 use Rattle.announcing.specs.Hearing.{Heard as HeardBy}
@@ -17,7 +17,6 @@ use Rattle.board_words.specs.Steps.{best_known}
 use Rattle.board_words.specs.declared.seat.View.{View}
 use Rattle.dp_claims.specs.Enough.{Has}
 use Rattle.dp_model.specs.Costs.{InRange, order_word}
-use Rattle.dp_model.specs.declared.answers.Cause.TheVariants as causes
 use Rattle.dp_model.specs.declared.answers.Found.{Found}
 use Rattle.dp_model.specs.declared.whole.Model.{Model}
 use Rattle.dp_outside.specs.Outside.{Rose, Takes, TakesFront}
@@ -26,10 +25,9 @@ use Rattle.dp_steps.specs.Lists.{Solution}
 use Rattle.pass_ends.specs.Ends.{IsLegal, IsLowered, IsPassEnd}
 use Rattle.pass_ends.specs.declared.answers.PassEnd.{PassEnd}
 use Rattle.pass_ends.specs.declared.answers.PassEnd.TheVariants as ends
-use Rattle.pass_ledger.proofs.Lists.{has_cases, has_head, has_left, has_map, has_none, has_right}
+use Rattle.pass_ledger.proofs.Lists.{has_cases, has_head, has_map, has_none, has_right}
 use Rattle.pass_ledger.specs.Passes.{Pass, word_of}
-use Rattle.pass_run.specs.Announcements.{EndsAnnounced, HasAnnounced, HasLast, HasLooked, HasSettled, RanOut, WasHeard, best_in, cost_in, forgotten, last_or}
-use Rattle.pass_run.specs.Callers.{AreLastCallers}
+use Rattle.pass_run.specs.Announcements.{EndsAnnounced, HasAnnounced, HasHeard, HasLooked, HasSettled, RanOut, WasHeard, best_in, cost_in, forgotten, last_or}
 use Rattle.pass_run.specs.declared.announced.AnnouncedEnd.{AnnouncedEnd}
 use Rattle.pass_run.specs.declared.announced.Heard.{Heard}
 use Rattle.solve_report.proofs.Written.{Puts-nothing, Takes-nothing}
@@ -233,19 +231,11 @@ module _ {A : Type 0} (taken : A → Option (List ℕ)) (faults : A → ℕ) (qu
   pub may_hear : (ear : Ear A) → IsNewEar queue minimize last ear → (h : HeardBy) × Hears taken faults h ear
   may_hear ear new = (held_to ear, hears_new ear new)
 
-  -- what it has heard when the turns are over
-  pub heard_all : (ear after : Ear A) → ((h : HeardBy) → Hears taken faults h ear → Hears taken faults h after) → IsNewEar queue minimize last ear → Hears taken faults (held_to ear) after
-  heard_all ear after between new = between (held_to ear) (hears_new ear new)
-
--- what was heard, by what the crier and the sink are when the ear has let them go
-module _ {A : Type 0} (taken : A → Option (List ℕ)) (faults : A → ℕ) (h : HeardBy) (after : Ear A) (hears : Hears taken faults h after) (crier : CrierFacts) (same : crier ≡ after.crier.now) where
-  pub cried_at : IsCrierOf h.queue crier × (after.told.count ≤ 2 ^ 62) × ((k : ℕ) (x : CalledCost) → slice_get crier.taken k ≡ Some x → x.from < h.queue.senders)
-  cried_at =
-      subst (λ (c : CrierFacts). IsCrierOf h.queue c × (after.told.count ≤ 2 ^ 62) × ((k : ℕ) (x : CalledCost) → slice_get c.taken k ≡ Some x → x.from < h.queue.senders)) (sym same)
-      (hears.crier, hears.few, hears.known)
-
-  pub told_at : (sink : A) (minimize : Bool) → sink ≡ after.out.now → h.minimize ≡ minimize → IsTold minimize h.last (costs_cried crier.taken) h.before (taken sink) h.faults (faults sink) after.told
-  told_at sink minimize out law =
-      subst (λ (c : CrierFacts). IsTold minimize h.last (costs_cried c.taken) h.before (taken sink) h.faults (faults sink) after.told) (sym same)
-      (subst (λ (s : A). IsTold minimize h.last (costs_cried after.crier.now.taken) h.before (taken s) h.faults (faults s) after.told) (sym out)
-      (subst (λ (b : Bool). IsTold b h.last (costs_cried after.crier.now.taken) h.before (taken after.out.now) h.faults (faults after.out.now) after.told) law hears.told))
+  -- what was heard when the turns are over, by what the crier and the sink are once the ear has let them go
+  pub heard_at : (ear after : Ear A) → ((h : HeardBy) → Hears taken faults h ear → Hears taken faults h after) → IsNewEar queue minimize last ear → (crier : CrierFacts) (sink : A) → crier ≡ after.crier.now → sink ≡ after.out.now
+      → HasHeard taken faults queue minimize last crier ear.out.now sink after.told
+  heard_at ear after between new crier sink same out =
+      let h = between (held_to ear) (hears_new ear new) in
+      subst (λ (c : CrierFacts). HasHeard taken faults queue minimize last c ear.out.now sink after.told) (sym same)
+      (subst (λ (s : A). HasHeard taken faults queue minimize last after.crier.now ear.out.now s after.told) (sym out)
+      (record { crier_of = h.crier; known = h.known; few = h.few; looked = h.told }))

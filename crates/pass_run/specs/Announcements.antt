@@ -1,7 +1,7 @@
 -- What a pass announced.
-use Rattle.std.specs.Prelude.{◌≡◌, ℕ, ◌<◌, ◌≤◌, ◌⊎◌, Bool, true, false, List, [], ◌∷◌, ◌++◌, length, slice_get, Option, Some, None, option_map, option_to_list, ℤ, pos}
+use Rattle.std.specs.Prelude.{◌≡◌, ℕ, ◌^◌, ◌<◌, ◌≤◌, ◌⊎◌, Bool, true, false, List, [], ◌∷◌, ◌++◌, length, slice_get, Option, Some, None, option_map, option_to_list, ℤ, pos}
 use Rattle.announce_laws.specs.Last.{Improving, word_or_none}
-use Rattle.announcer.specs.Ends.{CallerFacts, CrierFacts, QueueFacts, AreLeft}
+use Rattle.announcer.specs.Ends.{CallerFacts, CrierFacts, QueueFacts, AreLeft, IsCrierOf}
 use Rattle.announcer.specs.declared.view.CalledCost.{CalledCost}
 use Rattle.announcing.specs.Hearing.{costs_cried}
 use Rattle.announcing.specs.Telling.{IsTold, announce_text}
@@ -9,7 +9,6 @@ use Rattle.announcing.specs.declared.telling.Told.{Told}
 use Rattle.board_words.specs.Steps.{best_known}
 use Rattle.board_words.specs.declared.seat.View.{View}
 use Rattle.dp_claims.specs.Enough.{Has}
-use Rattle.dp_model.specs.declared.answers.Cause.{Cause}
 use Rattle.dp_model.specs.declared.answers.Cause.TheVariants as causes
 use Rattle.dp_model.specs.declared.answers.Found.{Found}
 use Rattle.dp_model.specs.declared.whole.Model.{Model}
@@ -70,6 +69,15 @@ HasLast m before after last r = r.failed ≡ false → (RanOut r.end → ⊥) �
 abbrev pub EndsAnnounced : Pass → (was now : View) → (last : Option ℤ) → (before after : Option (List ℕ)) → (faults_before faults_after : ℕ) → AnnouncedEnd → Type 0
 EndsAnnounced p was now last before after faults_before faults_after r =
     IsPassEnd p was now r.end × HasAnnounced p.model last before after faults_before faults_after r × HasLast p.model (best_known was) (best_known now) last r
+
+-- ---- what was heard while its shards turned
+
+-- The crier of this queue took calls of its callers, and the cost of each was looked at, after this last cost, by a sink that was `before`.
+pub record HasHeard {A : Type 0} (taken : A → Option (List ℕ)) (faults : A → ℕ) (queue : QueueFacts) (minimize : Bool) (last : Option ℤ) (crier : CrierFacts) (before after : A) (told : Told) : Type 0 where
+  pub crier_of : IsCrierOf queue crier
+  pub known : (k : ℕ) (x : CalledCost) → slice_get crier.taken k ≡ Some x → x.from < queue.senders
+  pub few : told.count ≤ 2 ^ 62
+  pub looked : IsTold minimize last (costs_cried crier.taken) (taken before) (taken after) (faults before) (faults after) told
 
 -- ---- how its calls end
 

@@ -19,7 +19,7 @@ ghost use Rattle.pass_ledger.specs.Passes.{Pass};
 ghost use Rattle.shard_mail.specs.Ends.{MailboxFacts};
 ghost use Rattle.shard_threads.specs.Players.{AreHeld, AllStay};
 ghost use Rattle.shard_turns.specs.Plays.{plays_by};
-ghost use Rattle.pass_run.specs.Announcements.{EndsAnnounced, HasAnnounced, HasLast, HasLooked, HasSettled, RanOut, WasHeard, cost_in, forgotten};
+ghost use Rattle.pass_run.specs.Announcements.{EndsAnnounced, HasAnnounced, HasHeard, HasLast, HasLooked, HasSettled, RanOut, WasHeard, cost_in, forgotten};
 ghost use Rattle.pass_run.specs.Callers.{AreLastCallers, CallTo};
 ghost use Rattle.pass_run.specs.Crews.{AllEnded, KeepAll};
 ghost use Rattle.pass_run.specs.Passes.{MayPass};
@@ -122,6 +122,46 @@ fn turn_and_hear<
     heard
 }
 
+/// Turns the shards until each has ended, and announces what they call between two rounds of the calling thread's turns.
+fn turn_and_announce<
+    'm,
+    L: CostLaw + Send,
+    K: Covers + Send,
+    R: Threads + Wait + Sync,
+    G: Gate,
+    S: Sink,
+>(
+    rt: &R,
+    alloc: Global,
+    floor: &Floor<Vec<Mailbox<Envelope>>, G>,
+    shards: &mut Vec<Seated<Turner<'m, L, K>>>,
+    queue: &AnnounceQueue,
+    crier: &mut Crier,
+    out: &mut S,
+    minimize: bool,
+    last: Option<i64>,
+) -> Told
+    requires players { AreHeld (plays_by L.minimize L.operator K.prune K.minimize K.operator) floor.now.board.now floor.now.boxes.now shards.old.items }
+    requires crier { crier.old ≡ new_crier queue.now }
+    ensures stay { AllStay (plays_by L.minimize L.operator K.prune K.minimize K.operator) floor.now.board.now floor.now.boxes.now shards.old.items shards.new.items }
+    ensures ended { AllEnded shards.new.items }
+    ensures heard { HasHeard S.taken S.faults queue.now minimize last crier.new out.old out.new result }
+{
+    let told = Told {
+        last,
+        count: 0,
+        failed: false,
+    };
+    let ear = Ear {
+        queue,
+        crier,
+        out,
+        told,
+        minimize,
+    };
+    turn_and_hear(rt, alloc, floor, shards, ear).told
+}
+
 /// Makes a pass whose shards call costs to a queue. The calling thread announces them between its turns. `Err` is the answer of a
 /// pass that could not begin.
 fn hear_pass<'m, L: CostLaw + Send, K: Covers + Send, R: Threads + Wait + Sync, G: Gate, S: Sink>(
@@ -165,18 +205,7 @@ fn hear_pass<'m, L: CostLaw + Send, K: Covers + Send, R: Threads + Wait + Sync, 
             } = begun;
             let mut shards = give_callers(queue, callers, shards);
             let mut crier = crier;
-            let ear = Ear {
-                queue,
-                crier: &mut crier,
-                out,
-                told: Told {
-                    last,
-                    count: 0,
-                    failed: false,
-                },
-                minimize: model.minimize(),
-            };
-            let heard = turn_and_hear(
+            let told = turn_and_announce(
                 rt,
                 alloc,
                 &Floor {
@@ -185,15 +214,12 @@ fn hear_pass<'m, L: CostLaw + Send, K: Covers + Send, R: Threads + Wait + Sync, 
                     gate,
                 },
                 &mut shards,
-                ear,
+                queue,
+                &mut crier,
+                out,
+                model.minimize(),
+                last,
             );
-            let Ear {
-                queue: _,
-                crier: _,
-                out: _,
-                told,
-                minimize: _,
-            } = heard;
             let ended = Begun {
                 before,
                 shards,

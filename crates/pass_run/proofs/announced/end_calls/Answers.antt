@@ -1,4 +1,4 @@
-use Rattle.std.proofs.Common.{List, ℤ, inr, sym, ap, subst, ◌∙◌}
+use Rattle.std.proofs.Common.{List, ℤ, inr, sym, subst}
 use Rattle.announcer.specs.Ends.{AreCallersOf, AreLeft, CallerFacts, IsBegunOf}
 use Rattle.announcing.specs.Hearing.{costs_cried}
 use Rattle.pass_run.proofs.Heard.{settled_by}

@@ -1,4 +1,4 @@
-use Rattle.std.proofs.Common.{◌≡◌, Bool, rules, refl, sym, ap, subst, ◌∙◌}
+use Rattle.std.proofs.Common.{◌≡◌, Bool, rules, refl, sym, ap, subst}
 use Rattle.board_words.specs.Seats.{SeatFacts}
 use Rattle.pass_ends.specs.Passes.{pass_of}
 use Rattle.announcing.specs.Hearing.{costs_cried}
