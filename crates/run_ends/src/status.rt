@@ -8,7 +8,7 @@ use dp_outside::Failed;
 /// How a run of the program ended.
 #[derive(Clone, Copy, Debug, PartialEq, Eq)]
 pub enum Status {
-    /// The best solution is proved optimal.
+    /// The best solution is proved optimal, a list of steps is legal, a certificate holds, or a model was shown.
     Success,
     /// The words have no meaning.
     Usage,
@@ -22,7 +22,7 @@ pub enum Status {
     Memory,
     /// A file has more bytes than are read.
     TooLong,
-    /// There is no solution, or a list of steps is not legal.
+    /// There is no solution, a list of steps is not legal, or a certificate is rejected.
     Negative,
     /// The budget of visits ended the search.
     Stopped,

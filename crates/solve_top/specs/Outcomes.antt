@@ -48,7 +48,7 @@ pub data Outcome : Type 0 where
   TooLong : (file : ℕ) → Outcome
   -- a text, or what the texts mean, is refused
   Refused : (refusal : Refusal) → Outcome
-  -- memory ran out before a model was loaded
+  -- memory ran out before a model was loaded, or while a list was replayed or a certificate was checked
   NoMemory : Outcome
   -- the model was searched layer by layer, with the gap and announced costs asked for or not, and this stands behind the verdict
   Solving : (model : Model) (options : Options) (gap announce : Bool) (run : Record) (behind : Behind) → Outcome
