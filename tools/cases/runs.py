@@ -4,7 +4,7 @@ repository. Those whose texts are made when they run are written by made_runs.py
 
 VECTORS is a folder with the files that TABLES names: lists of models, each with the words of a run and with the output
 and the status that a program which shares no code with the solver worked out. The other runs, with their answers, stand
-in small_runs.py, rule_runs.py, certificate_runs.py and check_runs.py, written by hand; in docs/GUIDE.md and docs/LANGUAGE.md, from where guide_runs.py
+in small_runs.py, rule_runs.py, certificate_runs.py, check_runs.py and proved_runs.py, written by hand; in docs/GUIDE.md and docs/LANGUAGE.md, from where guide_runs.py
 and language_runs.py take them; and models_check.py works out those of the models of models/. Texts and words that mean no good are in
 hostile_runs.py.
 
@@ -21,6 +21,7 @@ import guide_runs
 import hostile_runs
 import language_runs
 import models_check
+import proved_runs
 import stored
 from asked import asked
 from case_lines import block, entry
@@ -131,6 +132,7 @@ def main(folder):
     out.append(write("models", of_models()))
     out.append(write("guide", [*guide_runs.cases(), *language_runs.cases()]))
     out.append(write("certificates", certificate_runs.RUNS + check_runs.RUNS))
+    out.append(write("proved", proved_runs.RUNS))
     out.append(hostile_runs.write(f"{CRATE}/data/hostile.txt", hostile_runs.plain()))
     stored.write_front("".join(out))
 

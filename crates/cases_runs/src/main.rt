@@ -13,7 +13,7 @@ use std::thread::{Builder, Threads};
 use std::{fs, io, thread};
 
 /// The files of cases, in the order in which they are run.
-const FILES: [&str; 19] = [
+const FILES: [&str; 20] = [
     "one_variable.txt",
     "first_form.txt",
     "refusals.txt",
@@ -32,6 +32,7 @@ const FILES: [&str; 19] = [
     "models.txt",
     "guide.txt",
     "certificates.txt",
+    "proved.txt",
     "hostile.txt",
 ];
 

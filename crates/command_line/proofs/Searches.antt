@@ -4,12 +4,13 @@ use Rattle.std.proofs.Math.Path.{fun_ext}
 use Rattle.std.specs.Prelude.{codes, option_and_then, option_map}
 use Rattle.command_line.proofs.Faults.{free}
 use Rattle.command_line.specs.Commands.{faults_in, solve, value_in}
-use Rattle.command_line.specs.Jobs.{asked_of, beam_or_best, has_such, on_or_off, options_of, solve_job, solve_words}
+use Rattle.command_line.specs.Jobs.{beam_or_best, has_such, is_on, is_proved, on_or_off, options_of, pruning_of, search_of, solve_job, solve_words}
 use Rattle.command_line.specs.declared.jobs.Engine.{Engine}
 use Rattle.command_line.specs.declared.jobs.Job.{Job}
 use Rattle.command_line.specs.declared.jobs.WordsEnd.{WordsEnd}
 use Rattle.command_line.specs.declared.jobs.Job.TheVariants.{Solve}
-use Rattle.command_line.specs.declared.reading.Asked.{Asked}
+use Rattle.command_line.specs.declared.jobs.Search.{Search}
+use Rattle.command_line.specs.declared.reading.Pruning.{Pruning}
 use Rattle.dp_model.specs.declared.answers.Options.{Options}
 
 some_one : {A : Type 0} (a b : A) → Some a ≡ Some b → a ≡ b
@@ -27,50 +28,49 @@ chosen : {A : Type 0} (test : Bool) (v n : A) → cond test (Some v) None ≡ So
 chosen true v n e = some_one v n e
 chosen false v n e = absurd cc
 
-pub asked_options : (value : List ℕ → Option (List ℕ)) (asked : Asked) → asked_of value ≡ Some asked →
-    options_of (value (codes "workers")) (value (codes "budget")) (value (codes "prune")) (value (codes "keep")) ≡ Some asked.options
-asked_options value asked is =
+pub search_options : (value : List ℕ → Option (List ℕ)) (search : Search) → search_of value ≡ Some search →
+    (prune : Bool) × (options_of (value (codes "workers")) (value (codes "budget")) prune (value (codes "keep")) ≡ Some search.options)
+search_options value search is =
     let announces = on_or_off false (value (codes "announce")) in
     let engines = beam_or_best (value (codes "engine")) in
     let certificates = on_or_off false (value (codes "certificate")) in
     let gaps = on_or_off false (value (codes "gap")) in
-    let options = options_of (value (codes "workers")) (value (codes "budget")) (value (codes "prune")) (value (codes "keep")) in
-    let whole : Options → Bool → Bool → Engine → Bool → Asked = λ (o : Options) (g c : Bool) (e : Engine) (a : Bool). record { options = o; gap = g; certificate = c; engine = e; announce = a } in
-    let last : Options → Bool → Bool → Engine → Bool → Option Asked = λ (o : Options) (g c : Bool) (e : Engine) (a : Bool). cond (has_such e g a) (Some (whole o g c e a)) None in
-    let fourth : Options → Bool → Bool → Engine → Option Asked = λ (o : Options) (g c : Bool) (e : Engine). option_and_then (last o g c e) announces in
-    let third : Options → Bool → Bool → Option Asked = λ (o : Options) (g c : Bool). option_and_then (fourth o g c) engines in
-    let second : Options → Bool → Option Asked = λ (o : Options) (g : Bool). option_and_then (third o g) certificates in
-    let first : Options → Option Asked = λ (o : Options). option_and_then (second o) gaps in
-    let o = then_some first options asked is in
-    let g = then_some (second o.0) gaps asked o.2 in
-    let c = then_some (third o.0 g.0) certificates asked g.2 in
-    let e = then_some (fourth o.0 g.0 c.0) engines asked c.2 in
-    let a = then_some (last o.0 g.0 c.0 e.0) announces asked e.2 in
-    let same : whole o.0 g.0 c.0 e.0 a.0 ≡ asked = chosen (has_such e.0 g.0 a.0) (whole o.0 g.0 c.0 e.0 a.0) asked a.2 in
-    o.1 ∙ ap (λ (x : Asked). Some x.options) same
+    let options : Pruning → Option Options = λ (p : Pruning). options_of (value (codes "workers")) (value (codes "budget")) (is_on p) (value (codes "keep")) in
+    let prunings = pruning_of (value (codes "prune")) in
+    let whole : Pruning → Options → Bool → Bool → Engine → Bool → Search = λ (p : Pruning) (o : Options) (g c : Bool) (e : Engine) (a : Bool). record { options = o; proved = is_proved p; gap = g; certificate = c; engine = e; announce = a } in
+    let last : Pruning → Options → Bool → Bool → Engine → Bool → Option Search = λ (p : Pruning) (o : Options) (g c : Bool) (e : Engine) (a : Bool). cond (has_such e g a) (Some (whole p o g c e a)) None in
+    let fifth : Pruning → Options → Bool → Bool → Engine → Option Search = λ (p : Pruning) (o : Options) (g c : Bool) (e : Engine). option_and_then (last p o g c e) announces in
+    let fourth : Pruning → Options → Bool → Bool → Option Search = λ (p : Pruning) (o : Options) (g c : Bool). option_and_then (fifth p o g c) engines in
+    let third : Pruning → Options → Bool → Option Search = λ (p : Pruning) (o : Options) (g : Bool). option_and_then (fourth p o g) certificates in
+    let second : Pruning → Options → Option Search = λ (p : Pruning) (o : Options). option_and_then (third p o) gaps in
+    let first : Pruning → Option Search = λ (p : Pruning). option_and_then (second p) (options p) in
+    let p = then_some first prunings search is in
+    let o = then_some (second p.0) (options p.0) search p.2 in
+    let g = then_some (third p.0 o.0) gaps search o.2 in
+    let c = then_some (fourth p.0 o.0 g.0) certificates search g.2 in
+    let e = then_some (fifth p.0 o.0 g.0 c.0) engines search c.2 in
+    let a = then_some (last p.0 o.0 g.0 c.0 e.0) announces search e.2 in
+    let same : whole p.0 o.0 g.0 c.0 e.0 a.0 ≡ search = chosen (has_such e.0 g.0 a.0) (whole p.0 o.0 g.0 c.0 e.0 a.0) search a.2 in
+    (is_on p.0, o.1 ∙ ap (λ (x : Search). Some x.options) same)
 
 -- the job of a search
-pub record IsSearch (options : Option Options) (job : Job) : Type 0 where
+pub record IsSearch (value : List ℕ → Option (List ℕ)) (job : Job) : Type 0 where
   pub domain : List ℕ
   pub problem : List ℕ
-  pub given : Options
-  pub gap : Bool
-  pub certificate : Bool
-  pub engine : Engine
-  pub announce : Bool
-  pub is : job ≡ Solve domain problem given gap certificate engine announce
-  pub are : options ≡ Some given
+  pub search : Search
+  pub prune : Bool
+  pub is : job ≡ Solve domain problem search
+  pub are : options_of (value (codes "workers")) (value (codes "budget")) prune (value (codes "keep")) ≡ Some search.options
 
-pub is_search : (value : List ℕ → Option (List ℕ)) (job : Job) → solve_job value ≡ Some job →
-    IsSearch (options_of (value (codes "workers")) (value (codes "budget")) (value (codes "prune")) (value (codes "keep"))) job
+pub is_search : (value : List ℕ → Option (List ℕ)) (job : Job) → solve_job value ≡ Some job → IsSearch value job
 is_search value job e =
-    let whole : List ℕ → List ℕ → Asked → Job = λ (domain problem : List ℕ) (asked : Asked). Solve domain problem asked.options asked.gap asked.certificate asked.engine asked.announce in
-    let second : List ℕ → List ℕ → Option Job = λ (domain problem : List ℕ). option_map (whole domain problem) (asked_of value) in
+    let second : List ℕ → List ℕ → Option Job = λ (domain problem : List ℕ). option_map (λ (search : Search). Solve domain problem search) (search_of value) in
     let first : List ℕ → Option Job = λ (domain : List ℕ). option_and_then (second domain) (value (codes "problem")) in
     let d = then_some first (value (codes "domain")) job e in
     let p = then_some (second d.0) (value (codes "problem")) job d.2 in
-    let a = map_some (whole d.0 p.0) (asked_of value) job p.2 in
-    record { domain = d.0; problem = p.0; given = a.0.options; gap = a.0.gap; certificate = a.0.certificate; engine = a.0.engine; announce = a.0.announce; is = sym a.2; are = asked_options value a.0 a.1 }
+    let s = map_some (λ (search : Search). Solve d.0 p.0 search) (search_of value) job p.2 in
+    let options = search_options value s.0 s.1 in
+    record { domain = d.0; problem = p.0; search = s.0; prune = options.0; is = sym s.2; are = options.1 }
 
 -- words without a fault ask for the job that was found
 pub found_in_words : (ws : List (List ℕ)) (value : List ℕ → Option (List ℕ)) (job : Option Job) → ((id : List ℕ) → value id ≡ value_in solve ws id) → faults_in solve ws ≡ [] → solve_job value ≡ job → solve_words ws ≡ job

@@ -26,7 +26,9 @@ unfoldable pub replay : App
 replay = with_rule (with_rule (with_rule (plain (codes "replay")) (word (codes "domain"))) (word (codes "problem"))) (word (codes "list"))
 
 unfoldable pub check : App
-check = with_rule (with_rule (with_rule (plain (codes "check")) (word (codes "domain"))) (word (codes "problem"))) (word (codes "cert"))
+check =
+    with_rule (with_rule (with_rule (with_rule (plain (codes "check"))
+    (word (codes "domain"))) (word (codes "problem"))) (word (codes "cert"))) (option (codes "prune"))
 
 unfoldable pub show : App
 show = with_rule (with_rule (plain (codes "show")) (word (codes "domain"))) (word (codes "problem"))

@@ -12,7 +12,9 @@ use Rattle.command_line.specs.Commands.{value_in, faults_in, solve, replay, chec
 use Rattle.command_line.specs.declared.jobs.Engine.{Engine}
 use Rattle.command_line.specs.declared.jobs.Engine.TheVariants as engines
 use Rattle.command_line.specs.declared.jobs.Job.{Job}
-use Rattle.command_line.specs.declared.reading.Asked.{Asked}
+use Rattle.command_line.specs.declared.jobs.Search.{Search}
+use Rattle.command_line.specs.declared.reading.Pruning.{Pruning}
+use Rattle.command_line.specs.declared.reading.Pruning.TheVariants as prunings
 use Rattle.command_line.specs.declared.jobs.Job.TheVariants.{Solve, Replay, Check, Show, Gen}
 
 -- ---- numbers
@@ -38,15 +40,37 @@ abbrev pub on_or_off : (otherwise : Bool) → Option (List ℕ) → Option Bool
 on_or_off otherwise None = Some otherwise
 on_or_off otherwise (Some text) = if bytes_eq text (codes "on") then Some true else (if bytes_eq text (codes "off") then Some false else None)
 
+-- pruning by all dual bounds and preferences, which is so where nothing is given, by none of them, or by those that are proved
+abbrev pub pruning_of : Option (List ℕ) → Option Pruning
+pruning_of None = Some prunings.On
+pruning_of (Some text) =
+    if bytes_eq text (codes "on") then Some prunings.On
+    else (if bytes_eq text (codes "off") then Some prunings.Off else (if bytes_eq text (codes "proved") then Some prunings.Proved else None))
+
+abbrev pub is_on : Pruning → Bool
+is_on prunings.Off = false
+is_on prunings.On = true
+is_on prunings.Proved = true
+
+abbrev pub is_proved : Pruning → Bool
+is_proved prunings.Off = false
+is_proved prunings.On = false
+is_proved prunings.Proved = true
+
+-- of a certificate nothing else can be asked than that it is one of what is proved alone
+abbrev pub proved_alone : Option (List ℕ) → Option Bool
+proved_alone None = Some false
+proved_alone (Some text) = if bytes_eq text (codes "proved") then Some true else None
+
 abbrev pub layer_or_all : Option (List ℕ) → Option Keep
 layer_or_all None = Some keeps.Layer
 layer_or_all (Some text) = if bytes_eq text (codes "layer") then Some keeps.Layer else (if bytes_eq text (codes "all") then Some keeps.All else None)
 
--- one worker, 10,000,000 visits, pruning, and nodes that cover those of their layer alone, where nothing else is given
-abbrev pub options_of : (workers budget prune keep : Option (List ℕ)) → Option Options
+-- one worker, 10,000,000 visits, and nodes that cover those of their layer alone, where nothing else is given
+abbrev pub options_of : (workers budget : Option (List ℕ)) → (prune : Bool) → (keep : Option (List ℕ)) → Option Options
 options_of workers budget prune keep =
-    option_and_then (λ w. option_and_then (λ b. option_and_then (λ p. option_map (λ k. record { workers = w; budget = b; prune = p; keep = k })
-    (layer_or_all keep)) (on_or_off true prune)) (number_or 10000000 1 1099511627776 budget)) (number_or 1 1 64 workers)
+    option_and_then (λ w. option_and_then (λ b. option_map (λ k. record { workers = w; budget = b; prune = prune; keep = k })
+    (layer_or_all keep)) (number_or 10000000 1 1099511627776 budget)) (number_or 1 1 64 workers)
 
 abbrev pub beam_or_best : Option (List ℕ) → Option Engine
 beam_or_best None = Some engines.Beam
@@ -59,12 +83,15 @@ has_such engines.Best gap announce = not (gap || announce)
 
 -- what the options of a search ask for, by what is found in the words: a bound, a certificate and announced costs where `on` is
 -- given, and a search by layers where nothing else is
-abbrev pub asked_of : (value : List ℕ → Option (List ℕ)) → Option Asked
-asked_of value =
+abbrev pub search_by : (prune proved : Bool) → (value : List ℕ → Option (List ℕ)) → Option Search
+search_by prune proved value =
     option_and_then (λ o. option_and_then (λ g. option_and_then (λ c. option_and_then (λ e. option_and_then (λ a.
-    if has_such e g a then Some (record { options = o; gap = g; certificate = c; engine = e; announce = a }) else None)
+    if has_such e g a then Some (record { options = o; proved = proved; gap = g; certificate = c; engine = e; announce = a }) else None)
     (on_or_off false (value (codes "announce")))) (beam_or_best (value (codes "engine")))) (on_or_off false (value (codes "certificate"))))
-    (on_or_off false (value (codes "gap")))) (options_of (value (codes "workers")) (value (codes "budget")) (value (codes "prune")) (value (codes "keep")))
+    (on_or_off false (value (codes "gap")))) (options_of (value (codes "workers")) (value (codes "budget")) prune (value (codes "keep")))
+
+abbrev pub search_of : (value : List ℕ → Option (List ℕ)) → Option Search
+search_of value = option_and_then (λ p. search_by (is_on p) (is_proved p) value) (pruning_of (value (codes "prune")))
 
 -- ---- jobs
 
@@ -76,8 +103,8 @@ unless_fault (kind ∷ kinds) job = None
 -- the job of a search, by what is found in the words
 abbrev pub solve_job : (value : List ℕ → Option (List ℕ)) → Option Job
 solve_job value =
-    option_and_then (λ domain. option_and_then (λ problem. option_map (λ asked. Solve domain problem asked.options asked.gap asked.certificate asked.engine asked.announce)
-    (asked_of value)) (value (codes "problem"))) (value (codes "domain"))
+    option_and_then (λ domain. option_and_then (λ problem. option_map (λ search. Solve domain problem search)
+    (search_of value)) (value (codes "problem"))) (value (codes "domain"))
 
 abbrev pub replay_job : (domain problem list : Option (List ℕ)) → Option Job
 replay_job (Some domain) (Some problem) (Some list) = Some (Replay domain problem list)
@@ -85,11 +112,11 @@ replay_job (Some domain) (Some problem) None = None
 replay_job (Some domain) None list = None
 replay_job None problem list = None
 
-abbrev pub check_job : (domain problem cert : Option (List ℕ)) → Option Job
-check_job (Some domain) (Some problem) (Some cert) = Some (Check domain problem cert)
-check_job (Some domain) (Some problem) None = None
-check_job (Some domain) None cert = None
-check_job None problem cert = None
+abbrev pub check_job : (domain problem cert prune : Option (List ℕ)) → Option Job
+check_job (Some domain) (Some problem) (Some cert) prune = option_map (λ proved. Check domain problem cert proved) (proved_alone prune)
+check_job (Some domain) (Some problem) None prune = None
+check_job (Some domain) None cert prune = None
+check_job None problem cert prune = None
 
 abbrev pub show_job : (domain problem : Option (List ℕ)) → Option Job
 show_job (Some domain) (Some problem) = Some (Show domain problem)
@@ -119,7 +146,7 @@ replay_words ws =
 unfoldable pub check_words : List (List ℕ) → Option Job
 check_words ws =
     unless_fault (faults_in check ws)
-    (check_job (value_in check ws (codes "domain")) (value_in check ws (codes "problem")) (value_in check ws (codes "cert")))
+    (check_job (value_in check ws (codes "domain")) (value_in check ws (codes "problem")) (value_in check ws (codes "cert")) (value_in check ws (codes "prune")))
 
 unfoldable pub show_words : List (List ℕ) → Option Job
 show_words ws = unless_fault (faults_in show ws) (show_job (value_in show ws (codes "domain")) (value_in show ws (codes "problem")))

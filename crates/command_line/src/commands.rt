@@ -73,7 +73,8 @@ pub(crate) fn check<'a>(alloc: Global) -> Result<Command<'a>, AllocError>
         plain(alloc, "check")
             .arg(word(alloc, "domain"))?
             .arg(word(alloc, "problem"))?
-            .arg(word(alloc, "cert"))?,
+            .arg(word(alloc, "cert"))?
+            .arg(option(alloc, "prune"))?,
     )
 }
 

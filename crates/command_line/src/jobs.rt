@@ -17,6 +17,22 @@ pub enum Engine {
     Best,
 }
 
+/// How a model is to be searched, and what is asked for beside its verdict.
+#[derive(Clone, Copy, Debug)]
+pub struct Search {
+    pub options: Options,
+    /// Whether pruning is by what is proved of the model's dual bounds and preferences alone. Then `options.prune` is on.
+    pub proved: bool,
+    /// Whether a bound of the best cost is asked for.
+    pub gap: bool,
+    /// Whether a certificate is to be written.
+    pub certificate: bool,
+    /// With `Best`, neither a bound nor announced costs are asked for.
+    pub engine: Engine,
+    /// Whether the costs of solutions are announced while a pass runs.
+    pub announce: bool,
+}
+
 /// What the words ask for. The texts are names of files.
 #[derive(Debug, Drop)]
 pub enum Job {
@@ -24,15 +40,7 @@ pub enum Job {
     Solve {
         domain: Text,
         problem: Text,
-        options: Options,
-        /// Whether a bound of the best cost is asked for.
-        gap: bool,
-        /// Whether a certificate is to be written.
-        certificate: bool,
-        /// With `Best`, neither a bound nor announced costs are asked for.
-        engine: Engine,
-        /// Whether the costs of solutions are announced while a pass runs.
-        announce: bool,
+        search: Search,
     },
     /// Say whether a list of steps is a legal one of a model, and what it costs.
     Replay {
@@ -45,6 +53,8 @@ pub enum Job {
         domain: Text,
         problem: Text,
         cert: Text,
+        /// Whether it is one of what is proved of the model's dual bounds and preferences alone.
+        proved: bool,
     },
     /// Say what was understood of a model.
     Show {

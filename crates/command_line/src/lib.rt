@@ -6,6 +6,6 @@ mod jobs;
 mod numbers;
 mod reading;
 
-pub use jobs::{Engine, Job, WordsEnd};
+pub use jobs::{Engine, Job, Search, WordsEnd};
 pub use model_gen::GenKind;
 pub use reading::read_words;

@@ -2,10 +2,10 @@
 
 ghost use Rattle.std.specs.Prelude.{◌≡◌, None, Some, codes, map, option_map, string_bytes, IfOk, IsErrOf};
 ghost use Rattle.clap.specs.Words.{first_value, found_of};
-ghost use Rattle.command_line.specs.Jobs.{asked_of, beam_or_best, has_such, on_or_off, layer_or_all, options_of, solve_job, solve_words, replay_words, check_words, show_words, gen_words, gen_job, by_command, job_of};
+ghost use Rattle.command_line.specs.Jobs.{beam_or_best, check_job, has_such, is_on, is_proved, on_or_off, layer_or_all, options_of, proved_alone, pruning_of, search_by, search_of, solve_job, solve_words, replay_words, check_words, show_words, gen_words, gen_job, by_command, job_of};
 
 use crate::commands::{check, found, generate, replay, show, solve};
-use crate::jobs::{Engine, Job, WordsEnd};
+use crate::jobs::{Engine, Job, Search, WordsEnd};
 use crate::numbers::{number_in, number_or};
 use clap::ArgMatches;
 use dp_base::Text;
@@ -21,14 +21,35 @@ const MOST_VISITS: u64 = 1_099_511_627_776;
 /// How many visits are made where the words say nothing of them.
 const VISITS: u64 = 10_000_000;
 
-/// What the options of a search ask for.
+/// By which of a model's dual bounds and preferences a search prunes.
 #[derive(Clone, Copy)]
-struct Asked {
-    options: Options,
-    gap: bool,
-    certificate: bool,
-    engine: Engine,
-    announce: bool,
+enum Pruning {
+    /// By none.
+    Off,
+    /// By all of them: they are believed.
+    On,
+    /// By those that are proved.
+    Proved,
+}
+
+impl Pruning {
+    fn is_on(self) -> bool
+        ensures { result ≡ is_on self }
+    {
+        match self {
+            Pruning::Off => false,
+            Pruning::On | Pruning::Proved => true,
+        }
+    }
+
+    fn is_proved(self) -> bool
+        ensures { result ≡ is_proved self }
+    {
+        match self {
+            Pruning::Off | Pruning::On => false,
+            Pruning::Proved => true,
+        }
+    }
 }
 
 fn owned(alloc: Global, text: &str) -> Result<Text, AllocError>
@@ -45,6 +66,29 @@ fn on_or_off(otherwise: bool, word: Option<&str>) -> Option<bool>
         None => Some(otherwise),
         Some("on") => Some(true),
         Some("off") => Some(false),
+        Some(_) => None,
+    }
+}
+
+/// By what a search prunes: by all dual bounds and preferences, where the words say nothing of it.
+fn pruning_of(word: Option<&str>) -> Option<Pruning>
+    ensures { result ≡ pruning_of (option_map (λ t. t.now) word.entry) }
+{
+    match word {
+        None | Some("on") => Some(Pruning::On),
+        Some("off") => Some(Pruning::Off),
+        Some("proved") => Some(Pruning::Proved),
+        Some(_) => None,
+    }
+}
+
+/// Whether a certificate is checked as one of what is proved alone, which is the one thing that can be said of its pruning.
+fn proved_alone(word: Option<&str>) -> Option<bool>
+    ensures { result ≡ proved_alone (option_map (λ t. t.now) word.entry) }
+{
+    match word {
+        None => Some(false),
+        Some("proved") => Some(true),
         Some(_) => None,
     }
 }
@@ -84,14 +128,13 @@ fn has_such(engine: Engine, gap: bool, announce: bool) -> bool
 fn options_of(
     workers: Option<&str>,
     budget: Option<&str>,
-    prune: Option<&str>,
+    prune: bool,
     keep: Option<&str>,
 ) -> Option<Options>
-    ensures { result ≡ options_of (option_map (λ t. t.now) workers.entry) (option_map (λ t. t.now) budget.entry) (option_map (λ t. t.now) prune.entry) (option_map (λ t. t.now) keep.entry) }
+    ensures { result ≡ options_of (option_map (λ t. t.now) workers.entry) (option_map (λ t. t.now) budget.entry) prune (option_map (λ t. t.now) keep.entry) }
 {
     let workers = number_or(1, 1, MOST_WORKERS, workers)?;
     let budget = number_or(VISITS, 1, MOST_VISITS, budget)?;
-    let prune = on_or_off(true, prune)?;
     let keep = layer_or_all(keep)?;
     Some(Options {
         workers: workers as u32,
@@ -101,32 +144,40 @@ fn options_of(
     })
 }
 
-/// The options that were found in the words of a search.
-fn found_options(matches: &ArgMatches<'_>) -> Option<Options>
-    ensures { result ≡ options_of (first_value (found_of matches.now) (codes "workers")) (first_value (found_of matches.now) (codes "budget")) (first_value (found_of matches.now) (codes "prune")) (first_value (found_of matches.now) (codes "keep")) }
+/// The options that were found in the words of a search, with pruning or without.
+fn found_options(matches: &ArgMatches<'_>, prune: bool) -> Option<Options>
+    ensures { result ≡ options_of (first_value (found_of matches.now) (codes "workers")) (first_value (found_of matches.now) (codes "budget")) prune (first_value (found_of matches.now) (codes "keep")) }
 {
     let workers = matches.get_str("workers");
     let budget = matches.get_str("budget");
-    let prune = matches.get_str("prune");
     options_of(workers, budget, prune, matches.get_str("keep"))
 }
 
-/// What was found in the words of a search.
-fn found_asked(matches: &ArgMatches<'_>) -> Option<Asked>
-    ensures { result ≡ asked_of (first_value (found_of matches.now)) }
+/// What was found in the words of a search, with pruning or without, and by what is proved alone or not.
+fn search_by(matches: &ArgMatches<'_>, prune: bool, proved: bool) -> Option<Search>
+    ensures { result ≡ search_by prune proved (first_value (found_of matches.now)) }
 {
-    let options = found_options(matches)?;
+    let options = found_options(matches, prune)?;
     let gap = on_or_off(false, matches.get_str("gap"))?;
     let certificate = on_or_off(false, matches.get_str("certificate"))?;
     let engine = beam_or_best(matches.get_str("engine"))?;
     let announce = on_or_off(false, matches.get_str("announce"))?;
-    has_such(engine, gap, announce).then_some(Asked {
+    has_such(engine, gap, announce).then_some(Search {
         options,
+        proved,
         gap,
         certificate,
         engine,
         announce,
     })
+}
+
+/// What was found in the words of a search.
+fn found_search(matches: &ArgMatches<'_>) -> Option<Search>
+    ensures { result ≡ search_of (first_value (found_of matches.now)) }
+{
+    let pruning = pruning_of(matches.get_str("prune"))?;
+    search_by(matches, pruning.is_on(), pruning.is_proved())
 }
 
 #[tactic(auto, using(crate::proofs::Faults::faulty, crate::proofs::Faults::free), unfolding(crate::specs::Jobs::solve_words))]
@@ -135,11 +186,11 @@ fn solve_words(alloc: Global, words: &Vec<String>) -> Result<Job, WordsEnd>
     ensures usage { IsErrOf result WordsEnd.Usage → solve_words (map string_bytes words.now.items) ≡ None }
 {
     let matches = found(solve(alloc)?, words)?;
-    found_search(alloc, &matches)
+    found_job(alloc, &matches)
 }
 
 /// The job of a search with what was found in its words.
-fn found_search(alloc: Global, matches: &ArgMatches<'_>) -> Result<Job, WordsEnd>
+fn found_job(alloc: Global, matches: &ArgMatches<'_>) -> Result<Job, WordsEnd>
     ensures job { IfOk result (λ job. solve_job (first_value (found_of matches.now)) ≡ Some job) }
     ensures usage { IsErrOf result WordsEnd.Usage → solve_job (first_value (found_of matches.now)) ≡ None }
 {
@@ -147,17 +198,13 @@ fn found_search(alloc: Global, matches: &ArgMatches<'_>) -> Result<Job, WordsEnd
     else {
         return Err(WordsEnd::Usage);
     };
-    let Some(asked) = found_asked(matches) else {
+    let Some(search) = found_search(matches) else {
         return Err(WordsEnd::Usage);
     };
     Ok(Job::Solve {
         domain: owned(alloc, domain)?,
         problem: owned(alloc, problem)?,
-        options: asked.options,
-        gap: asked.gap,
-        certificate: asked.certificate,
-        engine: asked.engine,
-        announce: asked.announce,
+        search,
     })
 }
 
@@ -194,10 +241,14 @@ fn check_words(alloc: Global, words: &Vec<String>) -> Result<Job, WordsEnd>
     ) else {
         return Err(WordsEnd::Usage);
     };
+    let Some(proved) = proved_alone(matches.get_str("prune")) else {
+        return Err(WordsEnd::Usage);
+    };
     Ok(Job::Check {
         domain: owned(alloc, domain)?,
         problem: owned(alloc, problem)?,
         cert: owned(alloc, cert)?,
+        proved,
     })
 }
 

@@ -40,19 +40,19 @@ use Rattle.solve_top.specs.Jobs.{keeping_all}
 -- ---- a text behind another
 
 -- a text whole, with this status, or a front of it where a write failed
-abbrev Writes : Option (List ℕ) → Option (List ℕ) → (text : List ℕ) → (wanted status : Status) → Type 0
+abbrev pub Writes : Option (List ℕ) → Option (List ℕ) → (text : List ℕ) → (wanted status : Status) → Type 0
 Writes before after text wanted status = ((status ≡ wanted) × Takes before after text) ⊎ ((status ≡ statuses.WriteFault) × TakesFront before after text)
 
-then_writes : (first second third : Option (List ℕ)) (front back : List ℕ) (wanted status : Status) → Takes first second front → Writes second third back wanted status → Writes first third (front ++ back) wanted status
+pub then_writes : (first second third : Option (List ℕ)) (front back : List ℕ) (wanted status : Status) → Takes first second front → Writes second third back wanted status → Writes first third (front ++ back) wanted status
 then_writes first second third front back wanted status took (inl h) = inl (h.0, Takes-more first second third front back took h.1)
 then_writes first second third front back wanted status took (inr h) = inr (h.0, TakesFront-append first second third front back took h.1)
 
 -- what was put with its status
-put_writes : (before after : Option (List ℕ)) (f g : ℕ) (text : List ℕ) (result : Result (Unit {0}) Failed) (wanted status : Status) → Puts before after f g text result → OnOk result (status ≡ wanted) → OnErr result (status ≡ statuses.WriteFault) → Writes before after text wanted status
+pub put_writes : (before after : Option (List ℕ)) (f g : ℕ) (text : List ℕ) (result : Result (Unit {0}) Failed) (wanted status : Status) → Puts before after f g text result → OnOk result (status ≡ wanted) → OnErr result (status ≡ statuses.WriteFault) → Writes before after text wanted status
 put_writes before after f g text (Ok done) wanted status puts ok err = inl (ok, puts.ok)
 put_writes before after f g text (Err failed) wanted status puts ok err = inr (err, puts.err)
 
-as_text : (before after : Option (List ℕ)) (text other : List ℕ) (wanted status : Status) → text ≡ other → Writes before after text wanted status → Writes before after other wanted status
+pub as_text : (before after : Option (List ℕ)) (text other : List ℕ) (wanted status : Status) → text ≡ other → Writes before after text wanted status → Writes before after other wanted status
 as_text before after text other wanted status e writes = subst (λ (t : List ℕ). Writes before after t wanted status) e writes
 
 -- what stands behind a text, and that text
@@ -109,7 +109,7 @@ any_may m options false claimed = (Nothing, refl)
 any_may m options true None = (Nothing, refl)
 any_may m options true (Some claim) = (NoRoom, tt)
 
-none_may : (m : Model) (options : Options) (certificate : Bool) (claimed : Option Claim) → claimed ≡ None → IsBehind certificate m options claimed Nothing
+pub none_may : (m : Model) (options : Options) (certificate : Bool) (claimed : Option Claim) → claimed ≡ None → IsBehind certificate m options claimed Nothing
 none_may m options false claimed e = refl
 none_may m options true None e = refl
 none_may m options true (Some claim) e = absurd cc

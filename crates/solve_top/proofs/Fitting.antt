@@ -7,7 +7,7 @@ use Rattle.std.proofs.lemmas.Bool.Decides.{nat_tests}
 use Rattle.clap.specs.Words.{Kinds}
 use Rattle.command_line.specs.Commands.{value_in, faults_in, solve, replay, check, show, generate}
 use Rattle.command_line.proofs.Searches.{is_search}
-use Rattle.command_line.specs.Jobs.{is_number, number_in, number_or, on_or_off, layer_or_all, options_of, unless_fault, solve_job, replay_job, check_job, show_job, sized_job, gen_job, solve_words, replay_words, check_words, show_words, gen_words, by_command, job_of}
+use Rattle.command_line.specs.Jobs.{is_number, number_in, number_or, layer_or_all, options_of, proved_alone, unless_fault, solve_job, replay_job, check_job, show_job, sized_job, gen_job, solve_words, replay_words, check_words, show_words, gen_words, by_command, job_of}
 use Rattle.command_line.specs.declared.jobs.Job.{Job}
 use Rattle.command_line.specs.declared.jobs.Job.TheVariants as jobs
 use Rattle.dp_model.specs.declared.answers.Options.{Options}
@@ -71,17 +71,15 @@ budget_bounds text n e = or_bounds 10000000 1 1099511627776 text n (record { low
 are_options : (w b : ℕ) (p : Bool) (keep : Keep) → Within 1 64 w → Within 1 1099511627776 b → AreOptions (record { workers = w; budget = b; prune = p; keep = keep })
 are_options w b p keep h k = record { some_workers = h.low; few_workers = h.high; some_budget = k.low; small_budget = k.high }
 
-options_fit : (workers budget prune keep : Option (List ℕ)) (options : Options) → options_of workers budget prune keep ≡ Some options → AreOptions options
+options_fit : (workers budget : Option (List ℕ)) (prune : Bool) (keep : Option (List ℕ)) (options : Options) → options_of workers budget prune keep ≡ Some options → AreOptions options
 options_fit workers budget prune keep options e =
-    let with_workers = λ (w : ℕ). option_and_then (λ (b : ℕ). option_and_then (λ (p : Bool). option_map (λ (k : Keep). record { workers = w; budget = b; prune = p; keep = k }) (layer_or_all keep)) (on_or_off true prune)) (number_or 10000000 1 1099511627776 budget) in
+    let with_workers = λ (w : ℕ). option_and_then (λ (b : ℕ). option_map (λ (k : Keep). record { workers = w; budget = b; prune = prune; keep = k }) (layer_or_all keep)) (number_or 10000000 1 1099511627776 budget) in
     let w = then_some with_workers (number_or 1 1 64 workers) options e in
-    let with_budget = λ (b : ℕ). option_and_then (λ (p : Bool). option_map (λ (k : Keep). record { workers = w.0; budget = b; prune = p; keep = k }) (layer_or_all keep)) (on_or_off true prune) in
+    let with_budget = λ (b : ℕ). option_map (λ (k : Keep). record { workers = w.0; budget = b; prune = prune; keep = k }) (layer_or_all keep) in
     let b = then_some with_budget (number_or 10000000 1 1099511627776 budget) options w.2 in
-    let with_prune = λ (p : Bool). option_map (λ (k : Keep). record { workers = w.0; budget = b.0; prune = p; keep = k }) (layer_or_all keep) in
-    let p = then_some with_prune (on_or_off true prune) options b.2 in
-    let whole : Keep → Options = λ (k : Keep). record { workers = w.0; budget = b.0; prune = p.0; keep = k } in
-    let k = map_some whole (layer_or_all keep) options p.2 in
-    subst AreOptions k.2 (are_options w.0 b.0 p.0 k.0 (workers_bounds workers w.0 w.1) (budget_bounds budget b.0 b.1))
+    let whole : Keep → Options = λ (k : Keep). record { workers = w.0; budget = b.0; prune = prune; keep = k } in
+    let k = map_some whole (layer_or_all keep) options b.2 in
+    subst AreOptions k.2 (are_options w.0 b.0 prune k.0 (workers_bounds workers w.0 w.1) (budget_bounds budget b.0 b.1))
 
 gen_options_fit : (workers : ℕ) → Within 1 64 workers → AreOptions (gen_options workers)
 gen_options_fit workers h = are_options workers 10000000 true keeps.Layer h (record { low = omega arith; high = omega arith })
@@ -95,7 +93,7 @@ free_job (kind ∷ kinds) told job e = absurd cc
 solve_fits : (value : List ℕ → Option (List ℕ)) (job : Job) → solve_job value ≡ Some job → JobFits job
 solve_fits value job e =
     let s = is_search value job e in
-    subst JobFits (sym s.is) (options_fit (value (codes "workers")) (value (codes "budget")) (value (codes "prune")) (value (codes "keep")) s.given s.are)
+    subst JobFits (sym s.is) (options_fit (value (codes "workers")) (value (codes "budget")) s.prune (value (codes "keep")) s.search.options s.are)
 
 replay_fits : (domain problem list : Option (List ℕ)) (job : Job) → replay_job domain problem list ≡ Some job → JobFits job
 replay_fits (Some domain) (Some problem) (Some list) job e = subst JobFits (some_one (jobs.Replay domain problem list) job e) tt
@@ -103,11 +101,11 @@ replay_fits (Some domain) (Some problem) None job e = absurd cc
 replay_fits (Some domain) None list job e = absurd cc
 replay_fits None problem list job e = absurd cc
 
-check_fits : (domain problem cert : Option (List ℕ)) (job : Job) → check_job domain problem cert ≡ Some job → JobFits job
-check_fits (Some domain) (Some problem) (Some cert) job e = subst JobFits (some_one (jobs.Check domain problem cert) job e) tt
-check_fits (Some domain) (Some problem) None job e = absurd cc
-check_fits (Some domain) None cert job e = absurd cc
-check_fits None problem cert job e = absurd cc
+check_fits : (domain problem cert prune : Option (List ℕ)) (job : Job) → check_job domain problem cert prune ≡ Some job → JobFits job
+check_fits (Some domain) (Some problem) (Some cert) prune job e = let proved = map_some (λ (p : Bool). jobs.Check domain problem cert p) (proved_alone prune) job e in subst JobFits proved.2 tt
+check_fits (Some domain) (Some problem) None prune job e = absurd cc
+check_fits (Some domain) None cert prune job e = absurd cc
+check_fits None problem cert prune job e = absurd cc
 
 show_fits : (domain problem : Option (List ℕ)) (job : Job) → show_job domain problem ≡ Some job → JobFits job
 show_fits (Some domain) (Some problem) job e = subst JobFits (some_one (jobs.Show domain problem) job e) tt
@@ -143,7 +141,10 @@ replay_words_fit ws job e = replay_fits (value_in replay ws (codes "domain")) (v
 
 check_words_fit : (ws : List (List ℕ)) (job : Job) → check_words ws ≡ Some job → JobFits job
 unfolding check_words
-check_words_fit ws job e = check_fits (value_in check ws (codes "domain")) (value_in check ws (codes "problem")) (value_in check ws (codes "cert")) job (free_job (faults_in check ws) (check_job (value_in check ws (codes "domain")) (value_in check ws (codes "problem")) (value_in check ws (codes "cert"))) job e)
+check_words_fit ws job e =
+    let value : List ℕ → Option (List ℕ) = λ (id : List ℕ). value_in check ws id in
+    check_fits (value (codes "domain")) (value (codes "problem")) (value (codes "cert")) (value (codes "prune")) job
+    (free_job (faults_in check ws) (check_job (value (codes "domain")) (value (codes "problem")) (value (codes "cert")) (value (codes "prune"))) job e)
 
 show_words_fit : (ws : List (List ℕ)) (job : Job) → show_words ws ≡ Some job → JobFits job
 unfolding show_words

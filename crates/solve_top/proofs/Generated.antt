@@ -1,14 +1,14 @@
 -- What comes of a generated model.
-use Rattle.std.proofs.Common.{◌≡◌, ◌≤◌, ℕ, List, [], ◌++◌, Option, Some, None, false, ◌⊎◌, inl, inr, refl, sym, subst, append_assoc, arith}
+use Rattle.std.proofs.Common.{◌≤◌, ℕ, Bool, List, [], ◌++◌, Option, Some, None, false, inr, refl, sym, subst, append_assoc, arith}
 use Rattle.dp_outside.specs.Outside.{Takes, TakesFront}
-use Rattle.dp_outside.proofs.Steps.{Takes-more}
-use Rattle.solve_report.proofs.Written.{TakesFront-append, TakesFront-longer}
+use Rattle.solve_report.proofs.Written.{TakesFront-longer}
 use Rattle.dp_model.specs.declared.answers.Options.{Options}
 use Rattle.dp_model.specs.declared.whole.Model.{Model}
 use Rattle.command_line.specs.declared.jobs.Job.TheVariants as jobs
 use Rattle.model_gen.specs.Texts.{domain_text, problem_text}
 use Rattle.model_gen.specs.declared.kinds.GenKind.{GenKind}
 use Rattle.run_ends.specs.declared.solved.Solved.{Solved}
+use Rattle.solve_top.proofs.Behinds.{Writes, then_writes}
 use Rattle.solve_top.proofs.Programs.{as_printed}
 use Rattle.solve_passes.specs.Ongoing.{Concluded}
 use Rattle.solve_passes.specs.Records.{Record, OutOfMemory, Right, ending_status, record_text}
@@ -23,31 +23,22 @@ use Rattle.solve_top.specs.Texts.{IsRefused, Means}
 use Rattle.solve_top.specs.declared.causes.NoModel.{NoModel}
 use Rattle.solve_top.specs.declared.causes.NoModel.TheVariants as causes
 
--- a text whole, with this status, or a front of it where a write failed
-abbrev Writes : Option (List ℕ) → Option (List ℕ) → (text : List ℕ) → (wanted status : Status) → Type 0
-Writes before after text wanted status = ((status ≡ wanted) × Takes before after text) ⊎ ((status ≡ statuses.WriteFault) × TakesFront before after text)
-
--- behind a text that was written whole
-behind : (first second third : Option (List ℕ)) (front back : List ℕ) (wanted status : Status) → Takes first second front → Writes second third back wanted status → Writes first third (front ++ back) wanted status
-behind first second third front back wanted status took (inl h) = inl (h.0, Takes-more first second third front back took h.1)
-behind first second third front back wanted status took (inr h) = inr (h.0, TakesFront-append first second third front back took h.1)
-
 -- ---- the model was loaded
 
 -- its ground transitions, and then a run
 pub ground_then : (m : Model) (workers : ℕ) (first second third : Option (List ℕ)) (solved : Solved) → Takes first second (ground_line m) → Concluded m (gen_options workers) false VerdictAlone second third solved → SolvesGenerated m workers first third solved.status
 ground_then m workers first second third solved took c =
-    (c.run, c.right, c.word, behind first second third (ground_line m) (record_text VerdictAlone m c.run) (ending_status c.run.ending) solved.status took (as_printed c))
+    (c.run, c.right, c.word, then_writes first second third (ground_line m) (record_text VerdictAlone m c.run) (ending_status c.run.ending) solved.status took (as_printed c))
 
 -- a run that ended at once for want of memory
-abbrev no_run : Record
+abbrev pub no_run : Record
 no_run = record { at_target = None; passes = []; bound = None; ending = OutOfMemory }
 
 none_within : (n : ℕ) → 0 ≤ n
 none_within n = omega arith
 
-right_no_run : (m : Model) (options : Options) → Right m options false no_run
-right_no_run m options = record {
+pub right_no_run : (m : Model) (options : Options) (gap : Bool) → Right m options gap no_run
+right_no_run m options gap = record {
   numbered = tt;
   dropping = tt;
   within_budget = none_within options.budget;
@@ -56,13 +47,13 @@ right_no_run m options = record {
   improving = tt;
   announced = nothing_announced m OutOfMemory;
   base_target = tt;
-  bound = λ needs. omega (arith, needs.2);
+  bound = λ needs. absurd (omega (arith, needs.2));
   ending = tt;
 }
 
 -- the line of its ground transitions could not be written
 pub ground_failed : (m : Model) (workers : ℕ) (before after : Option (List ℕ)) → TakesFront before after (ground_line m) → SolvesGenerated m workers before after statuses.WriteFault
-ground_failed m workers before after front = (no_run, right_no_run m (gen_options workers), tt, inr (refl, TakesFront-longer before after (ground_line m) (record_text VerdictAlone m no_run) front))
+ground_failed m workers before after front = (no_run, right_no_run m (gen_options workers) false, tt, inr (refl, TakesFront-longer before after (ground_line m) (record_text VerdictAlone m no_run) front))
 
 -- ---- the whole
 
@@ -73,7 +64,7 @@ module _ (kind : GenKind) (size seed workers : ℕ) (files : List ℕ → Option
     Generated kind size seed m (gen_options workers) s.0,
     (workers, asks, refl, means, s.1, s.2),
     subst (λ (text : List ℕ). Writes first third text (ending_status s.0.ending) status) (sym (append_assoc (gen_line kind size seed) (ground_line m) (record_text VerdictAlone m s.0)))
-        (behind first second third (gen_line kind size seed) (ground_line m ++ record_text VerdictAlone m s.0) (ending_status s.0.ending) status took s.3),
+        (then_writes first second third (gen_line kind size seed) (ground_line m ++ record_text VerdictAlone m s.0) (ending_status s.0.ending) status took s.3),
   )
 
   -- the first line, and then why there is no model
@@ -81,12 +72,12 @@ module _ (kind : GenKind) (size seed workers : ℕ) (files : List ℕ → Option
   line_then_none (causes.Refused number place offset) status took h printed = λ words asks. (
     NoGenerated kind size seed (Some (record { number = number; place = place; offset = offset })),
     (workers, asks, h),
-    behind first second third (gen_line kind size seed) (no_model_text (Some (record { number = number; place = place; offset = offset }))) statuses.Refused status took printed,
+    then_writes first second third (gen_line kind size seed) (no_model_text (Some (record { number = number; place = place; offset = offset }))) statuses.Refused status took printed,
   )
   line_then_none causes.Memory status took h printed = λ words asks. (
     NoGenerated kind size seed None,
     (workers, asks, tt),
-    behind first second third (gen_line kind size seed) (no_model_text None) statuses.Memory status took printed,
+    then_writes first second third (gen_line kind size seed) (no_model_text None) statuses.Memory status took printed,
   )
   line_then_none (causes.ReadFault file) status took h printed = absurd h
   line_then_none (causes.TooLong file) status took h printed = absurd h

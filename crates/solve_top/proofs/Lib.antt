@@ -7,3 +7,4 @@ pub mod Fitting
 pub mod Settling
 pub mod Certifying
 pub mod Behinds
+pub mod Searching

@@ -2,10 +2,9 @@
 use Rattle.std.proofs.Common.{◌≡◌, ℕ, ◌≤◌, Bool, List, [], ◌∷◌, length, Option, Some, None, ◌⊎◌, inl, inr, refl, sym, ◌∙◌, subst, arith}
 use Rattle.std.specs.Prelude.{IfSome, IfOk, IfErr, OnOk, OnErr, Result, Ok, Err}
 use Rattle.std.specs.Result.{IsErrAnd}
-use Rattle.command_line.specs.declared.jobs.Engine.{Engine}
-use Rattle.command_line.specs.declared.jobs.Engine.TheVariants as engines
 use Rattle.command_line.specs.declared.jobs.Job.{Job}
 use Rattle.command_line.specs.declared.jobs.Job.TheVariants as jobs
+use Rattle.command_line.specs.declared.jobs.Search.{Search}
 use Rattle.dp_model.specs.declared.answers.Options.{Options}
 use Rattle.dp_model.specs.declared.answers.Verdict.TheVariants as verdicts
 use Rattle.dp_model.specs.declared.whole.Model.{Model}
@@ -25,9 +24,8 @@ use Rattle.run_ends.specs.declared.status.Status.{Status}
 use Rattle.run_ends.specs.declared.status.Status.TheVariants as statuses
 use Rattle.cert_types.specs.declared.cert.Cert.{Cert}
 use Rattle.cert_laws.specs.Checks.{checked}
-use Rattle.solve_top.specs.Behind.{SolvesBy}
 use Rattle.solve_top.specs.Jobs.{Asks, names_of, third_of}
-use Rattle.solve_top.specs.Outcomes.{NoMemory, Solving, SolvingBest, Replayed, Checked, Shown, ComesOf, Does, Printed}
+use Rattle.solve_top.specs.Outcomes.{NoMemory, Solving, SolvingBest, Replayed, Checked, Shown, Checks, ComesOf, Does, Printed, SearchesFor}
 use Rattle.solve_top.specs.Runs.{outcome_of, RefusedBy, IsUnread, GiveNothing}
 use Rattle.solve_top.specs.Texts.{Means, IsRefused, MeanCert, MeanModel, MeanSteps, AreRefused, Third}
 use Rattle.solve_top.specs.declared.causes.NoModel.{NoModel}
@@ -39,12 +37,11 @@ pub as_printed : {m : Model} {options : Options} {gap : Bool} {printing : Printi
 as_printed c = elim c.printed [ inl h ↦ inl (h.0, h.1) | inr h ↦ inr (h.0, h.1) ]
 
 -- a model that was loaded was searched
-pub searched : (files : List ℕ → Option (List ℕ)) (domain problem : List ℕ) (options : Options) (gap certificate : Bool) (engine : Engine) (announce : Bool) (m : Model) (before after : Option (List ℕ)) (status : Status) →
-    OfTexts files (domain ∷ problem ∷ []) (λ texts. MeanModel texts m) → SolvesBy engine m options gap announce certificate before after status → Does (jobs.Solve domain problem options gap certificate engine announce) files before after status
-searched files domain problem options gap certificate engines.Beam announce m before after status texts s =
-    λ words asks. (Solving m options gap announce s.run s.follows.0, (domain, problem, certificate, asks, texts, s.right, s.announcing, s.word, s.follows.1), s.follows.2)
-searched files domain problem options gap certificate engines.Best announce m before after status texts s =
-    λ words asks. (SolvingBest m options s.run s.follows.0, (domain, problem, gap, certificate, announce, asks, texts, s.right, s.word, s.follows.1), s.follows.2)
+pub searched : (files : List ℕ → Option (List ℕ)) (domain problem : List ℕ) (search : Search) (m : Model) (before after : Option (List ℕ)) (status : Status) →
+    OfTexts files (domain ∷ problem ∷ []) (λ texts. MeanModel texts m) → SearchesFor m search before after status → Does (jobs.Solve domain problem search) files before after status
+searched files domain problem search m before after status texts (inl (proved, other, run, behind, is, printed)) = λ words asks. (Solving m proved other search run behind, (domain, problem, asks, texts, is), printed)
+searched files domain problem search m before after status texts (inr (inl (proved, other, run, behind, is, printed))) = λ words asks. (SolvingBest m proved other search run behind, (domain, problem, asks, texts, is), printed)
+searched files domain problem search m before after status texts (inr (inr printed)) = λ words asks. (NoMemory, tt, printed)
 
 -- a list was replayed, or memory ran out
 pub was_replayed : (files : List ℕ → Option (List ℕ)) (domain problem list : List ℕ) (m : Model) (steps : List ℕ) (before after : Option (List ℕ)) (status : Status) →
@@ -54,11 +51,10 @@ was_replayed files domain problem list m steps before after status texts (inl pr
 was_replayed files domain problem list m steps before after status texts (inr printed) = λ words asks. (NoMemory, tt, printed)
 
 -- a certificate was checked, or memory ran out
-pub was_checked : (files : List ℕ → Option (List ℕ)) (domain problem text : List ℕ) (m : Model) (cert : Cert) (before after : Option (List ℕ)) (status : Status) →
-    OfTexts files (domain ∷ problem ∷ text ∷ []) (λ texts. MeanCert texts m cert) → Printed before after (Checked m cert (checked m cert)) status ⊎ Printed before after NoMemory status →
-    Does (jobs.Check domain problem text) files before after status
-was_checked files domain problem text m cert before after status texts (inl printed) = λ words asks. (Checked m cert (checked m cert), (domain, problem, text, asks, texts, refl), printed)
-was_checked files domain problem text m cert before after status texts (inr printed) = λ words asks. (NoMemory, tt, printed)
+pub was_checked : (files : List ℕ → Option (List ℕ)) (domain problem text : List ℕ) (asked : Bool) (m : Model) (cert : Cert) (before after : Option (List ℕ)) (status : Status) →
+    OfTexts files (domain ∷ problem ∷ text ∷ []) (λ texts. MeanCert texts m cert) → Checks m cert asked before after status → Does (jobs.Check domain problem text asked) files before after status
+was_checked files domain problem text asked m cert before after status texts (inl (proved, other, is, printed)) = λ words asks. (Checked m proved other cert (checked other cert), (domain, problem, text, asked, asks, texts, is, refl), printed)
+was_checked files domain problem text asked m cert before after status texts (inr printed) = λ words asks. (NoMemory, tt, printed)
 
 -- a model that was loaded was shown
 pub was_shown : (files : List ℕ → Option (List ℕ)) (domain problem : List ℕ) (m : Model) (before after : Option (List ℕ)) (status : Status) →

@@ -1,5 +1,5 @@
 -- A search of a model that meets no fault, with a budget that is enough, is settled.
-use Rattle.std.proofs.Common.{◌≡◌, ℕ, ◌+◌, ◌*◌, ◌≤◌, inl, inr, Bool, false, List, [], ◌∷◌, Option, Some, None, refl, sym, subst, ◌∙◌, ap, length, arith}
+use Rattle.std.proofs.Common.{◌≡◌, ℕ, ◌+◌, ◌*◌, ◌≤◌, inl, inr, Bool, true, false, List, [], ◌∷◌, Option, Some, None, refl, sym, subst, ◌∙◌, ap, length, arith}
 use Rattle.std.specs.Prelude.{IfSome}
 use Rattle.dp_claims.specs.Enough.{IsEnough}
 use Rattle.dp_model.specs.declared.answers.Keep.{Keep}
@@ -12,18 +12,22 @@ use Rattle.command_line.specs.Jobs.{job_of}
 use Rattle.best_ledger.specs.Right.{BestEnding, BestRun}
 use Rattle.best_ledger.specs.Right as best
 use Rattle.command_line.specs.declared.jobs.Engine.{Engine}
-use Rattle.command_line.specs.declared.jobs.Engine.TheVariants as engines
 use Rattle.command_line.specs.declared.jobs.Job.{Job}
 use Rattle.command_line.specs.declared.jobs.Job.TheVariants as jobs
+use Rattle.command_line.specs.declared.jobs.Search.{Search}
 use Rattle.dypdl_nodes.specs.Reads.{Refusal}
 use Rattle.model_gen.specs.Texts.{domain_text, problem_text}
 use Rattle.model_gen.specs.declared.kinds.GenKind.{GenKind}
+use Rattle.kept_claims.specs.Searched.{IsSearched}
+use Rattle.kept_claims.proofs.Runs.{enough_best_law, enough_law, faults_law}
+use Rattle.kept_model.specs.Parts.{IsKept}
+use Rattle.kept_model.specs.declared.kept.Kept.{Kept}
 use Rattle.pass_ledger.proofs.Finite.{finite}
 use Rattle.solve_passes.specs.Records.{Record, Ending, Ended, OutOfMemory, RightEnding, RightVerdict, ending_status}
 use Rattle.solve_best.specs.Texts as bests
 use Rattle.run_ends.specs.Statuses.{code_of}
 use Rattle.run_ends.specs.declared.status.Status.{Status}
-use Rattle.solve_top.specs.Answers.{CanEnd, CanEndBest, CanEndBy, IsSettled, IsSmall, SettlesFiles, SettlesGenerated, SettlesSmall}
+use Rattle.solve_top.specs.Answers.{CanEnd, CanEndBest, CanEndBy, IsSettled, IsSmall, MeetsNone, SettlesFiles, SettlesGenerated, SettlesSmall}
 use Rattle.solve_top.specs.Behind.{Behind, Nothing, Whole, Begun, OutOfRoom, NoRoom, behind_status}
 use Rattle.solve_top.specs.Files.{IsShort, IsLong, IsText, AreTexts, AtFile, OfTexts}
 use Rattle.solve_top.specs.Jobs.{Asks, gen_options, names_of, third_of}
@@ -78,6 +82,23 @@ best_ends_well : (m : Model) (options : Options) (r : BestRun) (e : BestEnding) 
 best_ends_well m options r (best.Ended v) right can = best_ends_verdict m options r v right.0 can
 best_ends_well m options r best.OutOfMemory right can = memory
 
+-- ---- what is searched of such a model
+
+no_fault_too : (m : Model) (kept : Kept) (other : Model) (prune : Bool) → IsKept m kept other → MeetsNone m prune → MeetsNone other prune
+no_fault_too m kept other prune is none steps spot kind meets = let there = faults_law m kept other is prune steps spot kind meets in none steps there.0 there.1 there.2
+
+ends_too : (m : Model) (asked : Bool) (proved : Option Kept) (searched : Model) (options : Options) → IsSearched m asked proved searched → CanEnd m options → CanEnd searched options
+ends_too m false None searched options is can = subst (λ (x : Model). CanEnd x options) (sym is) can
+ends_too m true (Some kept) searched options is can = record { no_fault = no_fault_too m kept searched options.prune is.1 can.no_fault; enough = enough_law m kept searched is.1 options.keep options.budget can.enough }
+ends_too m false (Some kept) searched options is can = absurd is
+ends_too m true None searched options is can = absurd is
+
+best_ends_too : (m : Model) (asked : Bool) (proved : Option Kept) (searched : Model) (options : Options) → IsSearched m asked proved searched → CanEndBest m options → CanEndBest searched options
+best_ends_too m false None searched options is can = subst (λ (x : Model). CanEndBest x options) (sym is) can
+best_ends_too m true (Some kept) searched options is can = record { no_fault = no_fault_too m kept searched options.prune is.1 can.no_fault; enough = λ below. can.enough (enough_best_law m kept searched is.1 options.budget below) }
+best_ends_too m false (Some kept) searched options is can = absurd is
+best_ends_too m true None searched options is can = absurd is
+
 -- what stands behind a verdict settles the run too
 behind_settled : (status : Status) (behind : Behind) → IsSettled (code_of status) → IsSettled (code_of (behind_status status behind))
 behind_settled status Nothing h = h
@@ -110,12 +131,12 @@ told_as (Some t) bytes text e is = let same : t ≡ bytes = cc in is ∙ same
 
 -- ---- a search of files
 
-module _ (words : List (List ℕ)) (files : List ℕ → Option (List ℕ)) (domain problem first second : List ℕ) (options : Options) (gap certificate : Bool) (engine : Engine) (announce : Bool) (m : Model)
-    (asks : Asks words (jobs.Solve domain problem options gap certificate engine announce))
+module _ (words : List (List ℕ)) (files : List ℕ → Option (List ℕ)) (domain problem first second : List ℕ) (search : Search) (m : Model)
+    (asks : Asks words (jobs.Solve domain problem search))
     (told : files domain ≡ Some first) (short : IsShort first)
     (told' : files problem ≡ Some second) (short' : IsShort second)
     (means : Means first second m)
-    (can : CanEndBy engine m options) where
+    (can : CanEndBy search.engine m search.options) where
   not_too_long : (file : ℕ) → AtFile files 1 (domain ∷ problem ∷ []) file (λ t. IfSome t IsLong) → ⊥
   not_too_long file (inl h) = told_short (files domain) first told short h.1
   not_too_long file (inr (other, inl h)) = told_short (files problem) second told' short' h.1
@@ -146,48 +167,48 @@ module _ (words : List (List ℕ)) (files : List ℕ → Option (List ℕ)) (dom
       the_model other of_texts.0 of_texts.1 of_texts.2
 
   named : (job : Job) → Asks words job → names_of job ≡ domain ∷ problem ∷ []
-  named job also = ap names_of (same_job words job (jobs.Solve domain problem options gap certificate engine announce) also asks)
+  named job also = ap names_of (same_job words job (jobs.Solve domain problem search) also asks)
 
   settles_as : (outcome : Outcome) → ComesOf words files outcome → IsSettled (code_of (outcome_status outcome))
-  settles_as NoMeaning h = absurd (none_asked words (jobs.Solve domain problem options gap certificate engine announce) asks h)
+  settles_as NoMeaning h = absurd (none_asked words (jobs.Solve domain problem search) asks h)
   settles_as (ReadFault file) h = read_fault
   settles_as (TooLong file) h = absurd (not_too_long file (subst (λ (names : List (List ℕ)). AtFile files 1 names file (λ t. IfSome t IsLong)) (named h.0 h.1) h.2))
   settles_as (Refused r) h =
-      let of_texts : OfTexts files (domain ∷ problem ∷ []) (λ texts. AreRefused Steps texts r) = subst (λ (job : Job). OfTexts files (names_of job) (λ texts. AreRefused (third_of job) texts r)) (same_job words h.0 (jobs.Solve domain problem options gap certificate engine announce) h.1 asks) h.2 in
+      let of_texts : OfTexts files (domain ∷ problem ∷ []) (λ texts. AreRefused Steps texts r) = subst (λ (job : Job). OfTexts files (names_of job) (λ texts. AreRefused (third_of job) texts r)) (same_job words h.0 (jobs.Solve domain problem search) h.1 asks) h.2 in
       absurd (not_refused r of_texts.0 of_texts.1 of_texts.2)
   settles_as NoMemory h = memory
-  settles_as (Solving other also over told_too run behind) h =
-      let same : jobs.Solve h.0 h.1 also over h.2 engines.Beam told_too ≡ jobs.Solve domain problem options gap certificate engine announce = same_job words (jobs.Solve h.0 h.1 also over h.2 engines.Beam told_too) (jobs.Solve domain problem options gap certificate engine announce) h.3 asks in
+  settles_as (Solving other proved searched also run behind) h =
+      let same : jobs.Solve h.0 h.1 also ≡ jobs.Solve domain problem search = same_job words (jobs.Solve h.0 h.1 also) (jobs.Solve domain problem search) h.2 asks in
       let d : h.0 ≡ domain = cc in
       let p : h.1 ≡ problem = cc in
-      let o : also ≡ options = cc in
-      let e : engines.Beam ≡ engine = cc in
-      let is = the_other other h.0 h.1 d p h.4 in
-      let ends : CanEndBy engines.Beam other also = subst (λ (x : Options). CanEndBy engines.Beam other x) (sym o) (subst (λ (x : Model). CanEndBy engines.Beam x options) (sym is) (subst (λ (x : Engine). CanEndBy x m options) (sym e) can)) in
-      behind_settled (ending_status run.ending) behind (ends_well other also over run run.ending h.5.ending ends)
-  settles_as (SolvingBest other also run behind) h =
-      let same : jobs.Solve h.0 h.1 also h.2 h.3 engines.Best h.4 ≡ jobs.Solve domain problem options gap certificate engine announce = same_job words (jobs.Solve h.0 h.1 also h.2 h.3 engines.Best h.4) (jobs.Solve domain problem options gap certificate engine announce) h.5 asks in
+      let o : also ≡ search = cc in
+      let is = the_other other h.0 h.1 d p h.3 in
+      let there : CanEndBy also.engine other also.options = subst (λ (x : Model). CanEndBy also.engine x also.options) (sym is) (subst (λ (x : Search). CanEndBy x.engine m x.options) (sym o) can) in
+      let ends : CanEnd searched also.options = ends_too other also.proved proved searched also.options h.4.is_searched (subst (λ (e : Engine). CanEndBy e other also.options) h.4.engine there) in
+      behind_settled (ending_status run.ending) behind (ends_well searched also.options also.gap run run.ending h.4.right.ending ends)
+  settles_as (SolvingBest other proved searched also run behind) h =
+      let same : jobs.Solve h.0 h.1 also ≡ jobs.Solve domain problem search = same_job words (jobs.Solve h.0 h.1 also) (jobs.Solve domain problem search) h.2 asks in
       let d : h.0 ≡ domain = cc in
       let p : h.1 ≡ problem = cc in
-      let o : also ≡ options = cc in
-      let e : engines.Best ≡ engine = cc in
-      let is = the_other other h.0 h.1 d p h.6 in
-      let ends : CanEndBy engines.Best other also = subst (λ (x : Options). CanEndBy engines.Best other x) (sym o) (subst (λ (x : Model). CanEndBy engines.Best x options) (sym is) (subst (λ (x : Engine). CanEndBy x m options) (sym e) can)) in
-      behind_settled (bests.ending_status run.ending) behind (best_ends_well other also run run.ending h.7.ending ends)
+      let o : also ≡ search = cc in
+      let is = the_other other h.0 h.1 d p h.3 in
+      let there : CanEndBy also.engine other also.options = subst (λ (x : Model). CanEndBy also.engine x also.options) (sym is) (subst (λ (x : Search). CanEndBy x.engine m x.options) (sym o) can) in
+      let ends : CanEndBest searched also.options = best_ends_too other also.proved proved searched also.options h.4.is_searched (subst (λ (e : Engine). CanEndBy e other also.options) h.4.engine there) in
+      behind_settled (bests.ending_status run.ending) behind (best_ends_well searched also.options run run.ending h.4.right.ending ends)
   settles_as (Replayed other steps tells) h =
-      let same : jobs.Replay h.0 h.1 h.2 ≡ jobs.Solve domain problem options gap certificate engine announce = same_job words (jobs.Replay h.0 h.1 h.2) (jobs.Solve domain problem options gap certificate engine announce) h.3 asks in
+      let same : jobs.Replay h.0 h.1 h.2 ≡ jobs.Solve domain problem search = same_job words (jobs.Replay h.0 h.1 h.2) (jobs.Solve domain problem search) h.3 asks in
       absurd cc
-  settles_as (Checked other cert tells) h =
-      let same : jobs.Check h.0 h.1 h.2 ≡ jobs.Solve domain problem options gap certificate engine announce = same_job words (jobs.Check h.0 h.1 h.2) (jobs.Solve domain problem options gap certificate engine announce) h.3 asks in
+  settles_as (Checked other proved searched cert tells) h =
+      let same : jobs.Check h.0 h.1 h.2 h.3 ≡ jobs.Solve domain problem search = same_job words (jobs.Check h.0 h.1 h.2 h.3) (jobs.Solve domain problem search) h.4 asks in
       absurd cc
   settles_as (Shown other) h =
-      let same : jobs.Show h.0 h.1 ≡ jobs.Solve domain problem options gap certificate engine announce = same_job words (jobs.Show h.0 h.1) (jobs.Solve domain problem options gap certificate engine announce) h.2 asks in
+      let same : jobs.Show h.0 h.1 ≡ jobs.Solve domain problem search = same_job words (jobs.Show h.0 h.1) (jobs.Solve domain problem search) h.2 asks in
       absurd cc
   settles_as (NoGenerated kind size seed refusal) h =
-      let same : jobs.Gen kind size seed h.0 ≡ jobs.Solve domain problem options gap certificate engine announce = same_job words (jobs.Gen kind size seed h.0) (jobs.Solve domain problem options gap certificate engine announce) h.1 asks in
+      let same : jobs.Gen kind size seed h.0 ≡ jobs.Solve domain problem search = same_job words (jobs.Gen kind size seed h.0) (jobs.Solve domain problem search) h.1 asks in
       absurd cc
   settles_as (Generated kind size seed other also run) h =
-      let same : jobs.Gen kind size seed h.0 ≡ jobs.Solve domain problem options gap certificate engine announce = same_job words (jobs.Gen kind size seed h.0) (jobs.Solve domain problem options gap certificate engine announce) h.1 asks in
+      let same : jobs.Gen kind size seed h.0 ≡ jobs.Solve domain problem search = same_job words (jobs.Gen kind size seed h.0) (jobs.Solve domain problem search) h.1 asks in
       absurd cc
 
 printed_code : (before after : Option (List ℕ)) (outcome : Outcome) (status : Status) → Printed before after outcome status → IsSettled (code_of (outcome_status outcome)) → IsSettled (code_of status)
@@ -196,8 +217,8 @@ printed_code before after outcome status (inr h) settled = subst (λ (s : Status
 
 pub settles_files : (words : List (List ℕ)) (files : List ℕ → Option (List ℕ)) (before after : Option (List ℕ)) (outcome : Outcome) (status : Status) → ComesOf words files outcome → Printed before after outcome status → SettlesFiles words files (code_of status)
 settles_files words files before after outcome status comes printed =
-    λ domain problem first second options gap certificate engine announce m asks told short told' short' means can.
-    printed_code before after outcome status printed (settles_as words files domain problem first second options gap certificate engine announce m asks told short told' short' means can outcome comes)
+    λ domain problem first second search m asks told short told' short' means can.
+    printed_code before after outcome status printed (settles_as words files domain problem first second search m asks told short told' short' means can outcome comes)
 
 -- ---- a search of a small model
 
@@ -214,8 +235,9 @@ can_end m options small = record {
 
 pub settles_small : (words : List (List ℕ)) (files : List ℕ → Option (List ℕ)) (before after : Option (List ℕ)) (outcome : Outcome) (status : Status) → ComesOf words files outcome → Printed before after outcome status → SettlesSmall words files (code_of status)
 settles_small words files before after outcome status comes printed =
-    λ domain problem first second options gap certificate announce m asks told short told' short' means small.
-    settles_files words files before after outcome status comes printed domain problem first second options gap certificate engines.Beam announce m asks told short told' short' means (can_end m options small)
+    λ domain problem first second search m asks engine told short told' short' means small.
+    settles_files words files before after outcome status comes printed domain problem first second search m asks told short told' short' means
+    (subst (λ (e : Engine). CanEndBy e m search.options) (sym engine) (can_end m search.options small))
 
 -- ---- a search of a generated model
 
@@ -241,17 +263,17 @@ module _ (words : List (List ℕ)) (files : List ℕ → Option (List ℕ)) (kin
   settles_generated_as (TooLong file) h = absurd (not_long file (names_of h.0) (no_files h.0 h.1) h.2)
   settles_generated_as (Refused r) h = absurd (no_texts (third_of h.0) r (names_of h.0) h.2.0 (no_files h.0 h.1) h.2.1 h.2.2)
   settles_generated_as NoMemory h = memory
-  settles_generated_as (Solving other also over told_too run behind) h =
-      let same : jobs.Solve h.0 h.1 also over h.2 engines.Beam told_too ≡ jobs.Gen kind size seed workers = same_job words (jobs.Solve h.0 h.1 also over h.2 engines.Beam told_too) (jobs.Gen kind size seed workers) h.3 asks in
+  settles_generated_as (Solving other proved searched also run behind) h =
+      let same : jobs.Solve h.0 h.1 also ≡ jobs.Gen kind size seed workers = same_job words (jobs.Solve h.0 h.1 also) (jobs.Gen kind size seed workers) h.2 asks in
       absurd cc
-  settles_generated_as (SolvingBest other also run behind) h =
-      let same : jobs.Solve h.0 h.1 also h.2 h.3 engines.Best h.4 ≡ jobs.Gen kind size seed workers = same_job words (jobs.Solve h.0 h.1 also h.2 h.3 engines.Best h.4) (jobs.Gen kind size seed workers) h.5 asks in
+  settles_generated_as (SolvingBest other proved searched also run behind) h =
+      let same : jobs.Solve h.0 h.1 also ≡ jobs.Gen kind size seed workers = same_job words (jobs.Solve h.0 h.1 also) (jobs.Gen kind size seed workers) h.2 asks in
       absurd cc
   settles_generated_as (Replayed other steps tells) h =
       let same : jobs.Replay h.0 h.1 h.2 ≡ jobs.Gen kind size seed workers = same_job words (jobs.Replay h.0 h.1 h.2) (jobs.Gen kind size seed workers) h.3 asks in
       absurd cc
-  settles_generated_as (Checked other cert tells) h =
-      let same : jobs.Check h.0 h.1 h.2 ≡ jobs.Gen kind size seed workers = same_job words (jobs.Check h.0 h.1 h.2) (jobs.Gen kind size seed workers) h.3 asks in
+  settles_generated_as (Checked other proved searched cert tells) h =
+      let same : jobs.Check h.0 h.1 h.2 h.3 ≡ jobs.Gen kind size seed workers = same_job words (jobs.Check h.0 h.1 h.2 h.3) (jobs.Gen kind size seed workers) h.4 asks in
       absurd cc
   settles_generated_as (Shown other) h =
       let same : jobs.Show h.0 h.1 ≡ jobs.Gen kind size seed workers = same_job words (jobs.Show h.0 h.1) (jobs.Gen kind size seed workers) h.2 asks in

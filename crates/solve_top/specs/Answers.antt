@@ -13,6 +13,7 @@ use Rattle.pass_ledger.specs.Finite.{AreStates, NoRoundBetters}
 use Rattle.command_line.specs.declared.jobs.Engine.{Engine}
 use Rattle.command_line.specs.declared.jobs.Engine.TheVariants as engines
 use Rattle.command_line.specs.declared.jobs.Job.TheVariants as jobs
+use Rattle.command_line.specs.declared.jobs.Search.{Search}
 use Rattle.model_gen.specs.Texts.{domain_text, problem_text}
 use Rattle.model_gen.specs.declared.kinds.GenKind.{GenKind}
 use Rattle.solve_top.specs.Files.{IsShort}
@@ -45,8 +46,8 @@ IsSettled code = (code ≡ 0) ⊎ ((code ≡ 10) ⊎ ((code ≡ 6) ⊎ ((code �
 -- fault and the budget is enough, the search is settled.
 abbrev pub SettlesFiles : List (List ℕ) → (List ℕ → Option (List ℕ)) → ℕ → Type 0
 SettlesFiles words files code =
-    (domain problem first second : List ℕ) (options : Options) (gap certificate : Bool) (engine : Engine) (announce : Bool) (m : Model) → Asks words (jobs.Solve domain problem options gap certificate engine announce)
-    → files domain ≡ Some first → IsShort first → files problem ≡ Some second → IsShort second → Means first second m → CanEndBy engine m options → IsSettled code
+    (domain problem first second : List ℕ) (search : Search) (m : Model) → Asks words (jobs.Solve domain problem search)
+    → files domain ≡ Some first → IsShort first → files problem ≡ Some second → IsShort second → Means first second m → CanEndBy search.engine m search.options → IsSettled code
 
 -- So is that of a generated model.
 abbrev pub SettlesGenerated : List (List ℕ) → ℕ → Type 0
@@ -67,5 +68,5 @@ pub record IsSmall (m : Model) (options : Options) : Type 0 where
 -- Where the words ask for a search of such a model layer by layer, in two files as above, the search is settled.
 abbrev pub SettlesSmall : List (List ℕ) → (List ℕ → Option (List ℕ)) → ℕ → Type 0
 SettlesSmall words files code =
-    (domain problem first second : List ℕ) (options : Options) (gap certificate announce : Bool) (m : Model) → Asks words (jobs.Solve domain problem options gap certificate engines.Beam announce)
-    → files domain ≡ Some first → IsShort first → files problem ≡ Some second → IsShort second → Means first second m → IsSmall m options → IsSettled code
+    (domain problem first second : List ℕ) (search : Search) (m : Model) → Asks words (jobs.Solve domain problem search) → search.engine ≡ engines.Beam
+    → files domain ≡ Some first → IsShort first → files problem ≡ Some second → IsShort second → Means first second m → IsSmall m search.options → IsSettled code

@@ -1,10 +1,11 @@
 -- What the answer of a check says of the model and of the claim.
-use Rattle.std.specs.Prelude.{◌≡◌, ℕ, List, [], ◌∷◌, Option}
+use Rattle.std.specs.Prelude.{◌≡◌, ℕ, Bool, List, [], ◌∷◌, Option}
 use Rattle.dp_model.specs.declared.whole.Model.{Model}
 use Rattle.cert_types.specs.declared.cert.Cert.{Cert}
-use Rattle.cert_laws.specs.Laws.{ClaimIsTrue, IsTrusted}
 use Rattle.cert_laws.specs.Shown.{Shown}
 use Rattle.command_line.specs.declared.jobs.Job.TheVariants as jobs
+use Rattle.kept_claims.specs.Searched.{ClaimOf, IsSearched}
+use Rattle.kept_model.specs.declared.kept.Kept.{Kept}
 use Rattle.solve_top.specs.Files.{OfTexts}
 use Rattle.solve_top.specs.Jobs.{Asks}
 use Rattle.solve_top.specs.Texts.{MeanCert}
@@ -13,22 +14,29 @@ use Rattle.solve_top.specs.Texts.{MeanCert}
 abbrev pub HaveCert : (List ℕ → Option (List ℕ)) → (domain problem text : List ℕ) → Model → Cert → Type 0
 HaveCert files domain problem text m cert = OfTexts files (domain ∷ problem ∷ text ∷ []) (λ texts. MeanCert texts m cert)
 
--- The certificate in these files shows its claim. So the claim is true, where the model is honest or the certificate's `prune` is off.
-pub record IsCertified (files : List ℕ → Option (List ℕ)) (domain problem text : List ℕ) : Type 0 where
+-- The certificate in these files shows its claim, of the model or of what is proved of it. So the claim is true of the model: where
+-- what is proved alone was asked for, with no premise, and else where the model is honest or the certificate's `prune` is off.
+pub record IsCertified (files : List ℕ → Option (List ℕ)) (domain problem text : List ℕ) (asked : Bool) : Type 0 where
   pub model : Model
+  pub proved : Option Kept
+  pub searched : Model
   pub cert : Cert
   pub texts : HaveCert files domain problem text model cert
-  pub shown : Shown model cert
-  pub claim : IsTrusted model cert → ClaimIsTrue model cert.claim
+  pub is_searched : IsSearched model asked proved searched
+  pub shown : Shown searched cert
+  pub claim : ClaimOf model proved cert
 
 -- it does not show its claim
-pub record IsRejected (files : List ℕ → Option (List ℕ)) (domain problem text : List ℕ) : Type 0 where
+pub record IsRejected (files : List ℕ → Option (List ℕ)) (domain problem text : List ℕ) (asked : Bool) : Type 0 where
   pub model : Model
+  pub proved : Option Kept
+  pub searched : Model
   pub cert : Cert
   pub texts : HaveCert files domain problem text model cert
-  pub not_shown : Shown model cert → ⊥
+  pub is_searched : IsSearched model asked proved searched
+  pub not_shown : Shown searched cert → ⊥
 
 -- Where the words ask for a check of a certificate, status 0 says that it shows its claim, and status 10 that it does not.
 pub record Certifies (words : List (List ℕ)) (files : List ℕ → Option (List ℕ)) (code : ℕ) : Type 0 where
-  pub yes : (domain problem text : List ℕ) → Asks words (jobs.Check domain problem text) → code ≡ 0 → IsCertified files domain problem text
-  pub no : (domain problem text : List ℕ) → Asks words (jobs.Check domain problem text) → code ≡ 10 → IsRejected files domain problem text
+  pub yes : (domain problem text : List ℕ) (asked : Bool) → Asks words (jobs.Check domain problem text asked) → code ≡ 0 → IsCertified files domain problem text asked
+  pub no : (domain problem text : List ℕ) (asked : Bool) → Asks words (jobs.Check domain problem text asked) → code ≡ 10 → IsRejected files domain problem text asked

@@ -20,15 +20,15 @@ AskNothing words = job_of words ≡ None
 -- the names of the files that a job reads, in the order in which they are read: the domain, the problem, and a list or a
 -- certificate
 abbrev pub names_of : Job → List (List ℕ)
-names_of (Solve domain problem options gap certificate engine announce) = domain ∷ problem ∷ []
+names_of (Solve domain problem search) = domain ∷ problem ∷ []
 names_of (Replay domain problem list) = domain ∷ problem ∷ list ∷ []
 names_of (Show domain problem) = domain ∷ problem ∷ []
 names_of (Gen kind size seed workers) = []
-names_of (Check domain problem cert) = domain ∷ problem ∷ cert ∷ []
+names_of (Check domain problem cert proved) = domain ∷ problem ∷ cert ∷ []
 
 -- what the third of them is, where there are three
 abbrev pub third_of : Job → Third
-third_of (Check domain problem cert) = Certificate
+third_of (Check domain problem cert proved) = Certificate
 third_of job = Steps
 
 -- how certificates are written of a search of the best node first, in which nodes of all layers cover
@@ -41,8 +41,8 @@ gen_options workers = record { workers = workers; budget = 10000000; prune = tru
 
 -- what is asked for lies in its range
 abbrev pub JobFits : Job → Type 0
-JobFits (Solve domain problem options gap certificate engine announce) = AreOptions options
+JobFits (Solve domain problem search) = AreOptions search.options
 JobFits (Replay domain problem list) = Unit {0}
 JobFits (Show domain problem) = Unit {0}
-JobFits (Check domain problem cert) = Unit {0}
+JobFits (Check domain problem cert proved) = Unit {0}
 JobFits (Gen kind size seed workers) = (least_size kind ≤ size) × (size ≤ most_size kind) × AreOptions (gen_options workers)

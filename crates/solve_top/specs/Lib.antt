@@ -6,3 +6,4 @@ pub mod Runs
 pub mod Answers
 pub mod Certified
 pub mod Behind
+pub mod Parts

@@ -5,6 +5,8 @@ use Rattle.dp_model.specs.declared.answers.Options.{Options}
 use Rattle.dp_model.specs.declared.whole.Model.{Model}
 use Rattle.run_ends.specs.Statuses.{verdict_status}
 use Rattle.solve_passes.specs.Records.{Record, Right, KeepsWord, claim_of, record_text, ending_status}
+use Rattle.kept_claims.specs.Searched.{IsSearched, WordOf, WordOfBest}
+use Rattle.kept_model.specs.declared.kept.Kept.{Kept}
 use Rattle.solve_passes.specs.declared.progress.Printing.TheVariants.{All, VerdictAlone}
 use Rattle.run_ends.specs.declared.status.Status.{Status}
 use Rattle.run_ends.specs.declared.status.Status.TheVariants as statuses
@@ -16,12 +18,13 @@ use Rattle.dp_model.specs.declared.answers.Claim.TheVariants as claims
 use Rattle.dp_model.specs.declared.answers.Verdict.{Verdict}
 use Rattle.dp_model.specs.declared.answers.Verdict.TheVariants as verdicts
 use Rattle.dypdl_nodes.specs.Reads.{Refusal}
-use Rattle.best_ledger.specs.Right.{BestRun, KeepsWordBest, RightBest}
+use Rattle.best_ledger.specs.Right.{BestRun, RightBest}
 use Rattle.solve_best.specs.Texts.{run_text}
 use Rattle.solve_best.specs.Texts as best
 use Rattle.command_line.specs.declared.jobs.Engine.TheVariants as engines
 use Rattle.command_line.specs.declared.jobs.Job.{Job}
 use Rattle.command_line.specs.declared.jobs.Job.TheVariants as jobs
+use Rattle.command_line.specs.declared.jobs.Search.{Search}
 use Rattle.replay_list.specs.Replays.{replayed}
 use Rattle.replay_list.specs.declared.replayed.Replayed.{Replayed as Told}
 use Rattle.replay_list.specs.declared.replayed.Replayed.TheVariants as tellings
@@ -37,6 +40,7 @@ use Rattle.cert_laws.specs.declared.answers.Checked.TheVariants as findings
 use Rattle.solve_top.specs.Behind.{Behind, IsAnnounced, IsBehind, behind_status, behind_text}
 use Rattle.solve_top.specs.Jobs.{Asks, AskNothing, gen_options, keeping_all, names_of, third_of}
 use Rattle.solve_top.specs.Files.{IsReached, IsFirstLong, OfTexts}
+use Rattle.solve_top.specs.Parts.{parts_text}
 use Rattle.solve_top.specs.Texts.{Means, MeanCert, MeanModel, MeanSteps, AreRefused, IsRefused}
 
 pub data Outcome : Type 0 where
@@ -48,16 +52,16 @@ pub data Outcome : Type 0 where
   TooLong : (file : ℕ) → Outcome
   -- a text, or what the texts mean, is refused
   Refused : (refusal : Refusal) → Outcome
-  -- memory ran out before a model was loaded, or while a list was replayed or a certificate was checked
+  -- memory ran out before a model was loaded or told of, or while a list was replayed or a certificate was checked
   NoMemory : Outcome
-  -- the model was searched layer by layer, with the gap and announced costs asked for or not, and this stands behind the verdict
-  Solving : (model : Model) (options : Options) (gap announce : Bool) (run : Record) (behind : Behind) → Outcome
-  -- the model was searched with the best node first, and this stands behind the verdict
-  SolvingBest : (model : Model) (options : Options) (run : BestRun) (behind : Behind) → Outcome
+  -- the model was searched layer by layer, or with what is proved of it alone, and this stands behind the verdict
+  Solving : (model : Model) (proved : Option Kept) (searched : Model) (search : Search) (run : Record) (behind : Behind) → Outcome
+  -- the same with the best node first
+  SolvingBest : (model : Model) (proved : Option Kept) (searched : Model) (search : Search) (run : BestRun) (behind : Behind) → Outcome
   -- a list of steps of the model was replayed
   Replayed : (model : Model) (steps : List ℕ) (told : Told) → Outcome
-  -- a certificate over the model was checked
-  Checked : (model : Model) (cert : Cert) (told : Findings) → Outcome
+  -- a certificate over the model was checked, or over what is proved of it alone
+  Checked : (model : Model) (proved : Option Kept) (searched : Model) (cert : Cert) (told : Findings) → Outcome
   -- it was said what was understood of the model
   Shown : (model : Model) → Outcome
   -- a model was generated, and its texts mean none, or memory ran out before a model was loaded
@@ -126,10 +130,10 @@ outcome_text (ReadFault file) = line (codes "read fault " ++ file_name file)
 outcome_text (TooLong file) = line (codes "too long " ++ file_name file)
 outcome_text (Refused r) = refusal_text r.place r.offset r.number
 outcome_text NoMemory = line (codes "memory")
-outcome_text (Solving model options gap announce run behind) = record_text (All announce) model run ++ behind_text model options behind
-outcome_text (SolvingBest model options run behind) = run_text model run ++ behind_text model (keeping_all options) behind
+outcome_text (Solving model proved searched search run behind) = parts_text model proved ++ (record_text (All search.announce) searched run ++ behind_text searched search.options behind)
+outcome_text (SolvingBest model proved searched search run behind) = parts_text model proved ++ (run_text searched run ++ behind_text searched (keeping_all search.options) behind)
 outcome_text (Replayed model steps told) = verdict_text model (replay_verdict steps told)
-outcome_text (Checked model cert told) = checked_text cert.claim told
+outcome_text (Checked model proved searched cert told) = parts_text model proved ++ checked_text cert.claim told
 outcome_text (Shown model) = show_text model
 outcome_text (NoGenerated kind size seed refusal) = gen_line kind size seed ++ no_model_text refusal
 outcome_text (Generated kind size seed model options run) = gen_line kind size seed ++ ground_line model ++ record_text VerdictAlone model run
@@ -140,10 +144,10 @@ outcome_status (ReadFault file) = statuses.ReadFault
 outcome_status (TooLong file) = statuses.TooLong
 outcome_status (Refused r) = statuses.Refused
 outcome_status NoMemory = statuses.Memory
-outcome_status (Solving model options gap announce run behind) = behind_status (ending_status run.ending) behind
-outcome_status (SolvingBest model options run behind) = behind_status (best.ending_status run.ending) behind
+outcome_status (Solving model proved searched search run behind) = behind_status (ending_status run.ending) behind
+outcome_status (SolvingBest model proved searched search run behind) = behind_status (best.ending_status run.ending) behind
 outcome_status (Replayed model steps told) = verdict_status (replay_verdict steps told)
-outcome_status (Checked model cert told) = checked_status told
+outcome_status (Checked model proved searched cert told) = checked_status told
 outcome_status (Shown model) = statuses.Success
 outcome_status (NoGenerated kind size seed refusal) = no_model_status refusal
 outcome_status (Generated kind size seed model options run) = ending_status run.ending
@@ -153,6 +157,24 @@ abbrev pub IsRefusedOf : GenKind → (size seed : ℕ) → Option Refusal → Ty
 IsRefusedOf kind size seed None = Unit {0}
 IsRefusedOf kind size seed (Some r) = IsRefused (domain_text kind) (problem_text kind size seed) r
 
+-- A search layer by layer of a model, or of what is proved of it, with what stands behind its verdict: its record is right for what
+-- was searched, and says so much of all legal lists of the model.
+pub record IsSearch (m : Model) (proved : Option Kept) (searched : Model) (search : Search) (run : Record) (behind : Behind) : Type 0 where
+  pub engine : search.engine ≡ engines.Beam
+  pub is_searched : IsSearched m search.proved proved searched
+  pub right : Right searched search.options search.gap run
+  pub announcing : IsAnnounced search.announce run
+  pub word : WordOf m proved search.options run
+  pub stands : IsBehind search.certificate searched search.options (claim_of run) behind
+
+-- the same with the best node first
+pub record IsBestSearch (m : Model) (proved : Option Kept) (searched : Model) (search : Search) (run : BestRun) (behind : Behind) : Type 0 where
+  pub engine : search.engine ≡ engines.Best
+  pub is_searched : IsSearched m search.proved proved searched
+  pub right : RightBest searched search.options run
+  pub word : WordOfBest m proved search.options run
+  pub stands : IsBehind search.certificate searched (keeping_all search.options) (best.claim_of run) behind
+
 -- When an outcome may come of these words, over these files. First all files are read, in order; then the domain's text is
 -- looked at, the problem's text, the model that both mean, and the list or the certificate.
 abbrev pub ComesOf : List (List ℕ) → (List ℕ → Option (List ℕ)) → Outcome → Type 0
@@ -161,20 +183,18 @@ ComesOf words files (ReadFault file) = (job : Job) × Asks words job × IsReache
 ComesOf words files (TooLong file) = (job : Job) × Asks words job × IsFirstLong files (names_of job) file
 ComesOf words files (Refused r) = (job : Job) × Asks words job × OfTexts files (names_of job) (λ texts. AreRefused (third_of job) texts r)
 ComesOf words files NoMemory = Unit {0}
-ComesOf words files (Solving model options gap announce run behind) =
-    (domain : List ℕ) × (problem : List ℕ) × (certificate : Bool) × Asks words (jobs.Solve domain problem options gap certificate engines.Beam announce)
-    × OfTexts files (domain ∷ problem ∷ []) (λ texts. MeanModel texts model) × Right model options gap run × IsAnnounced announce run
-    × KeepsWord model options run.bound run.ending × IsBehind certificate model options (claim_of run) behind
-ComesOf words files (SolvingBest model options run behind) =
-    (domain : List ℕ) × (problem : List ℕ) × (gap : Bool) × (certificate : Bool) × (announce : Bool) × Asks words (jobs.Solve domain problem options gap certificate engines.Best announce)
-    × OfTexts files (domain ∷ problem ∷ []) (λ texts. MeanModel texts model) × RightBest model options run × KeepsWordBest model options run.ending
-    × IsBehind certificate model (keeping_all options) (best.claim_of run) behind
+ComesOf words files (Solving model proved searched search run behind) =
+    (domain : List ℕ) × (problem : List ℕ) × Asks words (jobs.Solve domain problem search)
+    × OfTexts files (domain ∷ problem ∷ []) (λ texts. MeanModel texts model) × IsSearch model proved searched search run behind
+ComesOf words files (SolvingBest model proved searched search run behind) =
+    (domain : List ℕ) × (problem : List ℕ) × Asks words (jobs.Solve domain problem search)
+    × OfTexts files (domain ∷ problem ∷ []) (λ texts. MeanModel texts model) × IsBestSearch model proved searched search run behind
 ComesOf words files (Replayed model steps told) =
     (domain : List ℕ) × (problem : List ℕ) × (list : List ℕ) × Asks words (jobs.Replay domain problem list)
     × OfTexts files (domain ∷ problem ∷ list ∷ []) (λ texts. MeanSteps texts model steps) × (told ≡ replayed model steps)
-ComesOf words files (Checked model cert told) =
-    (domain : List ℕ) × (problem : List ℕ) × (text : List ℕ) × Asks words (jobs.Check domain problem text)
-    × OfTexts files (domain ∷ problem ∷ text ∷ []) (λ texts. MeanCert texts model cert) × (told ≡ checked model cert)
+ComesOf words files (Checked model proved searched cert told) =
+    (domain : List ℕ) × (problem : List ℕ) × (text : List ℕ) × (asked : Bool) × Asks words (jobs.Check domain problem text asked)
+    × OfTexts files (domain ∷ problem ∷ text ∷ []) (λ texts. MeanCert texts model cert) × IsSearched model asked proved searched × (told ≡ checked searched cert)
 ComesOf words files (Shown model) =
     (domain : List ℕ) × (problem : List ℕ) × Asks words (jobs.Show domain problem) × OfTexts files (domain ∷ problem ∷ []) (λ texts. MeanModel texts model)
 ComesOf words files (NoGenerated kind size seed refusal) = (workers : ℕ) × Asks words (jobs.Gen kind size seed workers) × IsRefusedOf kind size seed refusal
@@ -186,6 +206,19 @@ ComesOf words files (Generated kind size seed model options run) =
 abbrev pub Printed : Option (List ℕ) → Option (List ℕ) → Outcome → Status → Type 0
 Printed before after outcome status =
     ((status ≡ outcome_status outcome) × Takes before after (outcome_text outcome)) ⊎ ((status ≡ statuses.WriteFault) × TakesFront before after (outcome_text outcome))
+
+-- A search of a model as it was asked for was printed, behind the lines of the parts; or memory ran out before.
+abbrev pub SearchesFor : Model → Search → Option (List ℕ) → Option (List ℕ) → Status → Type 0
+SearchesFor m search before after status =
+    ((proved : Option Kept) × (searched : Model) × (run : Record) × (behind : Behind) × IsSearch m proved searched search run behind × Printed before after (Solving m proved searched search run behind) status)
+    ⊎ (((proved : Option Kept) × (searched : Model) × (run : BestRun) × (behind : Behind) × IsBestSearch m proved searched search run behind × Printed before after (SolvingBest m proved searched search run behind) status)
+    ⊎ Printed before after NoMemory status)
+
+-- a certificate over the model, or over what is proved of it alone, was checked and it was printed what was told; or memory ran out
+abbrev pub Checks : Model → Cert → (asked : Bool) → Option (List ℕ) → Option (List ℕ) → Status → Type 0
+Checks m cert asked before after status =
+    ((proved : Option Kept) × (searched : Model) × IsSearched m asked proved searched × Printed before after (Checked m proved searched cert (checked searched cert)) status)
+    ⊎ Printed before after NoMemory status
 
 -- over these files a job comes to some outcome, which was printed
 abbrev pub Does : Job → (List ℕ → Option (List ℕ)) → Option (List ℕ) → Option (List ℕ) → Status → Type 0

@@ -9,6 +9,7 @@ mod laws;
 mod loading;
 mod making;
 mod program;
+mod proving;
 mod replaying;
 mod texts;
 

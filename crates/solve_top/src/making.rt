@@ -11,7 +11,7 @@ ghost use Rattle.solve_top.specs.Behind.{Follows, Solves, SolvesBest, SolvesBy, 
 ghost use Rattle.solve_top.specs.Jobs as jobs;
 
 use cert_making::{CertEnd, put_certificate};
-use command_line::Engine;
+use command_line::{Engine, Search};
 use dp_model::{Claim, Keep, Model, Options};
 use dp_outside::{Gate, Sink};
 use run_ends::{Solved, Status, run_out, status_after};
@@ -21,15 +21,6 @@ use solve_report::put_written;
 use std::alloc::Global;
 use std::sync::Wait;
 use std::thread::Threads;
-
-/// How a model is to be searched, and what is asked for beside its verdict.
-#[derive(Clone, Copy, Debug)]
-pub struct Wanted {
-    pub engine: Engine,
-    pub gap: bool,
-    pub announce: bool,
-    pub certificate: bool,
-}
 
 /// Writes a certificate of a claim behind a verdict that has this status, and answers the status of the run.
 fn put_behind<S: Sink>(
@@ -84,11 +75,10 @@ fn solve_by_layers<R: Threads + Wait + Sync, S: Sink, G: Gate>(
     out: &mut S,
     gate: &G,
     model: &Model,
-    options: &Options,
-    wanted: Wanted,
+    search: &Search,
 ) -> Status
-    requires { AreOptions options.now }
-    ensures printed { Solves model.now options.now wanted.gap wanted.announce wanted.certificate (S.taken out.old) (S.taken out.new) result }
+    requires { AreOptions search.now.options }
+    ensures printed { Solves model.now search.now.options search.now.gap search.now.announce search.now.certificate (S.taken out.old) (S.taken out.new) result }
     ensures read_fault { result ≡ statuses.ReadFault → ⊥ }
     ensures failed { result ≡ statuses.WriteFault → Rose (S.faults out.old) (S.faults out.new) }
 {
@@ -97,14 +87,21 @@ fn solve_by_layers<R: Threads + Wait + Sync, S: Sink, G: Gate>(
         alloc,
         out,
         model,
-        options,
-        wanted.gap,
+        &search.options,
+        search.gap,
         Printing::All {
-            announce: wanted.announce,
+            announce: search.announce,
         },
         gate,
     );
-    certify(alloc, out, model, options, wanted.certificate, &solved)
+    certify(
+        alloc,
+        out,
+        model,
+        &search.options,
+        search.certificate,
+        &solved,
+    )
 }
 
 /// The options with which certificates are written of a search of the best node first: nodes of all layers cover.
@@ -139,7 +136,7 @@ fn solve_best_first<R: Threads + Wait + Sync, S: Sink, G: Gate>(
     certify(alloc, out, model, &keeping, certificate, &solved)
 }
 
-/// Searches a model as is wanted, and prints what it finds. Where a certificate is asked for, one of what the search claims is written
+/// Searches a model as it is asked for, and prints what it finds. Where a certificate is asked for, one of what the search claims is written
 /// behind its verdict.
 pub fn solve_and_certify<R: Threads + Wait + Sync, S: Sink, G: Gate>(
     rt: &R,
@@ -147,18 +144,23 @@ pub fn solve_and_certify<R: Threads + Wait + Sync, S: Sink, G: Gate>(
     out: &mut S,
     gate: &G,
     model: &Model,
-    options: &Options,
-    wanted: Wanted,
+    search: &Search,
 ) -> Status
-    requires { AreOptions options.now }
-    ensures printed { SolvesBy wanted.engine model.now options.now wanted.gap wanted.announce wanted.certificate (S.taken out.old) (S.taken out.new) result }
+    requires { AreOptions search.now.options }
+    ensures printed { SolvesBy search.now.engine model.now search.now.options search.now.gap search.now.announce search.now.certificate (S.taken out.old) (S.taken out.new) result }
     ensures read_fault { result ≡ statuses.ReadFault → ⊥ }
     ensures failed { result ≡ statuses.WriteFault → Rose (S.faults out.old) (S.faults out.new) }
 {
-    match wanted.engine {
-        Engine::Beam => solve_by_layers(rt, alloc, out, gate, model, options, wanted),
-        Engine::Best => {
-            solve_best_first(rt, alloc, out, gate, model, options, wanted.certificate)
-        }
+    match search.engine {
+        Engine::Beam => solve_by_layers(rt, alloc, out, gate, model, search),
+        Engine::Best => solve_best_first(
+            rt,
+            alloc,
+            out,
+            gate,
+            model,
+            &search.options,
+            search.certificate,
+        ),
     }
 }

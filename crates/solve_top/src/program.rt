@@ -8,7 +8,6 @@ ghost use Rattle.command_line.specs.declared.jobs.Job.TheVariants as jobs;
 ghost use Rattle.model_gen.specs.Kinds.{least_size, most_size};
 ghost use Rattle.pass_ends.specs.Passes.{AreOptions};
 ghost use Rattle.replay_list.specs.Replays.{replayed};
-ghost use Rattle.cert_laws.specs.Checks.{checked};
 ghost use Rattle.run_ends.specs.Statuses.{code_of};
 ghost use Rattle.run_ends.specs.declared.status.Status.{Status};
 ghost use Rattle.solve_report.specs.Lines.{file_name as name_of_file};
@@ -16,8 +15,9 @@ ghost use Rattle.solve_report.specs.Puts.{Puts};
 ghost use Rattle.solve_top.specs.Answers.{SettlesFiles, SettlesGenerated, SettlesSmall};
 ghost use Rattle.solve_top.specs.Certified.{Certifies};
 ghost use Rattle.solve_top.specs.Jobs.{JobFits, gen_options};
-ghost use Rattle.solve_top.specs.Outcomes.{Outcome, NoMeaning, ComesOf, Does, Printed, SolvesGenerated, gen_line, ground_line};
+ghost use Rattle.solve_top.specs.Outcomes.{Outcome, Checks, NoMeaning, ComesOf, Does, Printed, SearchesFor, SolvesGenerated, checked_text, gen_line, ground_line};
 ghost use Rattle.solve_top.specs.Outcomes as outcomes;
+ghost use Rattle.solve_top.specs.Parts.{part_lines};
 ghost use Rattle.solve_top.specs.Runs.{outcome_of};
 ghost use Rattle.solve_top.specs.declared.causes.NoModel.TheVariants as causes;
 
@@ -25,13 +25,16 @@ use crate::causes::NoModel;
 use crate::checking::{checked_status, put_checked};
 use crate::generating::{generate_model, kind_name};
 use crate::loading::{Claimed, Listed, load, load_claimed, load_listed};
-use crate::making::{Wanted, solve_and_certify};
+use crate::making::solve_and_certify;
+use crate::proving::{put_parts, searched_of};
 use crate::replaying::verdict_on;
 use cert_check::check;
-use command_line::{Job, WordsEnd, read_words};
+use cert_laws::Checked;
+use command_line::{Job, Search, WordsEnd, read_words};
 use dp_base::Text;
-use dp_model::{Keep, Model, Options};
+use dp_model::{Claim, Keep, Model, Options};
 use dp_outside::{Failed, Gate, Shelf, Sink};
+use kept_model::Part;
 use model_gen::GenKind;
 use solve_passes::{Printing, Status, conclude, run_out, solve, status_after};
 use solve_report::{Piece, file_name, put_line, put_pieces, put_refusal, put_show};
@@ -86,6 +89,29 @@ fn put_usage<S: Sink>(out: &mut S) -> Status
     status_after(written, Status::Usage)
 }
 
+/// Solves a model, or what is proved of it, behind the lines that tell its parts.
+fn solve_model<R: Threads + Wait + Sync, S: Sink, G: Gate>(
+    rt: &R,
+    alloc: Global,
+    out: &mut S,
+    gate: &G,
+    model: Model,
+    search: &Search,
+) -> Status
+    requires { AreOptions search.now.options }
+    ensures printed { SearchesFor model search.now (S.taken out.old) (S.taken out.new) result }
+    ensures read_fault { result ≡ Status.ReadFault → ⊥ }
+    ensures failed { result ≡ Status.WriteFault → Rose (S.faults out.old) (S.faults out.new) }
+{
+    let Ok(searched) = searched_of(alloc, model, search.proved) else {
+        return run_out(out);
+    };
+    match put_parts(out, &searched.parts) {
+        Ok(()) => solve_and_certify(rt, alloc, out, gate, &searched.model, search),
+        Err(Failed) => Status::WriteFault,
+    }
+}
+
 /// Solves the model in two files.
 fn solve_files<R: Threads + Wait + Sync, F: Shelf, S: Sink, G: Gate>(
     rt: &R,
@@ -95,16 +121,15 @@ fn solve_files<R: Threads + Wait + Sync, F: Shelf, S: Sink, G: Gate>(
     gate: &G,
     domain: &Text,
     problem: &Text,
-    options: &Options,
-    wanted: Wanted,
+    search: &Search,
 ) -> Status
-    requires { AreOptions options.now }
-    ensures printed { Does (jobs.Solve domain.now problem.now options.now wanted.gap wanted.certificate wanted.engine wanted.announce) (F.bytes_under shelf.old) (S.taken out.old) (S.taken out.new) result }
+    requires { AreOptions search.now.options }
+    ensures printed { Does (jobs.Solve domain.now problem.now search.now) (F.bytes_under shelf.old) (S.taken out.old) (S.taken out.new) result }
     ensures read_fault { result ≡ Status.ReadFault → Rose (F.faults shelf.old) (F.faults shelf.new) }
     ensures write_fault { result ≡ Status.WriteFault → Rose (S.faults out.old) (S.faults out.new) }
 {
     match load(alloc, shelf, domain, problem) {
-        Ok(model) => solve_and_certify(rt, alloc, out, gate, &model, options, wanted),
+        Ok(model) => solve_model(rt, alloc, out, gate, model, search),
         Err(cause) => put_cause(out, &cause),
     }
 }
@@ -143,23 +168,40 @@ fn replay_files<F: Shelf, S: Sink>(
     }
 }
 
-/// Checks a certificate, prints what is told of it, and answers the status.
-fn put_check<S: Sink>(alloc: Global, out: &mut S, claimed: &Claimed) -> Status
-    ensures printed { Printed (S.taken out.old) (S.taken out.new) (outcomes.Checked claimed.now.model claimed.now.cert (checked claimed.now.model claimed.now.cert)) result
-        ⊎ Printed (S.taken out.old) (S.taken out.new) outcomes.NoMemory result }
+/// Prints the parts that were told and what was told of a certificate with this claim.
+fn put_told<S: Sink>(
+    out: &mut S,
+    parts: &[Part],
+    claim: &Claim,
+    told: Checked,
+) -> Result<(), Failed>
+    ensures { Puts (S.taken out.old) (S.taken out.new) (S.faults out.old) (S.faults out.new)
+        (part_lines parts.now ++ checked_text claim.now told) result }
+{
+    put_parts(out, parts)?;
+    put_checked(out, claim, told)
+}
+
+/// Checks a certificate over a model, or over what is proved of it, prints what is told of it, and answers the status.
+fn put_check<S: Sink>(alloc: Global, out: &mut S, claimed: Claimed, proved: bool) -> Status
+    ensures printed { Checks claimed.model claimed.cert proved (S.taken out.old) (S.taken out.new) result }
     ensures read_fault { result ≡ Status.ReadFault → ⊥ }
     ensures failed { result ≡ Status.WriteFault → Rose (S.faults out.old) (S.faults out.new) }
 {
-    match check(alloc, &claimed.model, &claimed.cert) {
+    let Claimed { model, cert } = claimed;
+    let Ok(searched) = searched_of(alloc, model, proved) else {
+        return run_out(out);
+    };
+    match check(alloc, &searched.model, &cert) {
         Ok(told) => {
-            let written = put_checked(out, &claimed.cert.claim, told);
+            let written = put_told(out, &searched.parts, &cert.claim, told);
             status_after(written, checked_status(told))
         }
         Err(AllocError) => run_out(out),
     }
 }
 
-/// Checks the certificate in the last of three files, over the model that the others mean.
+/// Checks the certificate in the last of three files, over the model that the others mean or over what is proved of it.
 fn check_files<F: Shelf, S: Sink>(
     alloc: Global,
     shelf: &mut F,
@@ -167,13 +209,14 @@ fn check_files<F: Shelf, S: Sink>(
     domain: &Text,
     problem: &Text,
     cert: &Text,
+    proved: bool,
 ) -> Status
-    ensures printed { Does (jobs.Check domain.now problem.now cert.now) (F.bytes_under shelf.old) (S.taken out.old) (S.taken out.new) result }
+    ensures printed { Does (jobs.Check domain.now problem.now cert.now proved) (F.bytes_under shelf.old) (S.taken out.old) (S.taken out.new) result }
     ensures read_fault { result ≡ Status.ReadFault → Rose (F.faults shelf.old) (F.faults shelf.new) }
     ensures write_fault { result ≡ Status.WriteFault → Rose (S.faults out.old) (S.faults out.new) }
 {
     match load_claimed(alloc, shelf, domain, problem, cert) {
-        Ok(claimed) => put_check(alloc, out, &claimed),
+        Ok(claimed) => put_check(alloc, out, claimed, proved),
         Err(cause) => put_cause(out, &cause),
     }
 }
@@ -311,22 +354,8 @@ fn perform_job<R: Threads + Wait + Sync, F: Shelf, S: Sink, G: Gate>(
         Job::Solve {
             domain,
             problem,
-            options,
-            gap,
-            certificate,
-            engine,
-            announce,
-        } => {
-            let wanted = Wanted {
-                engine: *engine,
-                gap: *gap,
-                announce: *announce,
-                certificate: *certificate,
-            };
-            solve_files(
-                rt, alloc, shelf, out, gate, domain, problem, options, wanted,
-            )
-        }
+            search,
+        } => solve_files(rt, alloc, shelf, out, gate, domain, problem, search),
         Job::Replay {
             domain,
             problem,
@@ -337,7 +366,8 @@ fn perform_job<R: Threads + Wait + Sync, F: Shelf, S: Sink, G: Gate>(
             domain,
             problem,
             cert,
-        } => check_files(alloc, shelf, out, domain, problem, cert),
+            proved,
+        } => check_files(alloc, shelf, out, domain, problem, cert, *proved),
         Job::Gen {
             kind,
             size,

@@ -1,13 +1,12 @@
-use Rattle.std.proofs.Common.{◌≡◌, ℕ, List, Option, ap, ◌∙◌}
+use Rattle.std.proofs.Common.{◌≡◌, Bool, ℕ, List, Option, ap, ◌∙◌}
 use Rattle.command_line.specs.Jobs.{options_of}
 use Rattle.command_line.proofs.reading.found_options.Goals as goal
 
-same_options : (a b c d a' b' c' d' : Option (List ℕ)) → a ≡ a' → b ≡ b' → c ≡ c' → d ≡ d' → options_of a b c d ≡ options_of a' b' c' d'
-same_options a b c d a' b' c' d' e f g h =
-    ap (λ (x : Option (List ℕ)). options_of x b c d) e
-    ∙ (ap (λ (x : Option (List ℕ)). options_of a' x c d) f
-    ∙ (ap (λ (x : Option (List ℕ)). options_of a' b' x d) g
-    ∙ ap (λ (x : Option (List ℕ)). options_of a' b' c' x) h))
+same_options : (prune : Bool) (a b c a' b' c' : Option (List ℕ)) → a ≡ a' → b ≡ b' → c ≡ c' → options_of a b prune c ≡ options_of a' b' prune c'
+same_options prune a b c a' b' c' e f g =
+    ap (λ (x : Option (List ℕ)). options_of x b prune c) e
+    ∙ (ap (λ (x : Option (List ℕ)). options_of a' x prune c) f
+    ∙ ap (λ (x : Option (List ℕ)). options_of a' b' prune x) g)
 
 pub returns : goal.returns
-returns c = c.options_of.ensures ∙ same_options _ _ _ _ _ _ _ _ c.get_str-workers.ensures c.get_str-budget.ensures c.get_str-prune.ensures c.get_str.ensures
+returns c = c.options_of.ensures ∙ same_options c.args.prune _ _ _ _ _ _ c.get_str-workers.ensures c.get_str-budget.ensures c.get_str.ensures

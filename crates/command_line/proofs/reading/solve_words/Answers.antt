@@ -18,6 +18,6 @@ returns c =
     let same = λ (id : List ℕ). c.in_ok-matches.ensures.values id ∙ ap (λ (a : App). value_in a ws id) c.in_ok-solve.ensures in
     let well = ap (λ (a : App). faults_in a ws) (sym c.in_ok-solve.ensures) ∙ c.in_ok-matches.ensures.well in
     record {
-      job = job_in_words ws value c.found_search.result same well c.found_search.ensures.job;
-      usage = λ is. found_in_words ws value None same well (c.found_search.ensures.usage is);
+      job = job_in_words ws value c.found_job.result same well c.found_job.ensures.job;
+      usage = λ is. found_in_words ws value None same well (c.found_job.ensures.usage is);
     }

@@ -5,19 +5,19 @@ use Rattle.solve_top.proofs.Programs.{no_read_fault}
 use Rattle.solve_top.proofs.making.solve_by_layers.Goals as goal
 
 pub certify-requires-clause-holds : goal.certify-requires-clause-holds
-certify-requires-clause-holds g c = claims_hold c.args.model.now c.args.options.now c.args.wanted.gap c.args.wanted.announce (g.S.Sink.taken c.args.out.now) (g.S.Sink.taken c.solve-solved.new.out) c.solve-solved.result c.solve-solved.ensures.concluded
+certify-requires-clause-holds g c = claims_hold c.args.model.now c.args.search.now.options c.args.search.now.gap c.args.search.now.announce (g.S.Sink.taken c.args.out.now) (g.S.Sink.taken c.solve-solved.new.out) c.solve-solved.result c.solve-solved.ensures.concluded
 
 pub returns-clause-printed : goal.returns-clause-printed
 returns-clause-printed g c =
     let concluded = c.solve-solved.ensures.concluded in
-    solves c.args.model.now c.args.options.now c.args.wanted.gap c.args.wanted.announce (g.S.Sink.taken c.args.out.now) (g.S.Sink.taken c.solve-solved.new.out) c.solve-solved.result concluded c.args.wanted.certificate (g.S.Sink.taken c.certify.new.out) c.certify.result
-    (c.certify.ensures.printed (g.S.Sink.taken c.args.out.now) (record_text (All c.args.wanted.announce) c.args.model.now concluded.run) (claim_of concluded.run) (ending_status concluded.run.ending) concluded.printed)
+    solves c.args.model.now c.args.search.now.options c.args.search.now.gap c.args.search.now.announce (g.S.Sink.taken c.args.out.now) (g.S.Sink.taken c.solve-solved.new.out) c.solve-solved.result concluded c.args.search.now.certificate (g.S.Sink.taken c.certify.new.out) c.certify.result
+    (c.certify.ensures.printed (g.S.Sink.taken c.args.out.now) (record_text (All c.args.search.now.announce) c.args.model.now concluded.run) (claim_of concluded.run) (ending_status concluded.run.ending) concluded.printed)
 
 pub returns-clause-read_fault : goal.returns-clause-read_fault
-returns-clause-read_fault g c = λ is. no_read_fault c.args.model.now c.args.options.now c.args.wanted.gap (All c.args.wanted.announce) (g.S.Sink.taken c.args.out.now) (g.S.Sink.taken c.solve-solved.new.out) c.solve-solved.result c.solve-solved.ensures.concluded (c.certify.ensures.read_fault is)
+returns-clause-read_fault g c = λ is. no_read_fault c.args.model.now c.args.search.now.options c.args.search.now.gap (All c.args.search.now.announce) (g.S.Sink.taken c.args.out.now) (g.S.Sink.taken c.solve-solved.new.out) c.solve-solved.result c.solve-solved.ensures.concluded (c.certify.ensures.read_fault is)
 
 pub certify-requires-clause-unclaimed : goal.certify-requires-clause-unclaimed
-certify-requires-clause-unclaimed g c = unclaimed c.args.model.now c.args.options.now c.args.wanted.gap c.args.wanted.announce (g.S.Sink.taken c.args.out.now) (g.S.Sink.taken c.solve-solved.new.out) c.solve-solved.result c.solve-solved.ensures.concluded
+certify-requires-clause-unclaimed g c = unclaimed c.args.model.now c.args.search.now.options c.args.search.now.gap c.args.search.now.announce (g.S.Sink.taken c.args.out.now) (g.S.Sink.taken c.solve-solved.new.out) c.solve-solved.result c.solve-solved.ensures.concluded
 
 pub returns-clause-failed : goal.returns-clause-failed
 returns-clause-failed g c = λ is.
