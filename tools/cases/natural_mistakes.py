@@ -96,6 +96,13 @@ RUNS = [
 ]
 
 # What no text shows. A title, the folder of the model, the changes, the tool that finds it, and a piece of what must be told.
+BOUND = (
+    "dual_bounds:\n"
+    "  # Each customer is entered once, and the depot at last and for each load of what is demanded beyond the stock.\n"
+    "  - (+ (sum entry left)\n"
+    "       (* (entry 0)\n"
+    "          (+ 1 (/ (+ (max 0 (- (sum demand left) stock)) (- hold 1)) hold))))\n"
+)
 IDLE = "  - name: wait\n    effects: { at: at }\n    cost: "
 SILENT = [
     ("A preference of less where less is not as good", "lot_sizing", [(D, "stock, type: integer }", "stock, type: integer, preference: less }")], "honest",
@@ -120,5 +127,6 @@ SILENT = [
     ("A member twice in a set", "deliveries", [(P, "[ 1, 2, 3, 4 ]", "[ 1, 2, 2, 4 ]")], "lint_model", "the set `left` has 2 twice"),
     ("The problem of another domain", "deliveries", [(P, "domain: deliveries", "domain: tours")], "lint_model", "this is a problem of `tours`"),
     ("A place that is taken for a number", "deliveries", [(D, "stock: hold", "stock: at")], "lint_model", "the integer variable `stock` becomes `at`"),
+    ("No dual bound, where 0 is one", "deliveries", [(D, BOUND, "")], "lint_model", "no step makes a plan better, so `dual_bounds: [ 0 ]` is one"),
     ("A place too many", "deliveries", [(P, "place: 5", "place: 6")], "lint_model", "cells of `way` beside the diagonal are left at the default"),
 ]

@@ -133,7 +133,7 @@ class Checker:
     def why_low(self, floor):
         if floor is not None:
             return f"its floor {floor} is better than the claim"
-        return "the model has no dual bound, so there are no floors" if self.cert.prune else "there are no floors with `prune off`"
+        return "there is no dual bound here, so there are no floors" if self.cert.prune else "there are no floors with `prune off`"
 
     def traits(self, state, cost):
         """What is the same in a node that covers; and what is at least as good, each the lesser the better: cost so far and resources."""

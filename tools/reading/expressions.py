@@ -368,7 +368,7 @@ class Scope:
             first = self.set(parts[1], of)
             return Tree("if", [test, first, self.set(parts[2], first.of)], form, first.of)
         if word in ("add", "remove"):
-            number = self.num(parts[0])
+            number = self.member(word, parts)
             inner = self.set(parts[1], of)
             return Tree(word, [number, inner], form, inner.of)
         trees = []
@@ -376,6 +376,16 @@ class Scope:
             trees.append(self.set(part, of))
             of = trees[-1].of
         return Tree(word, trees, form, of)
+
+    def member(self, word, parts):
+        """The first operand of a form that takes a member and a set."""
+        try:
+            return self.num(parts[0])
+        except Refused as refused:
+            if refused.number == 31 and self.is_set(parts[0]) and not self.is_set(parts[1]):
+                member, members = (part.word if part.kind == "word" else "(..)" for part in parts[::-1])
+                refused.why = f"{refused.why}; `{word}` takes the member first: ({word} {member} {members})"
+            raise
 
     def cond(self, form):
         if form.kind == "word":
@@ -390,7 +400,7 @@ class Scope:
             first = self.set(parts[0], None)
             return Tree(word, [first, self.set(parts[1], first.of)], form)
         if word == "is_in":
-            return Tree(word, [self.num(parts[0]), self.set(parts[1], None)], form)
+            return Tree(word, [self.member(word, parts), self.set(parts[1], None)], form)
         if word == "is_empty":
             return Tree(word, [self.set(parts[0], None)], form)
         return Tree(word, [self.num(part) for part in parts], form)

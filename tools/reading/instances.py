@@ -1,16 +1,41 @@
-"""Instances as they are published: their numbers, in order; and what the problems written from them share."""
+"""Instances as they are published: their words with their places, in order; and what the problems written from them share."""
 
 import math
+import os
 import re
 from fractions import Fraction
 
 from . import shell
 
-NUMBER = re.compile(r"[+-]?\d+(\.\d*)?([eE][+-]?\d+)?\Z")
+NUMBER = re.compile(r"[+-]?(\d+(\.\d*)?|\.\d+)([eE][+-]?\d{1,3})?\Z", re.ASCII)
+MOST_DIGITS, MOST_WHOLE, MOST_MEMBERS = 60, 10**9, 4096
 
 
-def wrong(what):
-    raise shell.Stop(f"the instance is not of this kind: {what}")
+class Wrong(shell.Stop):
+    """An instance that is not right, with its place."""
+
+
+class Word(str):
+    """A word of a text, with the line and column where it stands, both from 1."""
+
+    __slots__ = ("column", "line")
+
+    def __new__(cls, text, line, column):
+        found = super().__new__(cls, text)
+        found.line, found.column = line, column
+        return found
+
+
+class Row(list):
+    """The words of a line, with its number."""
+
+    def __init__(self, words, line):
+        super().__init__(words)
+        self.line = line
+
+    def after(self):
+        """The place behind its last word."""
+        return Word("", self.line, self[-1].column + len(self[-1].encode()) if self else 1)
 
 
 def listed(numbers):
@@ -25,42 +50,81 @@ def members(numbers):
     return f"[ {', '.join(map(str, numbers))} ]".replace("[  ]", "[ ]")
 
 
+def words_of(row, line):
+    """The words of a line that blanks part."""
+    found, column, end = [], 1, 0
+    for match in re.finditer(r"\S+", row):
+        column += len(row[end : match.start()].encode())
+        found.append(Word(match[0], line, column))
+        column, end = column + len(match[0].encode()), match.end()
+    return Row(found, line)
+
+
 class Instance:
-    """The numbers of a text, in order."""
+    """The words of a text, in order. `path` names it in errors."""
 
-    def __init__(self, data, scale):
+    is_table = False
+
+    def __init__(self, data, scale, path="-"):
+        self.path, self.scale, self.at = path, scale, 0
         try:
-            self.text = data.decode("utf-8")
-        except UnicodeDecodeError:
-            wrong("it is no text")
-        self.rows = [row.split() for row in self.text.splitlines() if row.split() and not row.lstrip().startswith("#")]
-        self.words, self.at, self.scale = [word for row in self.rows for word in row], 0, scale
+            self.text = data.decode("utf-8-sig")
+        except UnicodeDecodeError as error:
+            line = data.count(b"\n", 0, error.start) + 1
+            self.wrong("it is no text: here is a byte that UTF-8 has not", Word("", line, error.start - data.rfind(b"\n", 0, error.start)))
+        lines = [words_of(row, number) for number, row in enumerate(self.text.replace("\r\n", "\n").replace("\r", "\n").split("\n"), 1) if not row.lstrip().startswith("#")]
+        self.rows = [row for row in lines if row]
+        self.words = [word for row in self.rows for word in row]
 
-    def whole(self, word):
-        if abs(float(word)) * self.scale >= 2**53:
-            wrong(f"{word} is too great")
-        return math.floor(Fraction(word) * self.scale)
+    def wrong(self, what, at=None):
+        """Ends with what is wrong, at the place of a word; at the first one where none is given."""
+        if at is None:
+            at = self.words[0] if getattr(self, "words", None) else Word("", 1, 1)
+        raise Wrong(f"{self.path}:{at.line}:{at.column}: {what}")
 
-    def whole_number(self, word, least=0):
-        """A number that is not scaled."""
-        if not NUMBER.match(word) or float(word) != int(float(word)) or not least <= float(word) <= 10**9:
-            wrong(f"`{word}` is no whole number from {least} to {10**9}")
-        return int(float(word))
+    def last(self):
+        """The place where the text ends."""
+        return self.rows[-1].after() if self.rows else Word("", 1, 1)
 
-    def next(self, scaled=False, least=0, most=10**9):
-        if self.at == len(self.words):
-            wrong("it ends too early")
-        word = self.words[self.at]
-        self.at += 1
-        if not NUMBER.match(word):
-            wrong(f"`{word}` is no number")
-        value = self.whole(word) if scaled else int(float(word))
-        if not scaled and (float(word) != value or not least <= value <= most):
-            wrong(f"`{word}` is no whole number from {least} to {most}")
+    def number(self, word):
+        """A number, as an exact fraction."""
+        if not NUMBER.match(word) or len(word) > MOST_DIGITS:
+            self.wrong(f"`{shortened(word)}` is no number", word)
+        value = Fraction(word)
+        if abs(value) * self.scale >= 2**53:
+            self.wrong(f"{shortened(word)} is too great", word)
         return value
 
-    def row(self, count, scaled=False, least=0, most=10**9):
+    def is_number(self, word):
+        return bool(NUMBER.match(word)) and len(word) <= MOST_DIGITS
+
+    def whole(self, word):
+        """A number that is scaled, and rounded down."""
+        return math.floor(self.number(word) * self.scale)
+
+    def real(self, word):
+        """A coordinate."""
+        return float(self.number(word))
+
+    def whole_number(self, word, least=0, most=MOST_WHOLE):
+        """A number that is not scaled."""
+        if not self.is_number(word) or Fraction(word).denominator != 1 or not least <= Fraction(word) <= most:
+            self.wrong(f"`{shortened(word)}` is no whole number from {least} to {most}", word)
+        return int(Fraction(word))
+
+    def next(self, scaled=False, least=0, most=MOST_WHOLE):
+        if self.at == len(self.words):
+            self.wrong("it ends too early: a number is wanted here", self.last())
+        word = self.words[self.at]
+        self.at += 1
+        return self.whole(word) if scaled else self.whole_number(word, least, most)
+
+    def row(self, count, scaled=False, least=0, most=MOST_WHOLE):
         return [self.next(scaled, least, most) for _ in range(count)]
+
+    def before(self):
+        """The word that was read last."""
+        return self.words[self.at - 1]
 
     def pass_name(self):
         """Passes over a first line that is a name, as some files have it."""
@@ -69,22 +133,39 @@ class Instance:
 
     def end(self):
         if self.at != len(self.words):
-            wrong(f"something stands behind its end: `{self.words[self.at]}`")
+            self.wrong(f"something stands behind its end: `{shortened(self.words[self.at])}`", self.words[self.at])
+
+    def rows_of(self, count):
+        """The rows of so many numbers."""
+        return [row for row in self.rows if len(row) == count and all(map(self.is_number, row))]
 
     def customers(self):
         """The rows of seven numbers: number, x, y, demand, ready, due, service; a row with 999 ends them."""
-        rows = []
-        for row in self.rows:
-            if row[0] == "999" and rows:
-                break
-            if len(row) == 7 and all(NUMBER.match(word) for word in row):
-                rows.append([float(word) for word in row])
+        ends = next((k for k, row in enumerate(self.rows) if row[0] == "999" and k), len(self.rows))
+        rows = [row for row in self.rows[:ends] if len(row) == 7 and all(map(self.is_number, row))]
         if len(rows) < 2:
-            wrong("there is no table of customers with seven columns")
+            self.wrong("there is no table of customers with seven columns: number, x, y, demand, ready, due, service")
+        return self.at_most(MOST_MEMBERS, rows)
+
+    def at_most(self, most, rows):
+        """The rows, where they are not too many."""
+        if len(rows) > most:
+            self.wrong(f"more than {most} rows are too many here", rows[most][0])
         return rows
 
     def ways(self, rows, with_service):
-        def way(a, b):
-            return math.floor(self.scale * math.hypot(a[1] - b[1], a[2] - b[2])) + (math.floor(self.scale * a[6]) if with_service else 0)
+        """The distances between customers, rounded down, each with the service at its beginning where that is wanted."""
+        points = [(self.real(row[1]), self.real(row[2]), self.number(row[6])) for row in rows]
 
-        return [[0 if i == j else way(a, b) for j, b in enumerate(rows)] for i, a in enumerate(rows)]
+        def way(a, b):
+            return math.floor(self.scale * math.hypot(a[0] - b[0], a[1] - b[1])) + (math.floor(self.scale * a[2]) if with_service else 0)
+
+        return [[0 if i == j else way(a, b) for j, b in enumerate(points)] for i, a in enumerate(points)]
+
+
+def shortened(word):
+    return word if len(word) <= 40 else word[:40] + ".."
+
+
+def stem_of(path):
+    return os.path.splitext(os.path.basename(path))[0]

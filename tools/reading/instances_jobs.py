@@ -1,16 +1,20 @@
 """Instances of work in an order: job shops, late jobs, scenes of a film, assembly lines, stacks that are open."""
 
-import re
+from .instances import Word, listed, members, shortened
 
-from .instances import listed, members, wrong
+
+def time_of(it):
+    """A time of 1 at least."""
+    time = it.next(True)
+    if time < 1:
+        it.wrong(f"a time is 1 at least, and not {it.before()}", it.before())
+    return time
 
 
 def job_shop(it, name):
     jobs, machines = it.next(least=1, most=1000), it.next(least=1, most=60)
-    chains = [[(it.next(most=machines - 1), it.next(True)) for _ in range(machines)] for _ in range(jobs)]
+    chains = [[(it.next(most=machines - 1), time_of(it)) for _ in range(machines)] for _ in range(jobs)]
     it.end()
-    if min(length for chain in chains for _, length in chain) < 1:
-        wrong("a time is below 1")
     number = {(j, k): j * machines + k for j in range(jobs) for k in range(machines)}
     length, on, before, tail, of_machine = [], [], [], [], [[] for _ in range(machines)]
     for j, chain in enumerate(chains):
@@ -94,15 +98,25 @@ dual_bounds:
 {bounds}"""
 
 
-def tardiness(it, name, number=None):
-    """Processing times, weights and due dates; with a number that one of the 125 instances of a file."""
+def late_jobs(it, number):
+    """Processing times, weights and due dates, row by row."""
     if number and (len(it.words) % 375 or number > 125):
-        wrong("there are no 125 instances in it, or the number is above that")
+        it.wrong(f"it has {len(it.words)} numbers, which are no 125 instances" if len(it.words) % 375 else "it has 125 instances", it.last())
     if len(it.words) % 3:
-        wrong("there are not as many times as weights and due dates")
+        it.wrong(f"it has {len(it.words)} numbers, and there are to be as many times as weights and due dates", it.last())
     count = len(it.words) // (375 if number else 3)
     it.at = 3 * count * (number - 1) if number else 0
-    length, weight, due = it.row(count, True), it.row(count), it.row(count, True)
+    return it.row(count, True), it.row(count), it.row(count, True)
+
+
+def tardiness(it, name, number=None):
+    """Processing times, weights and due dates; with a number that one of the 125 instances of a file."""
+    if it.is_table:
+        length, due = ([it.exact(word) for word in it.column(what)] for what in ("length", "due"))
+        count, weight = len(length), [it.whole_number(word) for word in it.column("weight", "1")]
+    else:
+        length, weight, due = late_jobs(it, number)
+        count = len(length)
     late = [w * max(0, p - d) for p, w, d in zip(length, weight, due)]
     return f"""domain: tardiness
 problem: {name}
@@ -148,19 +162,43 @@ table_values:
 
 def line_of(it):
     """The parts of an .alb file: times by task, from 0 on, the cycle, and pairs of tasks of which the first goes before."""
-    parts = {key.strip(): part.split() for key, part in re.findall(r"<([^>]*)>([^<]*)", it.text)}
-    try:
-        count, cycle = int(parts["number of tasks"][0]), it.whole(parts["cycle time"][0])
-        words = parts["task times"]
-        times = {int(task): it.whole(time) for task, time in zip(words[::2], words[1::2])}
-        pairs = [tuple(int(word) - 1 for word in pair.split(",")) for pair in parts.get("precedence relations", [])]
-    except (KeyError, IndexError, ValueError, OverflowError):
-        wrong("it lacks `<number of tasks>`, `<cycle time>` or `<task times>`, or what stands there is no number")
-    if sorted(times) != list(range(1, count + 1)) or any(len(pair) != 2 or not all(0 <= task < count for task in pair) for pair in pairs):
-        wrong("the tasks are not numbered from 1 on, or a pair names another")
-    if max(times.values()) > cycle:
-        wrong("a task takes longer than the cycle")
-    return [times[k + 1] for k in range(count)], cycle, pairs
+    parts = parts_of(it)
+    for head in ("number of tasks", "cycle time", "task times"):
+        if not parts.get(head):
+            it.wrong(f"it lacks `<{head}>` with what belongs there")
+    count, cycle = it.whole_number(parts["number of tasks"][0], 1, 4096), it.whole(parts["cycle time"][0])
+    words, times = parts["task times"], {}
+    if len(words) != 2 * count:
+        it.wrong(f"{count} tasks have {2 * count} numbers, a task and its time each, and {len(words)} stand here", words[-1])
+    for task, time in zip(words[::2], words[1::2]):
+        if times.setdefault(it.whole_number(task, 1, count), it.whole(time)) != it.whole(time):
+            it.wrong(f"task {task} has a time already", task)
+        if it.whole(time) > cycle:
+            it.wrong("this task takes longer than the cycle", time)
+    if len(times) != count:
+        it.wrong("a task stands there twice, and another does not", words[0])
+    return [times[k + 1] for k in range(count)], cycle, [pair_of(it, word, count) for word in parts.get("precedence relations", [])]
+
+
+def parts_of(it):
+    """The words behind each head in `<` and `>`."""
+    parts, head = {}, None
+    for row in it.rows:
+        text = " ".join(row)
+        if text.startswith("<") and text.endswith(">"):
+            head = parts.setdefault(text[1:-1].strip(), [])
+        elif head is None:
+            it.wrong("a head as `<number of tasks>` is wanted here", row[0])
+        else:
+            head += row
+    return parts
+
+
+def pair_of(it, word, count):
+    found = [Word(part, word.line, word.column) for part in word.split(",")]
+    if len(found) != 2:
+        it.wrong(f"`{shortened(word)}` is no pair of tasks, as `1,2`", word)
+    return tuple(it.whole_number(part, 1, count) - 1 for part in found)
 
 
 def some(cells):

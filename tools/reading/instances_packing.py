@@ -1,14 +1,21 @@
 """Instances of packing: bins, knapsacks with any number of each kind, knapsacks with many constraints."""
 
-from .instances import listed, members, wrong
+from .instances import listed, members
 
 
 def bin_packing(it, name):
-    count, capacity = it.next(least=1, most=4096), it.next(True)
-    sizes = [it.next(True) for _ in range(count)]
-    it.end()
-    if max(sizes) > capacity:
-        wrong(f"an item of size {max(sizes)} fits into no bin")
+    if it.is_table:
+        words, capacity = it.column("size"), it.option("capacity") * it.scale
+        sizes = [it.exact(word) for word in words]
+    else:
+        count, capacity = it.next(least=1, most=4096), it.next(True)
+        words = it.words[it.at : it.at + count]
+        sizes = it.row(count, True)
+        it.end()
+    count = len(sizes)
+    for word, size in zip(words, sizes):
+        if size > capacity:
+            it.wrong(f"an item of size {word} fits into no bin", word)
     return f"""domain: bin_packing
 problem: {name}
 object_numbers: {{ item: {count} }}
@@ -19,21 +26,32 @@ table_values:
 """
 
 
-def knapsack(it, name):
-    """`n: N`, `c: C`, and between `begin data` and `end data` a size and a value for each kind."""
+def kinds_of(it):
+    """The size and the value of each kind, and the room."""
     heads = {row[0].rstrip(":"): row[1] for row in it.rows if len(row) == 2 and row[0] in ("n:", "c:")}
-    begins = next((k for k, row in enumerate(it.rows) if row == ["begin", "data"]), None)
-    ends = next((k for k, row in enumerate(it.rows) if row == ["end", "data"]), None)
-    if "c" not in heads or begins is None or ends is None or any(len(row) != 2 for row in it.rows[begins + 1 : ends]):
-        wrong("it lacks `c: CAPACITY`, or rows of two numbers between `begin data` and `end data`")
+    begins, ends = (next((k for k, row in enumerate(it.rows) if row == [word, "data"]), None) for word in ("begin", "end"))
+    if "c" not in heads or begins is None or ends is None:
+        it.wrong("it lacks `c: CAPACITY`, or rows of two numbers between `begin data` and `end data`")
+    for row in it.rows[begins + 1 : ends]:
+        if len(row) != 2:
+            it.wrong(f"a kind has a size and a value, and {len(row)} words stand here", row[0])
     kinds = [tuple(it.whole_number(word, 1) for word in row) for row in it.rows[begins + 1 : ends]]
     if not kinds:
-        wrong("there are no kinds")
+        it.wrong("there are no kinds", it.rows[begins][0])
+    return kinds, it.whole_number(heads["c"])
+
+
+def knapsack(it, name):
+    """`n: N`, `c: C`, and between `begin data` and `end data` a size and a value for each kind."""
+    if it.is_table:
+        kinds, capacity = [tuple(it.whole_number(word, 1) for word in row) for row in zip(it.column("size"), it.column("value"))], it.option("capacity")
+    else:
+        kinds, capacity = kinds_of(it)
     rate = [max(-(-value // size) for size, value in kinds[k:]) for k in range(len(kinds))]
     return f"""domain: knapsack
 problem: {name}
 object_numbers: {{ kind: {len(kinds)} }}
-target: {{ at: 0, room: {it.whole_number(heads["c"])} }}
+target: {{ at: 0, room: {capacity} }}
 table_values:
   kinds: {len(kinds)}
   rent: 0
@@ -47,16 +65,24 @@ def of_many(it, number):
     """One of the problems of an OR-Library file: values, a row for each constraint, and the rooms."""
     problems = it.next(least=1)
     if number > problems:
-        wrong(f"it has {problems} problem{'s' * (problems > 1)}")
+        it.wrong(f"it has {problems} problem{'s' * (problems > 1)}", it.before())
     for _ in range(number):
         items, rooms = it.next(least=1, most=4096), it.next(least=1, most=200)
         it.next(True)
-        values, takes, room = it.row(items, True), [it.row(items, True) for _ in range(rooms)], it.row(rooms, True)
+        values, takes, room = positive(it, items), [positive(it, items) for _ in range(rooms)], positive(it, rooms)
     if number == problems:
         it.end()
-    if min(map(min, [values, room, *takes])) < 0:
-        wrong("a number is below 0")
     return values, takes, room
+
+
+def positive(it, count):
+    """So many numbers, none below 0."""
+    found = []
+    for _ in range(count):
+        found.append(it.next(True))
+        if found[-1] < 0:
+            it.wrong("a number is below 0", it.before())
+    return found
 
 
 def free_of(values, row):

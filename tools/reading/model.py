@@ -35,9 +35,9 @@ def refuse(number, node, why=None, offset=None):
 
 # ---- nodes as what they must be
 
-def keyed(node, kind):
+def keyed(node, kind, keys=KEYS):
     """The entries of a map whose keys are known, by their names, once its shape and its keys are right."""
-    known, needed = KEYS[kind]
+    known, needed = keys[kind]
     if node.is_empty() and kind not in ("domain", "problem"):
         pairs = []
     elif node.kind != "map":
@@ -47,7 +47,7 @@ def keyed(node, kind):
     entries = {}
     for key, value in pairs:
         name = key.text if key.kind == "scalar" else None
-        if name in ("base_states", "state_functions"):
+        if name in ("base_states", "state_functions") and name not in known:
             refuse(52, key, f"`{name}` is left out")
         if name not in known:
             shown = f"`{name}`" if name is not None else "a list"
@@ -175,7 +175,7 @@ class Loader:
         for item in items(self.d.get("objects"), MOST_NAMES, "object types"):
             name = name_of(item, self.names, "an object type's name")
             self.names[name] = "an object type"
-            self.objects.append(Thing(name=name, count=None, node=item))
+            self.objects.append(Thing(name=name, count=None, node=item, names=[]))
 
     def read_numbers(self):
         for key, value in pairs_of(self.p.get("object_numbers"), "object types with their numbers"):
@@ -454,7 +454,8 @@ class Loader:
                 why = f"`{t.name}` has {size} ground transitions, one for each choice of its parameters, and all together are at most {MOST_GROUND}"
                 raise Refused(35, t.node.line, t.node.column, None, why).of(t.file)
             for args in itertools.product(*map(range, counts)):
-                self.steps.append(Thing(transition=t, args=args, text=" ".join([t.name, *map(str, args)]), number=len(self.steps)))
+                text = " ".join([t.name, *map(str, args)])
+                self.steps.append(Thing(transition=t, args=args, text=text, shown=text, number=len(self.steps)))
         self.by_text = {}
         for step in self.steps:
             if step.text in self.by_text:
@@ -476,6 +477,8 @@ class Loader:
         self.constraints = self.of_both("constraints", MOST_RULES, self.condition, "constraints")
         self.bases = self.of_both("base_cases", MOST_RULES, self.base_case, "base cases")
         self.bounds = self.of_both("dual_bounds", MOST_NAMES, self.numeric, "dual bounds")
+        for number_, bound in enumerate(self.bounds, 1):
+            bound.number = number_
         if not self.bases:
             raise Refused(48, self.domain.line, self.domain.column, None, "neither file has a base case, so no list could end").of("domain")
         self.ground()

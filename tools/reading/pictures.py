@@ -20,6 +20,15 @@ def text(x, y, words, more=""):
     return f'<text x="{x:.1f}" y="{y:.1f}" {FONT} {more}>{escape(words)}</text>'
 
 
+class Label(str):
+    """What a bar is called, and in short."""
+
+    def __new__(cls, whole, short):
+        found = super().__new__(cls, whole)
+        found.short = short
+        return found
+
+
 # ---- a route
 
 def laid_out(count, way):
@@ -88,10 +97,14 @@ def pushed_apart(points, least):
 
 
 def route_svg(points, tours, labels, title):
-    """Tours are lists of places; each has a colour."""
+    """Tours are lists of places; each has a colour. Labels that are too long for a circle stand below it."""
     radius, margin = 13, 34
+    inside = max(map(len, labels), default=0) <= 3
     wide = max(480, 2 * margin + 73 * math.sqrt(len(points)))
-    at, high = fitted(points, wide - 2 * margin, wide - 2 * margin, radius)
+    if not inside:
+        margin, wide = margin + 20, wide * 1.4
+    at, high = fitted(points, wide - 2 * margin, wide - 2 * margin, radius if inside else 2 * radius)
+    radius = radius if inside else 6
     at = [(x + margin, y + TOP + margin - 14) for x, y in at]
     parts = [text(16, 24, title, 'font-weight="bold"')]
     used = {}
@@ -105,7 +118,8 @@ def route_svg(points, tours, labels, title):
     for k, (x, y) in enumerate(at):
         fill = "#ffe9a8" if k == start else "white"
         parts.append(f'<circle cx="{x:.1f}" cy="{y:.1f}" r="{radius}" fill="{fill}" stroke="#333"/>')
-        parts.append(text(x, y + 4, labels[k], 'text-anchor="middle"'))
+        halo = "" if inside else ' stroke="white" stroke-width="3" paint-order="stroke"'
+        parts.append(text(x, y + (4 if inside else radius + 13), labels[k], f'text-anchor="middle"{halo}'))
     return svg(max(wide, 32 + 7 * len(title)), high + TOP + 2 * margin - 14, parts)
 
 
@@ -209,7 +223,7 @@ def bars_svg(lanes, title, axis):
         for start, stop, label, colour in bars:
             w = (stop - start) * scale
             parts.append(f'<rect x="{left + start * scale:.1f}" y="{y + 3}" width="{max(w, 1):.1f}" height="{height - 6}" fill="{COLOURS[colour % len(COLOURS)]}" stroke="white"/>')
-            shown = label if 7 * len(label) <= w else label.split(" ")[-1]
+            shown = label if 7 * len(label) <= w else label.short
             if 7 * len(shown) <= w + 2:
                 parts.append(text(left + (start + stop) / 2 * scale, y + 19, shown, 'text-anchor="middle" fill="white"'))
     parts.append(text(left + wide / 2, bottom + 36, axis, 'text-anchor="middle" fill="#555"'))
@@ -234,7 +248,7 @@ def bars_text(lanes, axis, columns):
         for start, stop, label, _ in bars:
             a, b = int(start * scale), max(int(stop * scale), int(start * scale) + 1)
             row[a : b + 1] = ["|", *("-" * (b - a - 1)), "|"]
-            shown = label if len(label) <= b - a - 1 else label.split(" ")[-1]
+            shown = label if len(label) <= b - a - 1 else label.short
             if len(shown) <= b - a - 1:
                 middle = a + 1 + (b - a - 1 - len(shown)) // 2
                 row[middle : middle + len(shown)] = list(shown)
@@ -255,12 +269,12 @@ def bars_text(lanes, axis, columns):
 
 def sets_text(columns, rows, most):
     """A row for each step, and a column for each member that a set may have: `*` where it has it. Columns are pairs of a set's name and
-    its members; rows are pairs of a step and its sets."""
+    its members; rows are pairs of a step and its sets, in the order of the members."""
     widths = [[len(str(k)) for k in members] for _, members in columns]
     left = max([len(name) for name, _ in rows] + [4])
     blocks = [max(sum(w) + len(w) - 1, len(name)) for w, (name, _) in zip(widths, columns)]
     if left + sum(blocks) + 3 * len(blocks) > most:
-        return [f"{name.ljust(left)}   " + "   ".join("{" + ", ".join(map(str, sorted(value))) + "}" for value in sets) for name, sets in rows]
+        return [f"{name.ljust(left)}   " + "   ".join("{" + ", ".join(map(str, value)) + "}" for value in sets) for name, sets in rows]
 
     def line(name, cells):
         return (name.ljust(left) + "".join("   " + cell.ljust(block) for cell, block in zip(cells, blocks))).rstrip()
@@ -275,14 +289,16 @@ def sets_text(columns, rows, most):
 def sets_svg(columns, rows, title):
     """The same as a picture: a square is full where the set has the member."""
     left, unit, gap = 30 + 7 * max(len(name) for name, _ in rows), 22, 26
+    longest = max((len(str(member)) for _, members in columns for member in members), default=0)
+    top = TOP + (6 * longest if longest > 3 else 0)
     parts, x = [text(16, 24, title, 'font-weight="bold"')], left
     for number, (name, members) in enumerate(columns):
         parts.append(text(x, TOP + 6, name, 'font-weight="bold"'))
         for k, member in enumerate(members):
-            parts.append(text(x + k * unit + unit / 2, TOP + 24, str(member), 'text-anchor="middle" fill="#555"'))
+            parts.append(text(x + k * unit + unit / 2, top + 24, str(member), (f'text-anchor="start" fill="#555" transform="rotate(-60 {x + k * unit + unit / 2:.1f} {top + 24:.1f})"' if longest > 3 else 'text-anchor="middle" fill="#555"')))
             for j, (_, sets) in enumerate(rows):
                 fill = COLOURS[number % len(COLOURS)] if member in sets[number] else "white"
-                parts.append(f'<rect x="{x + k * unit:.1f}" y="{TOP + 32 + j * unit:.1f}" width="{unit}" height="{unit}" fill="{fill}" stroke="#ddd"/>')
+                parts.append(f'<rect x="{x + k * unit:.1f}" y="{top + 32 + j * unit:.1f}" width="{unit}" height="{unit}" fill="{fill}" stroke="#ddd"/>')
         x += max(len(members) * unit, 8 * len(name)) + gap
-    parts += [text(left - 10, TOP + 47 + j * unit, name, 'text-anchor="end"') for j, (name, _) in enumerate(rows)]
-    return svg(max(x, 32 + 7 * len(title)), TOP + 48 + unit * len(rows), parts)
+    parts += [text(left - 10, top + 47 + j * unit, name, 'text-anchor="end"') for j, (name, _) in enumerate(rows)]
+    return svg(max(x, 32 + 7 * len(title)), top + 48 + unit * len(rows), parts)

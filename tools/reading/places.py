@@ -22,6 +22,9 @@ class Refused(Exception):
             self.file = file
         return self
 
+    def title(self):
+        return NAMES[self.number]
+
     def line_printed(self):
         """The line that the solver prints for it."""
         place = f"{self.file}:{self.line}:{self.column}"

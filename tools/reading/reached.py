@@ -14,17 +14,20 @@ class TooMany(Exception):
 class Reached:
     """The inner states that are reached from one, by number. `before` is how each was reached first: from which state, by which step. `arcs`
     are the steps from each: the step, its weight, and the state that it leads to, or the base cost where it ends. `led` is the list by which
-    the first was reached from the target. Where there are more than `most`, they are too many if all are wanted; else only the first have arcs."""
+    the first was reached from the target. Where there are more than `most`, they are too many if all are wanted; else only the first have arcs.
+    They are too many too where the time of `clock` is over."""
 
-    def __init__(self, m, most, first, led=(), wants_all=True):
+    def __init__(self, m, most, first, led=(), wants_all=True, clock=None):
         self.m, self.play, self.faults, self.led = m, values.Play(m), 0, [step.text for step in led]
         self.states, self.before, self.arcs, self.numbers = [], [], [], {}
         if self.ends_at(first) == ("inner", None):
             self.number(first, None)
         while len(self.arcs) < min(len(self.states), most):
             self.arcs.append(self.arcs_from(len(self.arcs)))
-            if wants_all and len(self.states) > most:
+            if wants_all and len(self.states) > most or clock and clock.is_over():
                 raise TooMany
+            if clock:
+                clock.tell(f"{len(self.states)} states are reached, and {len(self.arcs)} were looked at")
 
     def ends_at(self, state):
         """Whether the state is inner, base with its cost, or not allowed. A state with a fault is on no plan."""
@@ -69,10 +72,10 @@ class Reached:
         return self.led + steps[::-1]
 
 
-def drawn_list(play, draw):
-    """A list that is drawn step by step, up to where it ends; None where it leads nowhere."""
+def drawn_list(play, draw, clock=None):
+    """A list that is drawn step by step, up to where it ends; None where it leads nowhere, or the time of `clock` is over."""
     state, steps = play.model.target, []
-    while len(steps) < LONGEST:
+    while len(steps) < LONGEST and not (clock and clock.is_over()):
         try:
             if play.forbidding(state) or play.base_cost(state) is not None:
                 return steps

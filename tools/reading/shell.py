@@ -2,12 +2,11 @@
 
 import argparse
 import os
-import re
 import signal
 import subprocess
 import sys
 
-from . import model
+from . import model, printed, values
 from .places import NAMES, Refused
 
 TOP = os.path.dirname(os.path.dirname(os.path.dirname(os.path.abspath(__file__))))
@@ -84,14 +83,16 @@ def model_of(domain, problem):
 
 
 def steps_of(data):
-    """The lines of the last solution in a text with what `solve` printed; None where there is none."""
-    rows = data.split(b"\n")
-    found = None
-    for k, row in enumerate(rows):
-        words = row.split(b" ")
-        if len(words) == 3 and words[0] == b"solution" and words[2].isdigit():
-            found = rows[k + 1 : k + 1 + int(words[2])]
-    return None if found is None else b"".join(row + b"\n" for row in found)
+    """The lines of the last whole plan in a text with what `solve` printed; None where there is none."""
+    return lines_of_steps(last_whole(printed.Output(printed.text_of(data)).solutions))
+
+
+def last_whole(solutions):
+    return next((one for one in reversed(solutions) if one.is_whole()), None)
+
+
+def lines_of_steps(solution):
+    return None if solution is None else printed.bytes_of("".join(f"{step}\n" for step in solution.steps))
 
 
 def list_of(m, path):
@@ -100,25 +101,53 @@ def list_of(m, path):
 
 
 def list_in(m, data):
-    """The same of a text."""
+    """The same of a text. Where what `solve` printed breaks off within a plan, the one before it is taken."""
     try:
         return model.read_list(m, data)
     except Refused:
-        steps = steps_of(data)
-        if steps is None:
+        found = printed.Output(printed.text_of(data)).solutions
+        if not found:
             raise
-        return model.read_list(m, steps)
+    last = found[-1]
+    if last.torn and len(last.steps) == last.length:
+        steps = steps_in(m, last)
+        if steps is not None and values.replayed(m, steps)[1].cost == last.cost:
+            return steps
+    whole = last_whole(found)
+    if whole is None:
+        raise Stop(f"what `solve` printed breaks off within its first plan: {len(last.steps)} of {last.length} steps are there")
+    if whole is not last:
+        tell(os.path.basename(sys.argv[0]), "what `solve` printed breaks off within its last plan, so the plan before that is taken")
+    return model.read_list(m, lines_of_steps(whole))
+
+
+def steps_in(m, solution):
+    """The steps of a plan that was printed; None where one is no step of the model."""
+    try:
+        return model.read_list(m, lines_of_steps(solution))
+    except Refused:
+        return None
 
 
 def bound_in(data):
     """The bound that a stopped run printed last; None where there is none."""
-    found = re.findall(rb"^bound (-?[0-9]+)\nverdict stopped ", data, re.M)
-    return int(found[-1]) if found else None
+    return printed.Output(printed.text_of(data)).bound
+
+
+def titles_of(m):
+    """What the domain and the problem call themselves."""
+    return [keys[name].text for name, keys in (("domain", m.d), ("problem", m.p)) if name in keys]
 
 
 def gap(best, bound):
     """How far a bound is from the best cost so far, in percent of that cost."""
     return f"a gap of {100 * abs(best - bound) / abs(best):.1f} %" if best else f"a gap of {abs(bound)}"
+
+
+def dypdl():
+    """The command `./dypdl`, among the sources or in a folder without them."""
+    beside = os.path.join(TOP, "..", "..", "bin", "dypdl")
+    return os.path.abspath(beside) if os.path.isfile(beside) and not os.path.isfile(os.path.join(TOP, "dypdl")) else os.path.join(TOP, "dypdl")
 
 
 def program_of(path):

@@ -35,6 +35,29 @@ def shown(value):
     return str(value)
 
 
+def member(o, k):
+    """A member by its name, or by its number where it has none."""
+    return o.names[k] if 0 <= k < len(o.names) else str(k)
+
+
+def ranges_over(m, over):
+    """The object type over which a parameter ranges."""
+    kind, of = over
+    return m.objects[of if kind == "object" else m.variables[of].of]
+
+
+def shown_step(m, step):
+    """The text of a step, with the names of members."""
+    return " ".join([step.transition.name, *(member(ranges_over(m, over), k) for (_, over), k in zip(step.transition.params, step.args))])
+
+
+def shown_of(m, v, value):
+    """The value of a variable, with the names of members."""
+    if v.kind == "set":
+        return "{" + ", ".join(member(m.objects[v.of], k) for k in sorted(value)) + "}"
+    return member(m.objects[v.of], value) if v.kind == "element" else str(value)
+
+
 class Values:
     """The value of each form of expression in a model."""
 
@@ -172,7 +195,7 @@ class Values:
             first = next((k for k in over if not self.of(body, state, (*args, k))), None)
             if first is None:
                 break
-            found.append(f"{name} = {first}")
+            found.append(f"{name} = {member(ranges_over(self.model, (kind, of)), first)}")
             args, tree = (*args, first), body
         return found, tree, args
 
@@ -242,7 +265,7 @@ class Play:
 
     def bound(self, state):
         """The tightest dual bound; None where there is none."""
-        found = [self.value(b, state, (), f"bound {k}") for k, b in enumerate(self.model.bounds, 1)]
+        found = [self.value(b, state, (), f"bound {b.number}") for b in self.model.bounds]
         return (max(found) if self.model.minimize else min(found)) if found else None
 
     def disabling(self, step, state):
@@ -347,11 +370,11 @@ def ended(play, state, cost, step, done):
         return Stop(done, state, reason="AfterBase", why="a base case holds, so the list ends here")
     other = play.forced_before(step, state)
     if other:
-        return Stop(done, state, reason="Forced", why=f"the forced step `{other.text}` is enabled, so it is the only one")
+        return Stop(done, state, reason="Forced", why=f"the forced step `{other.shown}` is enabled, so it is the only one")
     why = play.disabling(step, state)
     if why is None:
         return None
     if why[0] == "parameter":
         _, name, variable, value = why
-        return Stop(done, state, reason="NotEnabled", why=f"{value} is no member of `{variable.name}`, over which `{name}` ranges")
+        return Stop(done, state, reason="NotEnabled", why=f"{member(play.model.objects[variable.of], value)} is no member of `{variable.name}`, over which `{name}` ranges")
     return Stop(done, state, reason="NotEnabled", why=f"precondition {why[1]} is false", part=why[2], args=step.args)

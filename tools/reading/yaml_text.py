@@ -243,14 +243,18 @@ class Reader:
         return k
 
     def add_piece(self, node, i, c, end):
-        node.raw += self.rows[i][c:end]
+        node.raw += self.piece(node, i, c, end)
+
+    def piece(self, node, i, c, end):
+        """The bytes of a piece on one line, with their places."""
         node.sources += [(i + 1, k + 1) for k in range(c, end)]
+        return self.rows[i][c:end]
 
     def plain(self, i, c, flow, parent):
         """A plain scalar with the lines that it goes on over; where it ends."""
-        node = self.node("scalar", i, c)
+        node, pieces = self.node("scalar", i, c), []
         end = self.plain_end(i, c, flow)
-        self.add_piece(node, i, c, end)
+        pieces.append(self.piece(node, i, c, end))
         while end == len(self.rows[i]):
             j, breaks = i + 1, 0
             while j < len(self.rows) and not self.rows[j].strip(BLANKS):
@@ -265,11 +269,11 @@ class Reader:
                     self.refuse(14, j, start)
                 break
             gap = b"\n" * breaks if breaks else b" "
-            node.raw += gap
             node.sources += [(i + 1, end + 1)] * len(gap)
             node.long = True
-            self.add_piece(node, j, start, stop)
+            pieces += [gap, self.piece(node, j, start, stop)]
             i, end = j, stop
+        node.raw = b"".join(pieces)
         return node, i, end
 
     def block_scalar(self, i, c, parent):
