@@ -1,19 +1,29 @@
 -- What a search or a check of the searched model promises, it promises of the model.
-use Rattle.std.proofs.Common.{Bool, true, false, Option, Some, None, subst}
+use Rattle.std.proofs.Common.{Bool, true, false, List, ℕ, Option, Some, None, ℤ, subst}
+use Rattle.dp_claims.specs.Enough.{Has}
+use Rattle.dp_steps.specs.Lists.{Solution}
 use Rattle.dp_model.specs.declared.answers.Options.{Options}
 use Rattle.dp_model.specs.declared.whole.Model.{Model}
 use Rattle.best_ledger.specs.Right.{BestRun, KeepsWordBest, RightBest}
 use Rattle.cert_types.specs.declared.cert.Cert.{Cert}
 use Rattle.cert_laws.specs.Shown.{Shown}
 use Rattle.cert_laws.proofs.Backwards.{law}
-use Rattle.solve_passes.specs.Records.{KeepsWord, Record, Right}
+use Rattle.solve_passes.specs.Records.{KeepsWord, Record, Right, announced_costs}
+use Rattle.kept_model.specs.Parts.{IsKept}
+use Rattle.kept_model.proofs.Choice.{kept_alike}
+use Rattle.kept_model.proofs.Lists.{solution_too}
 use Rattle.kept_model.specs.declared.kept.Kept.{Kept}
 use Rattle.kept_claims.specs.Searched.{ClaimOf, IsSearched, LawSearched, WordOf, WordOfBest}
 use Rattle.kept_claims.proofs.Words.{certified_law, run_best_law, run_law, word_best_law, word_law}
 
+announced : (m : Model) (kept : Kept) (searched : Model) (options : Options) (gap : Bool) (run : Record) → IsKept m kept searched → Right searched options gap run → (c : ℤ) → Has (announced_costs run.passes) c → (steps : List ℕ) × Solution m steps c
+announced m kept searched options gap run is right c has =
+    let there = right.announced.legal c has in
+    (there.0, solution_too m searched (kept_alike m kept searched is) there.0 c there.1)
+
 word : (m : Model) (asked : Bool) (proved : Option Kept) (searched : Model) (options : Options) (gap : Bool) (run : Record) → IsSearched m asked proved searched → Right searched options gap run → KeepsWord searched options run.bound run.ending → WordOf m proved options run
 word m false None searched options gap run is right h = subst (λ (x : Model). KeepsWord x options run.bound run.ending) is h
-word m true (Some kept) searched options gap run is right h = record { legal = run_law m kept searched options gap run is.1 right; ending = word_law m kept searched options run.bound run.ending is.1 is.0 h }
+word m true (Some kept) searched options gap run is right h = record { legal = run_law m kept searched options gap run is.1 right; announced = announced m kept searched options gap run is.1 right; ending = word_law m kept searched options run.bound run.ending is.1 is.0 h }
 word m false (Some kept) searched options gap run is right h = absurd is
 word m true None searched options gap run is right h = absurd is
 

@@ -1,15 +1,16 @@
 -- Which model is searched: the model itself, or what was proved of it; and what the answers then say of the model.
-use Rattle.std.specs.Prelude.{◌≡◌, Bool, true, false, Option, Some, None, IfSome}
+use Rattle.std.specs.Prelude.{◌≡◌, ℕ, Bool, true, false, List, Option, Some, None, IfSome, ℤ}
 use Rattle.std.specs.List.{AllByRecursion}
 use Rattle.dp_model.specs.declared.answers.Found.{Found}
 use Rattle.dp_model.specs.declared.answers.Options.{Options}
 use Rattle.dp_model.specs.declared.whole.Model.{Model}
 use Rattle.dp_steps.specs.Lists.{Solution}
+use Rattle.dp_claims.specs.Enough.{Has}
 use Rattle.best_ledger.specs.Right.{BestRun, KeepsWordBest, RightBest}
 use Rattle.cert_types.specs.declared.cert.Cert.{Cert}
 use Rattle.cert_laws.specs.Laws.{ClaimIsTrue, IsTrusted}
 use Rattle.cert_laws.specs.Shown.{Shown}
-use Rattle.solve_passes.specs.Records.{KeepsWord, Record, Right, solutions}
+use Rattle.solve_passes.specs.Records.{KeepsWord, Record, Right, announced_costs, solutions}
 use Rattle.kept_model.specs.Honesty.{AreHonest}
 use Rattle.kept_model.specs.Parts.{IsKept}
 use Rattle.kept_model.specs.declared.kept.Kept.{Kept}
@@ -23,9 +24,11 @@ IsSearched m true (Some kept) searched = AreHonest m kept × IsKept m kept searc
 IsSearched m false (Some kept) searched = ⊥
 IsSearched m true None searched = ⊥
 
--- What a run says of the model, whatever its dual bounds and preferences say: its solutions are legal lists, and its ending is true.
+-- What a run says of the model, whatever its dual bounds and preferences say: its solutions are legal lists, each cost that it
+-- announces is that of a legal list, and its ending is true.
 pub record IsTrueRun (m : Model) (run : Record) : Type 0 where
   pub legal : AllByRecursion (λ (s : Found). Solution m s.steps s.cost) (solutions run)
+  pub announced : (c : ℤ) → Has (announced_costs run.passes) c → (steps : List ℕ) × Solution m steps c
   pub ending : EndingIsTrue m run.bound run.ending
 
 pub record IsTrueBestRun (m : Model) (run : BestRun) : Type 0 where

@@ -1,5 +1,6 @@
 -- What the status of a check says.
-use Rattle.std.proofs.Common.{◌≡◌, ℕ, ◌⊎◌, inl, inr, Bool, List, Option, refl, sym, subst, ◌∙◌, arith}
+use Rattle.std.proofs.Common.{◌≡◌, ℕ, ◌⊎◌, inl, inr, Bool, List, ◌++◌, Option, refl, sym, subst, ◌∙◌, arith}
+use Rattle.dp_outside.specs.Outside.{Takes}
 use Rattle.dp_model.specs.declared.whole.Model.{Model}
 use Rattle.cert_types.specs.declared.cert.Cert.{Cert}
 use Rattle.cert_laws.specs.Checks.{checked}
@@ -16,17 +17,19 @@ use Rattle.run_ends.specs.Statuses.{code_of}
 use Rattle.run_ends.specs.declared.status.Status.{Status}
 use Rattle.solve_top.specs.Certified.{Certifies, HaveCert, IsCertified, IsRejected}
 use Rattle.solve_top.specs.Jobs.{Asks}
-use Rattle.solve_top.specs.Outcomes.{Outcome, NoMeaning, ReadFault, TooLong, Refused, NoMemory, Solving, SolvingBest, Replayed, Checked, Shown as WasShown, NoGenerated, Generated, ComesOf, Printed, checked_status, outcome_status}
+use Rattle.solve_top.specs.Outcomes.{Outcome, NoMeaning, ReadFault, TooLong, Refused, NoMemory, Solving, SolvingBest, Replayed, Checked, Shown as WasShown, NoGenerated, Generated, ComesOf, Printed, checked_status, checked_text, outcome_status, outcome_text}
+use Rattle.solve_top.specs.Parts.{parts_text}
 use Rattle.solve_top.proofs.Settling.{none_asked, same_job}
 
 -- the status is neither that of a yes nor that of a no
 abbrev IsNeither : ℕ → Type 0
 IsNeither code = (code ≡ 0 → ⊥) × (code ≡ 10 → ⊥)
 
--- what an outcome of a check is: this was told of a certificate, or it tells nothing of one
-abbrev Tells : (List ℕ → Option (List ℕ)) → (domain problem text : List ℕ) → (asked : Bool) → Status → Type 0
-Tells files domain problem text asked status =
-    ((m : Model) × (proved : Option Kept) × (searched : Model) × (cert : Cert) × HaveCert files domain problem text m cert × IsSearched m asked proved searched × (status ≡ checked_status (checked searched cert))) ⊎ IsNeither (code_of status)
+-- what an outcome of a check is: this was told of a certificate, and taken; or it tells nothing of one
+abbrev Tells : (List ℕ → Option (List ℕ)) → (domain problem text : List ℕ) → (asked : Bool) → (before after : Option (List ℕ)) → Status → Type 0
+Tells files domain problem text asked before after status =
+    ((m : Model) × (proved : Option Kept) × (searched : Model) × (cert : Cert) × HaveCert files domain problem text m cert × IsSearched m asked proved searched
+    × (status ≡ checked_status (checked searched cert)) × Takes before after (parts_text m proved ++ checked_text cert.claim (checked searched cert))) ⊎ IsNeither (code_of status)
 
 none_told : (n : ℕ) → n ≡ 2 ⊎ (n ≡ 3 ⊎ (n ≡ 4 ⊎ (n ≡ 5 ⊎ (n ≡ 6 ⊎ (n ≡ 7))))) → IsNeither n
 none_told n (inl h) = (λ is. absurd (omega (arith, h, is)), λ is. absurd (omega (arith, h, is)))
@@ -36,23 +39,23 @@ none_told n (inr (inr (inr (inl h)))) = (λ is. absurd (omega (arith, h, is)), �
 none_told n (inr (inr (inr (inr (inl h))))) = (λ is. absurd (omega (arith, h, is)), λ is. absurd (omega (arith, h, is)))
 none_told n (inr (inr (inr (inr (inr h))))) = (λ is. absurd (omega (arith, h, is)), λ is. absurd (omega (arith, h, is)))
 
-module _ (words : List (List ℕ)) (files : List ℕ → Option (List ℕ)) (domain problem text : List ℕ) (asked : Bool) (asks : Asks words (jobs.Check domain problem text asked)) where
+module _ (words : List (List ℕ)) (files : List ℕ → Option (List ℕ)) (domain problem text : List ℕ) (asked : Bool) (before after : Option (List ℕ)) (asks : Asks words (jobs.Check domain problem text asked)) where
   other : (job : Job) → Asks words job → job ≡ jobs.Check domain problem text asked
   other job also = same_job words job (jobs.Check domain problem text asked) also asks
 
-  tells_as : (outcome : Outcome) → ComesOf words files outcome → Tells files domain problem text asked (outcome_status outcome)
-  tells_as NoMeaning h = absurd (none_asked words (jobs.Check domain problem text asked) asks h)
-  tells_as (ReadFault file) h = inr (none_told 4 (inr (inr (inl refl))))
-  tells_as (TooLong file) h = inr (none_told 7 (inr (inr (inr (inr (inr refl))))))
-  tells_as (Refused r) h = inr (none_told 3 (inr (inl refl)))
-  tells_as NoMemory h = inr (none_told 6 (inr (inr (inr (inr (inl refl))))))
-  tells_as (Solving m proved searched search run behind) h = let same : jobs.Solve h.0 h.1 search ≡ jobs.Check domain problem text asked = other (jobs.Solve h.0 h.1 search) h.2 in absurd cc
-  tells_as (SolvingBest m proved searched search run behind) h = let same : jobs.Solve h.0 h.1 search ≡ jobs.Check domain problem text asked = other (jobs.Solve h.0 h.1 search) h.2 in absurd cc
-  tells_as (Replayed m steps told) h = let same : jobs.Replay h.0 h.1 h.2 ≡ jobs.Check domain problem text asked = other (jobs.Replay h.0 h.1 h.2) h.3 in absurd cc
-  tells_as (WasShown m) h = let same : jobs.Show h.0 h.1 ≡ jobs.Check domain problem text asked = other (jobs.Show h.0 h.1) h.2 in absurd cc
-  tells_as (NoGenerated kind size seed refusal) h = let same : jobs.Gen kind size seed h.0 ≡ jobs.Check domain problem text asked = other (jobs.Gen kind size seed h.0) h.1 in absurd cc
-  tells_as (Generated kind size seed m options run) h = let same : jobs.Gen kind size seed h.0 ≡ jobs.Check domain problem text asked = other (jobs.Gen kind size seed h.0) h.1 in absurd cc
-  tells_as (Checked m proved searched cert told) h =
+  tells_as : (outcome : Outcome) → ComesOf words files outcome → Takes before after (outcome_text outcome) → Tells files domain problem text asked before after (outcome_status outcome)
+  tells_as NoMeaning h took = absurd (none_asked words (jobs.Check domain problem text asked) asks h)
+  tells_as (ReadFault file) h took = inr (none_told 4 (inr (inr (inl refl))))
+  tells_as (TooLong file) h took = inr (none_told 7 (inr (inr (inr (inr (inr refl))))))
+  tells_as (Refused r) h took = inr (none_told 3 (inr (inl refl)))
+  tells_as NoMemory h took = inr (none_told 6 (inr (inr (inr (inr (inl refl))))))
+  tells_as (Solving m proved searched search run behind) h took = let same : jobs.Solve h.0 h.1 search ≡ jobs.Check domain problem text asked = other (jobs.Solve h.0 h.1 search) h.2 in absurd cc
+  tells_as (SolvingBest m proved searched search run behind) h took = let same : jobs.Solve h.0 h.1 search ≡ jobs.Check domain problem text asked = other (jobs.Solve h.0 h.1 search) h.2 in absurd cc
+  tells_as (Replayed m steps told) h took = let same : jobs.Replay h.0 h.1 h.2 ≡ jobs.Check domain problem text asked = other (jobs.Replay h.0 h.1 h.2) h.3 in absurd cc
+  tells_as (WasShown m) h took = let same : jobs.Show h.0 h.1 ≡ jobs.Check domain problem text asked = other (jobs.Show h.0 h.1) h.2 in absurd cc
+  tells_as (NoGenerated kind size seed refusal) h took = let same : jobs.Gen kind size seed h.0 ≡ jobs.Check domain problem text asked = other (jobs.Gen kind size seed h.0) h.1 in absurd cc
+  tells_as (Generated kind size seed m options run) h took = let same : jobs.Gen kind size seed h.0 ≡ jobs.Check domain problem text asked = other (jobs.Gen kind size seed h.0) h.1 in absurd cc
+  tells_as (Checked m proved searched cert told) h took =
       let same : jobs.Check h.0 h.1 h.2 h.3 ≡ jobs.Check domain problem text asked = other (jobs.Check h.0 h.1 h.2 h.3) h.4 in
       let d : h.0 ≡ domain = cc in
       let p : h.1 ≡ problem = cc in
@@ -62,35 +65,60 @@ module _ (words : List (List ℕ)) (files : List ℕ → Option (List ℕ)) (dom
       let second : HaveCert files domain problem h.2 m cert = subst (λ (name : List ℕ). HaveCert files domain name h.2 m cert) p first in
       let third : HaveCert files domain problem text m cert = subst (λ (name : List ℕ). HaveCert files domain problem name m cert) t second in
       let is : IsSearched m asked proved searched = subst (λ (x : Bool). IsSearched m x proved searched) a h.6 in
-      inl (m, proved, searched, cert, third, is, subst (λ (x : Findings). checked_status told ≡ checked_status x) h.7 refl)
+      inl (
+        m,
+        proved,
+        searched,
+        cert,
+        third,
+        is,
+        subst (λ (x : Findings). checked_status told ≡ checked_status x) h.7 refl,
+        subst (λ (x : Findings). Takes before after (parts_text m proved ++ checked_text cert.claim x)) h.7 took,
+      )
 
   -- what the status that was answered says
-  tells : (before after : Option (List ℕ)) (outcome : Outcome) (status : Status) → ComesOf words files outcome → Printed before after outcome status → Tells files domain problem text asked status
-  tells before after outcome status comes (inl h) = subst (Tells files domain problem text asked) (sym h.0) (tells_as outcome comes)
-  tells before after outcome status comes (inr h) = subst (Tells files domain problem text asked) (sym h.0) (inr (none_told 5 (inr (inr (inr (inl refl))))))
+  tells : (outcome : Outcome) (status : Status) → ComesOf words files outcome → Printed before after outcome status → Tells files domain problem text asked before after status
+  tells outcome status comes (inl h) = subst (Tells files domain problem text asked before after) (sym h.0) (tells_as outcome comes h.1)
+  tells outcome status comes (inr h) = subst (Tells files domain problem text asked before after) (sym h.0) (inr (none_told 5 (inr (inr (inr (inl refl))))))
 
   -- a yes and a no are told apart by the status
-  yes_by : (m : Model) (cert : Cert) (told : Findings) → told ≡ checked m cert → code_of (checked_status told) ≡ 0 → Shown m cert
-  yes_by m cert findings.Yes is code = (yes_law m cert).0 (sym is)
-  yes_by m cert (findings.No line reason) is code = absurd (omega (arith, code))
+  certified_by : (m : Model) (proved : Option Kept) (searched : Model) (cert : Cert) (told : Findings) → HaveCert files domain problem text m cert → IsSearched m asked proved searched → checked searched cert ≡ told → code_of (checked_status told) ≡ 0
+      → Takes before after (parts_text m proved ++ checked_text cert.claim told) → IsCertified files domain problem text asked before after
+  certified_by m proved searched cert findings.Yes texts is_searched is code took =
+      let shown : Shown searched cert = (yes_law searched cert).0 is in
+      record { model = m; proved = proved; searched = searched; cert = cert; texts = texts; is_searched = is_searched; shown = shown; claim = searched_law.claim m asked proved searched cert is_searched shown; taken = took }
+  certified_by m proved searched cert (findings.No number reason) texts is_searched is code took = absurd (omega (arith, code))
 
-  no_by : (m : Model) (cert : Cert) (told : Findings) → told ≡ checked m cert → code_of (checked_status told) ≡ 10 → Shown m cert → ⊥
-  no_by m cert findings.Yes is code shown = absurd (omega (arith, code))
-  no_by m cert (findings.No line reason) is code shown = let clash : findings.No line reason ≡ findings.Yes = is ∙ (yes_law m cert).1 shown in absurd cc
+  rejected_by : (m : Model) (proved : Option Kept) (searched : Model) (cert : Cert) (told : Findings) → HaveCert files domain problem text m cert → IsSearched m asked proved searched → checked searched cert ≡ told → code_of (checked_status told) ≡ 10
+      → Takes before after (parts_text m proved ++ checked_text cert.claim told) → IsRejected files domain problem text asked before after
+  rejected_by m proved searched cert findings.Yes texts is_searched is code took = absurd (omega (arith, code))
+  rejected_by m proved searched cert (findings.No number reason) texts is_searched is code took =
+      record {
+        model = m;
+        proved = proved;
+        searched = searched;
+        cert = cert;
+        number = number;
+        reason = reason;
+        texts = texts;
+        is_searched = is_searched;
+        not_shown = λ shown. let clash : findings.No number reason ≡ findings.Yes = sym is ∙ (yes_law searched cert).1 shown in absurd cc;
+        first = is;
+        taken = took;
+      }
 
-  certified : (status : Status) → Tells files domain problem text asked status → code_of status ≡ 0 → IsCertified files domain problem text asked
-  certified status (inl (m, proved, searched, cert, texts, is_searched, is)) code =
-      let shown : Shown searched cert = yes_by searched cert (checked searched cert) refl (subst (λ (s : Status). code_of s ≡ 0) is code) in
-      record { model = m; proved = proved; searched = searched; cert = cert; texts = texts; is_searched = is_searched; shown = shown; claim = searched_law.claim m asked proved searched cert is_searched shown }
+  certified : (status : Status) → Tells files domain problem text asked before after status → code_of status ≡ 0 → IsCertified files domain problem text asked before after
+  certified status (inl (m, proved, searched, cert, texts, is_searched, is, took)) code =
+      certified_by m proved searched cert (checked searched cert) texts is_searched refl (subst (λ (s : Status). code_of s ≡ 0) is code) took
   certified status (inr neither) code = absurd (neither.0 code)
 
-  rejected : (status : Status) → Tells files domain problem text asked status → code_of status ≡ 10 → IsRejected files domain problem text asked
-  rejected status (inl (m, proved, searched, cert, texts, is_searched, is)) code =
-      record { model = m; proved = proved; searched = searched; cert = cert; texts = texts; is_searched = is_searched; not_shown = no_by searched cert (checked searched cert) refl (subst (λ (s : Status). code_of s ≡ 10) is code) }
+  rejected : (status : Status) → Tells files domain problem text asked before after status → code_of status ≡ 10 → IsRejected files domain problem text asked before after
+  rejected status (inl (m, proved, searched, cert, texts, is_searched, is, took)) code =
+      rejected_by m proved searched cert (checked searched cert) texts is_searched refl (subst (λ (s : Status). code_of s ≡ 10) is code) took
   rejected status (inr neither) code = absurd (neither.1 code)
 
-pub certifies : (words : List (List ℕ)) (files : List ℕ → Option (List ℕ)) (before after : Option (List ℕ)) (outcome : Outcome) (status : Status) → ComesOf words files outcome → Printed before after outcome status → Certifies words files (code_of status)
+pub certifies : (words : List (List ℕ)) (files : List ℕ → Option (List ℕ)) (before after : Option (List ℕ)) (outcome : Outcome) (status : Status) → ComesOf words files outcome → Printed before after outcome status → Certifies words files before after (code_of status)
 certifies words files before after outcome status comes printed = record {
-  yes = λ domain problem text asked asks code. certified words files domain problem text asked asks status (tells words files domain problem text asked asks before after outcome status comes printed) code;
-  no = λ domain problem text asked asks code. rejected words files domain problem text asked asks status (tells words files domain problem text asked asks before after outcome status comes printed) code;
+  yes = λ domain problem text asked asks code. certified words files domain problem text asked before after asks status (tells words files domain problem text asked before after asks outcome status comes printed) code;
+  no = λ domain problem text asked asks code. rejected words files domain problem text asked before after asks status (tells words files domain problem text asked before after asks outcome status comes printed) code;
 }

@@ -8,3 +8,4 @@ pub mod Settling
 pub mod Certifying
 pub mod Behinds
 pub mod Searching
+pub mod Wholes

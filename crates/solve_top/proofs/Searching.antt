@@ -44,7 +44,7 @@ none_announced announce = λ k p at. absurd (cc)
 
 word_of_none : (m : Model) (proved : Option Kept) (options : Options) → WordOf m proved options no_run
 word_of_none m None options = tt
-word_of_none m (Some kept) options = record { legal = tt; ending = tt }
+word_of_none m (Some kept) options = record { legal = tt; announced = λ c has. let clash : None ≡ Some c = has.1 in absurd (cc); ending = tt }
 
 word_of_no_best : (m : Model) (proved : Option Kept) (options : Options) → WordOfBest m proved options no_best_run
 word_of_no_best m None options = tt

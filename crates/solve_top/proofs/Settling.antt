@@ -87,13 +87,13 @@ best_ends_well m options r best.OutOfMemory right can = memory
 no_fault_too : (m : Model) (kept : Kept) (other : Model) (prune : Bool) → IsKept m kept other → MeetsNone m prune → MeetsNone other prune
 no_fault_too m kept other prune is none steps spot kind meets = let there = faults_law m kept other is prune steps spot kind meets in none steps there.0 there.1 there.2
 
-ends_too : (m : Model) (asked : Bool) (proved : Option Kept) (searched : Model) (options : Options) → IsSearched m asked proved searched → CanEnd m options → CanEnd searched options
+pub ends_too : (m : Model) (asked : Bool) (proved : Option Kept) (searched : Model) (options : Options) → IsSearched m asked proved searched → CanEnd m options → CanEnd searched options
 ends_too m false None searched options is can = subst (λ (x : Model). CanEnd x options) (sym is) can
 ends_too m true (Some kept) searched options is can = record { no_fault = no_fault_too m kept searched options.prune is.1 can.no_fault; enough = enough_law m kept searched is.1 options.keep options.budget can.enough }
 ends_too m false (Some kept) searched options is can = absurd is
 ends_too m true None searched options is can = absurd is
 
-best_ends_too : (m : Model) (asked : Bool) (proved : Option Kept) (searched : Model) (options : Options) → IsSearched m asked proved searched → CanEndBest m options → CanEndBest searched options
+pub best_ends_too : (m : Model) (asked : Bool) (proved : Option Kept) (searched : Model) (options : Options) → IsSearched m asked proved searched → CanEndBest m options → CanEndBest searched options
 best_ends_too m false None searched options is can = subst (λ (x : Model). CanEndBest x options) (sym is) can
 best_ends_too m true (Some kept) searched options is can = record { no_fault = no_fault_too m kept searched options.prune is.1 can.no_fault; enough = λ below. can.enough (enough_best_law m kept searched is.1 options.budget below) }
 best_ends_too m false (Some kept) searched options is can = absurd is
@@ -210,6 +210,17 @@ module _ (words : List (List ℕ)) (files : List ℕ → Option (List ℕ)) (dom
   settles_as (Generated kind size seed other also run) h =
       let same : jobs.Gen kind size seed h.0 ≡ jobs.Solve domain problem search = same_job words (jobs.Gen kind size seed h.0) (jobs.Solve domain problem search) h.1 asks in
       absurd cc
+
+-- the same, for those who know what is asked for
+pub settled_outcome : (words : List (List ℕ)) (files : List ℕ → Option (List ℕ)) (domain problem first second : List ℕ) (search : Search) (m : Model) → Asks words (jobs.Solve domain problem search)
+    → files domain ≡ Some first → IsShort first → files problem ≡ Some second → IsShort second → Means first second m → CanEndBy search.engine m search.options
+    → (outcome : Outcome) → ComesOf words files outcome → IsSettled (code_of (outcome_status outcome))
+settled_outcome words files domain problem first second search m asks told short told' short' means can outcome comes = settles_as words files domain problem first second search m asks told short told' short' means can outcome comes
+
+pub the_same_model : (words : List (List ℕ)) (files : List ℕ → Option (List ℕ)) (domain problem first second : List ℕ) (search : Search) (m : Model) → Asks words (jobs.Solve domain problem search)
+    → files domain ≡ Some first → IsShort first → files problem ≡ Some second → IsShort second → Means first second m → CanEndBy search.engine m search.options
+    → (other : Model) (d p : List ℕ) → d ≡ domain → p ≡ problem → OfTexts files (d ∷ p ∷ []) (λ texts. MeanModel texts other) → other ≡ m
+the_same_model words files domain problem first second search m asks told short told' short' means can other d p same also h = the_other words files domain problem first second search m asks told short told' short' means can other d p same also h
 
 printed_code : (before after : Option (List ℕ)) (outcome : Outcome) (status : Status) → Printed before after outcome status → IsSettled (code_of (outcome_status outcome)) → IsSettled (code_of status)
 printed_code before after outcome status (inl h) settled = subst (λ (s : Status). IsSettled (code_of s)) (sym h.0) settled

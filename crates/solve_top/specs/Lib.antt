@@ -7,3 +7,4 @@ pub mod Answers
 pub mod Certified
 pub mod Behind
 pub mod Parts
+pub mod Wholes

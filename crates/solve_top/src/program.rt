@@ -19,6 +19,7 @@ ghost use Rattle.solve_top.specs.Outcomes.{Outcome, Checks, NoMeaning, ComesOf, 
 ghost use Rattle.solve_top.specs.Outcomes as outcomes;
 ghost use Rattle.solve_top.specs.Parts.{part_lines};
 ghost use Rattle.solve_top.specs.Runs.{outcome_of};
+ghost use Rattle.solve_top.specs.Wholes.{SettlesWhole};
 ghost use Rattle.solve_top.specs.declared.causes.NoModel.TheVariants as causes;
 
 use crate::causes::NoModel;
@@ -429,7 +430,8 @@ pub fn run<R: Threads + Wait + Sync, F: Shelf, S: Sink, G: Gate>(
     ensures settles { SettlesFiles (map string_bytes words.now.items) (F.bytes_under shelf.old) result }
     ensures settles_small { SettlesSmall (map string_bytes words.now.items) (F.bytes_under shelf.old) result }
     ensures settles_generated { SettlesGenerated (map string_bytes words.now.items) result }
-    ensures certifies { Certifies (map string_bytes words.now.items) (F.bytes_under shelf.old) result }
+    ensures settles_whole { SettlesWhole (map string_bytes words.now.items) (F.bytes_under shelf.old) (S.taken out.old) (S.taken out.new) result }
+    ensures certifies { Certifies (map string_bytes words.now.items) (F.bytes_under shelf.old) (S.taken out.old) (S.taken out.new) result }
 {
     perform(rt, alloc, words, shelf, out, gate).code()
 }
