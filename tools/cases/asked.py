@@ -10,7 +10,7 @@ def stop(what):
 
 
 def asked(doc, least=0, most=None, first=None, numbers=False):
-    """The words behind the program's name. The first may have to be a "program" or a "folder", the others numbers. All of
+    """The words behind the program's name. The first may have to be a "program", a "folder", or a "folder or stored", the others numbers. All of
     these programs are run from the top of the repository."""
     words = sys.argv[1:]
     if words[:1] in (["--help"], ["-h"]):
@@ -22,6 +22,8 @@ def asked(doc, least=0, most=None, first=None, numbers=False):
         stop(f"{least} to {most} words are wanted" if least != most and most is not None else f"{least} words are wanted, or more" if most is None else f"{least} words are wanted")
     if words and first == "program" and not (os.path.isfile(words[0]) and os.access(words[0], os.X_OK)):
         stop(f"{words[0]} is no program that can be run")
+    if words and first == "folder or stored" and words[0] != "stored" and not os.path.isdir(words[0]):
+        stop(f"{words[0]} is no folder, nor `stored`")
     if words and first == "folder" and not os.path.isdir(words[0]):
         stop(f"{words[0]} is no folder")
     if numbers and not all(word.isdigit() for word in words[1:]):

@@ -1,10 +1,11 @@
 #!/usr/bin/env python3
-"""Writes the cases of crates/cases_runs and what they must give, the front of its stdout: runs.py VECTORS, from the top of the
+"""Writes the cases of crates/cases_runs and what they must give, the front of its stdout: runs.py VECTORS|stored, from the top of the
 repository. Those whose texts are made when they run are written by made_runs.py.
 
 VECTORS is a folder with the files that TABLES names: lists of models, each with the words of a run and with the output
-and the status that a program which shares no code with the solver worked out. The other runs, with their answers, stand
-in small_runs.py, rule_runs.py, certificate_runs.py, check_runs.py and proved_runs.py, written by hand; in docs/GUIDE.md and docs/LANGUAGE.md, from where guide_runs.py
+and the status that a program which shares no code with the solver worked out. It is not part of the repository: with the word `stored` in its place the
+cases of these tables stay as they are stored. The other runs, with their answers, stand
+in small_runs.py, guard_runs.py, rule_runs.py, certificate_runs.py, check_runs.py and proved_runs.py, written by hand; in docs/GUIDE.md and docs/LANGUAGE.md, from where guide_runs.py
 and language_runs.py take them; and models_check.py works out those of the models of models/. Texts and words that mean no good are in
 hostile_runs.py.
 
@@ -12,11 +13,13 @@ A case is its title, its texts, its runs (words, output, status), and its runs o
 the lines before it depend on how the workers of a search take turns."""
 
 import json
+import re
 from collections import Counter
 from pathlib import Path
 
 import certificate_runs
 import check_runs
+import guard_runs
 import guide_runs
 import hostile_runs
 import language_runs
@@ -88,6 +91,26 @@ def of_vectors(folder, name, table, most):
             yield title, texts, [(words, case["stdout"], case["status"])]
 
 
+def standing(name, front):
+    """The cases of one table as they are stored: the next ones of the front of stdout, as many as its file has."""
+    with open(f"{CRATE}/data/{name}.txt", encoding="ascii") as file:
+        count = sum(line.startswith("case ") for line in file)
+    places = [0, *(place.start() + 1 for place in re.finditer("\n== ", front))]
+    end = places[count] if count < len(places) else len(front)
+    return front[:end], front[end:]
+
+
+def of_tables(folder):
+    """The cases of all tables: written anew from the folder, or else as they are stored."""
+    if folder != "stored":
+        return [write(name, of_vectors(folder, name, table, most)) for name, table, most in TABLES]
+    out, front = [], stored.parts()[0]
+    for name, _, _ in TABLES:
+        text, front = standing(name, front)
+        out.append(text)
+    return out
+
+
 def of_models():
     """The runs of the models of models/, with the answers that models_check.py works out from the problems themselves."""
     for problem in PROBLEMS:
@@ -126,9 +149,9 @@ def write(name, cases):
 
 
 def main(folder):
-    out = [write(name, of_vectors(folder, name, table, most)) for name, table, most in TABLES]
+    out = of_tables(folder)
     out.append(write("small", RUNS))
-    out.append(write("orders", ORDERS + RULES))
+    out.append(write("orders", ORDERS + RULES + guard_runs.RUNS))
     out.append(write("models", of_models()))
     out.append(write("guide", [*guide_runs.cases(), *language_runs.cases()]))
     out.append(write("certificates", certificate_runs.RUNS + check_runs.RUNS))
@@ -137,4 +160,4 @@ def main(folder):
     stored.write_front("".join(out))
 
 
-main(asked(__doc__, 1, 1, "folder")[0])
+main(asked(__doc__, 1, 1, "folder or stored")[0])

@@ -1,11 +1,14 @@
 #!/usr/bin/env python3
-"""Writes the cases of crates/cases_texts and what they must give: texts.py VECTORS, from the top of the repository.
+"""Writes the cases of crates/cases_texts and what they must give: texts.py VECTORS|stored, from the top of the repository.
 
 VECTORS is a folder with yaml_profile.json and expressions.json: lists of texts, each with its tree or expression, or
-with its refusal, worked out by programs that share no code with the readers. Block scalars stand in block_texts.py, also where the
+with its refusal, worked out by programs that share no code with the readers. It is not part of the repository: with the word `stored` in its place their
+answers stay as they are stored. Block scalars stand in block_texts.py, also where the
 table refuses them; texts that each hold one rule of the profile stand in profile_texts.py. The lines of files are worked out here."""
 
 import json
+from itertools import takewhile
+from pathlib import Path
 
 from asked import asked
 from block_texts import READ, REFUSED
@@ -13,6 +16,9 @@ from case_lines import entry, escaped, unescaped_bytes
 from profile_texts import TEXTS
 
 CRATE = "crates/cases_texts"
+
+# It stands behind the texts of the tables.
+NOT_UTF8 = b"a: \xff\n"
 
 FILES = [
     b"", b"\n", b"\n\n", b"a", b"a\n", b"a\nb", b"a\r\nb\r\n", b"\r\n", b"a\r\r\n", b"a\rb\n", b"a\r",
@@ -92,19 +98,36 @@ def expression(form):
 def read(folder, name, key, shown):
     with open(f"{folder}/{name}.json", encoding="utf-8") as file:
         for case in json.load(file):
-            yield case["text"], f"refused {case['refused']}" if "refused" in case else shown(case[key])
+            yield case["text"].encode(), f"refused {case['refused']}" if "refused" in case else shown(case[key])
+
+
+def stored_answers(key):
+    """The texts of one kind as they are stored, each with its answer."""
+    lines = Path(CRATE, "stdout").read_text(encoding="ascii").splitlines()
+    for line, answer in zip(lines[::2], lines[1::2]):
+        kind, _, text = line.split(" ", 2)
+        if kind == key:
+            yield unescaped_bytes(text[1:-1]), answer.strip()
+
+
+def of_tables(folder):
+    """The texts with trees and those with expressions, from the tables or as they are stored."""
+    if folder != "stored":
+        return [*read(folder, "yaml_profile", "tree", tree)], [*read(folder, "expressions", "expr", expression)]
+    return [*takewhile(lambda it: it[0] != NOT_UTF8, stored_answers("yaml"))], [*stored_answers("expression")]
 
 
 def main(folder):
+    trees, expressions = of_tables(folder)
     blocks = {unescaped_bytes(text): answer for text, answer in READ + REFUSED}
-    yaml = [("yaml", text, blocks.pop(text.encode(), answer)) for text, answer in read(folder, "yaml_profile", "tree", tree)]
-    yaml.append(("yaml", b"a: \xff\n", "refused 1:4 10 NotUtf8"))
+    yaml = [("yaml", text, blocks.pop(text, answer)) for text, answer in trees]
+    yaml.append(("yaml", NOT_UTF8, "refused 1:4 10 NotUtf8"))
     yaml += [("yaml", *it) for it in blocks.items()]
     yaml += [("yaml", unescaped_bytes(text), answer) for text, answer in TEXTS]
     cases = {
         "lines": [("lines", it, lines_of(it)) for it in FILES],
         "yaml": yaml,
-        "expressions": [("expression", *it) for it in read(folder, "expressions", "expr", expression)],
+        "expressions": [("expression", *it) for it in expressions],
     }
     out = []
     for name, rows in cases.items():
@@ -116,4 +139,4 @@ def main(folder):
         file.writelines(out)
 
 
-main(asked(__doc__, 1, 1, "folder")[0])
+main(asked(__doc__, 1, 1, "folder or stored")[0])
