@@ -2,11 +2,12 @@
 which says whether it is proved; behind it what the search prints of the model without those that are not.
 
 `RUNS` are cases as in small_runs.py. Those of `OPEN` lie, so that no checker may ever prove them. What the parts of `TRUE` are told as is the
-checker's own affair, as long as it is true."""
+checker's own affair, as long as it is true; model_parts.py has the models of models/."""
 
+import model_parts
 from certificate_runs import JUMP_HEAD, START, head, whole
 from small_runs import (
-    CLIMB, FALSE_BOUND, FALSE_BOUND_OFF, JUMP_BEST, JUMP_OUT, JUMP_STOPPED, RESOURCE, RESOURCE_FROM, RESOURCE_OFF, TOUR, TOUR_OF_FOUR, USAGE, problem, told, words,
+    CLIMB, FALSE_BOUND, FALSE_BOUND_OFF, JUMP_BEST, JUMP_OUT, JUMP_STOPPED, RESOURCE, RESOURCE_FROM, RESOURCE_OFF, TOUR, TOUR_BEST, TOUR_BOUND_OUT, TOUR_OF_FOUR, TOUR_OUT, USAGE, problem, told, words,
 )
 
 # Each list costs 5 or 6, and the bound says that none costs less than 100.
@@ -50,13 +51,19 @@ PROVED = words("solve d p --prune proved")
 CERTIFIED = words("solve d p --prune proved --certificate on")
 CHECKED = words("check d p l --prune proved")
 
-# Pruning is by nothing here, so all is visited.
-TOUR_ALL = told(
-    "solution 16 4", "visit 1", "visit 2", "visit 3", "return", "pass 1 share 1 visited 4 dropped 1",
-    "solution 14 4", "visit 2", "visit 3", "visit 1", "return", "pass 2 share 2 visited 7 dropped 1",
-    "pass 3 share 4 visited 8 dropped 0", "verdict optimal 14",
-)
-TOUR_PARTS = told("bound 1 open", "preference time open")
+TOUR_PARTS = told("bound 1 proved", "preference time open")
+
+# Each step costs no less than what this bound falls by.
+FALLING = CLIMB + "dual_bounds:\n  - (- 3 x)\n"
+FALLING_OUT = told("solution 5 1", "jump", "pass 1 share 1 visited 2 dropped 0", "verdict optimal 5")
+FALLING_CERT = head("layer", "on", *JUMP_HEAD) + told("layer 0 1", "node - open", "layer 1 1", "node 0 open inc", "end 2")
+
+# It says no more than the truth, but behind the first step it says less than what is left of it there: no single step shows that it is true.
+NOT_BY_STEPS = CLIMB + "dual_bounds:\n  - (if (= x 0) 5 0)\n"
+
+# The second bound is proved, and has no value where x is more than 0.
+WITHOUT_VALUE = FALLING + "  - (- (- 0 4611686018427387903) x)\n"
+WITHOUT_VALUE_OUT = told("bound 1 proved", "bound 2 proved", "pass 1 share 1 visited 1 dropped 0", "verdict fault Range at bound 2 after 1", "inc")
 
 # No read of these gives a job.
 MISUSES = (
@@ -107,10 +114,25 @@ def others():
 
 
 def true():
-    yield "proved: a tour", [("domain", TOUR), ("problem", TOUR_OF_FOUR)], [(PROVED, TOUR_PARTS + TOUR_ALL, 0)]
+    start = ("problem", problem("a", "x", 0))
+    yield "proved: a bound that falls no faster than costs rise", [("domain", FALLING), start], [
+        (PROVED, "bound 1 proved\n" + FALLING_OUT, 0),
+        (words("solve d p --prune proved --engine best"), "bound 1 proved\n" + told("solution 5 1", "jump", "search visited 2", "verdict optimal 5"), 0),
+        (CERTIFIED, "bound 1 proved\n" + FALLING_OUT + FALLING_CERT, 0),
+    ]
+    yield "proved: that bound, checked", [("list", FALLING_OUT + FALLING_CERT)], [(CHECKED, "bound 1 proved\nverdict certified optimal 5\n", 0)]
+    yield "proved: a bound behind one that lies", [("domain", CLIMB + "dual_bounds:\n  - (+ 100 x)\n  - (- 3 x)\n")], [(PROVED, OPEN_BOUND + "bound 2 open\n" + JUMP_OUT, 0)]
+    yield "proved: a bound before one that lies", [("domain", FALLING + "  - (+ 100 x)\n")], [(PROVED, "bound 1 proved\nbound 2 open\n" + FALLING_OUT, 0)]
+    yield "proved: a true bound that no single step shows", [("domain", NOT_BY_STEPS)], [(words("solve d p"), JUMP_OUT, 0), (PROVED, OPEN_BOUND + JUMP_OUT, 0)]
+    yield "proved: a bound that is proved and has no value", [("domain", WITHOUT_VALUE)], [(PROVED, WITHOUT_VALUE_OUT, 12)]
+    yield "proved: a tour", [("domain", TOUR), ("problem", TOUR_OF_FOUR)], [
+        (PROVED, TOUR_PARTS + TOUR_OUT, 0),
+        (words("solve d p --prune proved --gap on --budget 5"), TOUR_PARTS + TOUR_BOUND_OUT, 11),
+        (words("solve d p --prune proved --engine best"), TOUR_PARTS + TOUR_BEST, 0),
+    ]
     yield "proved: a resource", [("domain", RESOURCE), ("problem", RESOURCE_FROM)], [(PROVED, "preference r open\n" + RESOURCE_OFF, 0)]
 
 
 OPEN = [*climbs(), *more_lies(), *others()]
 TRUE = [*true()]
-RUNS = OPEN + TRUE
+RUNS = OPEN + TRUE + model_parts.RUNS

@@ -1,8 +1,9 @@
 -- Which model is searched: the model itself, or what was proved of it; and what the answers then say of the model.
-use Rattle.std.specs.Prelude.{◌≡◌, ℕ, Bool, true, false, List, Option, Some, None, IfSome, ℤ}
+use Rattle.std.specs.Prelude.{◌≡◌, ℕ, Bool, true, false, List, slice_get, Option, Some, None, IfSome, ℤ}
 use Rattle.std.specs.List.{AllByRecursion}
 use Rattle.dp_model.specs.declared.answers.Found.{Found}
 use Rattle.dp_model.specs.declared.answers.Options.{Options}
+use Rattle.dp_model.specs.declared.trees.Num.{Num}
 use Rattle.dp_model.specs.declared.whole.Model.{Model}
 use Rattle.dp_steps.specs.Lists.{Solution}
 use Rattle.dp_claims.specs.Enough.{Has}
@@ -16,11 +17,15 @@ use Rattle.kept_model.specs.Parts.{IsKept}
 use Rattle.kept_model.specs.declared.kept.Kept.{Kept}
 use Rattle.kept_claims.specs.Words.{BestEndingIsTrue, EndingIsTrue}
 
+-- Each dual bound that is searched has the number that it has in the model, so that a fault of it is told by that number.
+abbrev pub HaveNumbers : (m searched : Model) → Type 0
+HaveNumbers m searched = (i : ℕ) (e : Num) → slice_get searched.bounds i ≡ Some e → slice_get m.bounds i ≡ Some e
+
 -- Pruning by what is proved alone is asked for or not. If it is, these parts were proved to be honest, and the model is searched with
 -- them alone; else the model itself is searched.
 abbrev pub IsSearched : Model → (asked : Bool) → (proved : Option Kept) → (searched : Model) → Type 0
 IsSearched m false None searched = searched ≡ m
-IsSearched m true (Some kept) searched = AreHonest m kept × IsKept m kept searched
+IsSearched m true (Some kept) searched = AreHonest m kept × IsKept m kept searched × HaveNumbers m searched
 IsSearched m false (Some kept) searched = ⊥
 IsSearched m true None searched = ⊥
 

@@ -1,0 +1,3 @@
+pub mod Bears
+pub mod Narrowing
+pub mod Proved

@@ -1,0 +1,5 @@
+pub mod Lists
+pub mod Knowing
+pub mod Opened
+pub mod Closing
+pub mod Numbers

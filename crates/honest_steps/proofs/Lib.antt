@@ -1,0 +1,4 @@
+pub mod Law
+pub mod Tables
+pub mod Changes
+pub mod Left

@@ -1,0 +1,10 @@
+pub mod Ascending
+pub mod Steps
+pub mod RowSteps
+pub mod Pairs
+pub mod SetSteps
+pub mod Forms
+pub mod Arms
+pub mod SumSteps
+pub mod Fitting
+pub mod Later

@@ -1,0 +1,6 @@
+use Rattle.std.proofs.Common.{◌≡◌, ℕ, Bool, length, ℤ}
+use Rattle.poly_eval.specs.Bits.{Tells}
+use Rattle.poly_eval.proofs.rows.same_row.Given as goal
+
+abbrev pub invariant-loop-bit : goal.invariant-loop-bit
+invariant-loop-bit l = record { many : length l.same.items ≡ l.bit-index; bits : (v : ℕ → ℤ) (f : ℕ → Bool) → Tells v l.row f → Tells v l.same.items f }

@@ -1,0 +1,4 @@
+pub mod Shows
+pub mod Bits
+pub mod Parts
+pub mod Totals
