@@ -67,8 +67,8 @@ MISTAKES = [
     ("The text", [
         ("A tab as indent", [(D, "    type: set\n", "\ttype: set\n")], "11 TabIndent"),
         ("Lines that end with a carriage return alone", RETURNS, "its lines end with a carriage return alone"),
-        ("No blank behind a colon", [(D, "  - name: serve\n", "  - name:serve\n")], "a `:` with a blank behind it may be missing"),
-        ("An indent that is not that of its neighbours", [(D, "    preconditions:\n      - (!= at 0)\n", "   preconditions:\n      - (!= at 0)\n")], "the indent is not that of its neighbours"),
+        ("No blank behind a colon", [(D, "  - name: serve\n", "  - name:serve\n")], "14 Unread"),
+        ("An indent that is not that of its neighbours", [(D, "    preconditions:\n      - (!= at 0)\n", "   preconditions:\n      - (!= at 0)\n")], "14 Unread"),
         ("A quote that is not closed", [(P, "problem: four customers", "problem: 'four customers")], "13 BadQuote"),
         ("A scalar that begins with `!`", [(D, "- (!= at 0)", "- !(= at 0)")], "Tags are left out"),
         ("A bracket of a table that is not closed", [(P, "[4, 3]: 5,\n    }\n", "[4, 3]: 5,\n")], "A bracket or brace is not closed"),
@@ -95,7 +95,7 @@ RUNS = [
     ("A member that is not there", [(D, "(<= (demand c) stock)", "(<= (demand (+ c 1)) stock)")], "solve", None, "Here 5 is to be a member of `place`"),
 ]
 
-# What no text shows. A title, the folder of the model, the changes, the tool that finds it, and a piece of what must be told.
+# What no text shows. A title, the folder of the model, the changes, and the tools that find it, each with a piece of what must be told.
 BOUND = (
     "dual_bounds:\n"
     "  # Each customer is entered once, and the depot at last and for each load of what is demanded beyond the stock.\n"
@@ -103,30 +103,32 @@ BOUND = (
     "       (* (entry 0)\n"
     "          (+ 1 (/ (+ (max 0 (- (sum demand left) stock)) (- hold 1)) hold))))\n"
 )
+UNBOUND = ("In the domain `dual_bounds:` is left out, with all below it.", lambda texts: {**texts, D: texts[D].replace(BOUND, "")})
 IDLE = "  - name: wait\n    effects: { at: at }\n    cost: "
 SILENT = [
-    ("A preference of less where less is not as good", "lot_sizing", [(D, "stock, type: integer }", "stock, type: integer, preference: less }")], "honest",
-     "a preference is not honest"),
-    ("A preference of more where more costs more", "lot_sizing", [(D, "stock, type: integer }", "stock, type: integer, preference: greater }")], "honest",
-     "a preference is not honest"),
-    ("A preference the wrong way round", "deliveries", [(D, "preference: greater", "preference: less")], "honest", "a preference is not honest"),
-    ("A preference of a place", "deliveries", [(D, "at, type: element, object: place }", "at, type: element, object: place, preference: less }")], "honest",
-     "a preference is not honest"),
-    ("A bound that is twice too great", "deliveries", [(D, "dual_bounds:\n", "dual_bounds:\n  - (* 2 (sum entry left))\n")], "honest", "bound 1 is not honest"),
-    ("A way of negative cost under a bound", "deliveries", [(P, "[0, 1]: 5", "[0, 1]: -5")], "honest", "bound 1 is not honest"),
-    ("A cost that falls under a bound", "deliveries", [(D, "(+ cost (way at 0))", "(+ cost (- (way at 0) 20))")], "honest", "bound 1 is not honest"),
-    ("A transition without its cost, under a bound", "deliveries", [(D, "    cost: (+ cost (way at 0))\n", "")], "honest", "bound 1 is not honest"),
-    ("A cell that is forgotten, under a bound", "deliveries", [(P, " [0, 2]: 4,", "")], "honest", "bound 1 is not honest"),
-    ("The greatest cost for the least", "deliveries", [(D, "reduce: min", "reduce: max")], "honest", "bound 1 is not honest"),
-    ("A round of negative cost", "deliveries", [(D, "base_cases:\n", f"{IDLE}(+ cost -1)\nbase_cases:\n")], "honest", "a round leads to the same state at a better cost"),
-    ("A cell that is forgotten", "deliveries", [(P, " [0, 2]: 4,", "")], "lint_model", "1 of 20 cells of `way` beside the diagonal is left at the default"),
-    ("A lower bound where the greatest cost is wanted", "deliveries", [(D, "reduce: min", "reduce: max")], "lint_model", "a bound is from above under `reduce: max`"),
-    ("A transition without its cost", "deliveries", [(D, "    cost: (+ cost (way at 0))\n", "")], "lint_model", "`load` has no cost"),
-    ("A transition without effects", "deliveries", [(D, "    effects:\n      at: 0\n      stock: hold\n", "")], "lint_model", "`load` has no effects"),
-    ("A step that changes nothing", "deliveries", [(D, "base_cases:\n", f"{IDLE}cost\nbase_cases:\n")], "lint_model", "a state comes again by wait"),
-    ("A member twice in a set", "deliveries", [(P, "[ 1, 2, 3, 4 ]", "[ 1, 2, 2, 4 ]")], "lint_model", "the set `left` has 2 twice"),
-    ("The problem of another domain", "deliveries", [(P, "domain: deliveries", "domain: tours")], "lint_model", "this is a problem of `tours`"),
-    ("A place that is taken for a number", "deliveries", [(D, "stock: hold", "stock: at")], "lint_model", "the integer variable `stock` becomes `at`"),
-    ("No dual bound, where 0 is one", "deliveries", [(D, BOUND, "")], "lint_model", "no step makes a plan better, so `dual_bounds: [ 0 ]` is one"),
-    ("A place too many", "deliveries", [(P, "place: 5", "place: 6")], "lint_model", "cells of `way` beside the diagonal are left at the default"),
+    ("A preference of less where less is not as good", "lot_sizing", [(D, "stock, type: integer }", "stock, type: integer, preference: less }")],
+     [("honest", "a preference is not honest")]),
+    ("A preference of more where more costs more", "lot_sizing", [(D, "stock, type: integer }", "stock, type: integer, preference: greater }")],
+     [("honest", "a preference is not honest")]),
+    ("A preference the wrong way round", "deliveries", [(D, "preference: greater", "preference: less")], [("honest", "a preference is not honest")]),
+    ("A preference of a place", "deliveries", [(D, "at, type: element, object: place }", "at, type: element, object: place, preference: less }")],
+     [("honest", "a preference is not honest")]),
+    ("A bound that is twice too great", "deliveries", [(D, "dual_bounds:\n", "dual_bounds:\n  - (* 2 (sum entry left))\n")], [("honest", "bound 1 is not honest")]),
+    ("A way of negative cost under a bound", "deliveries", [(P, "[0, 1]: 5", "[0, 1]: -5")], [("honest", "bound 1 is not honest")]),
+    ("A cost that falls under a bound", "deliveries", [(D, "(+ cost (way at 0))", "(+ cost (- (way at 0) 20))")], [("honest", "bound 1 is not honest")]),
+    ("A transition without its cost", "deliveries", [(D, "    cost: (+ cost (way at 0))\n", "")],
+     [("honest", "bound 1 is not honest"), ("lint_model", "`load` has no cost")]),
+    ("A cell that is forgotten", "deliveries", [(P, " [0, 2]: 4,", "")],
+     [("honest", "bound 1 is not honest"), ("lint_model", "1 of 20 cells of `way` beside the diagonal is left at the default")]),
+    ("The greatest cost for the least", "deliveries", [(D, "reduce: min", "reduce: max")],
+     [("honest", "bound 1 is not honest"), ("lint_model", "a bound is from above under `reduce: max`")]),
+    ("A round of negative cost", "deliveries", [(D, "base_cases:\n", f"{IDLE}(+ cost -1)\nbase_cases:\n")],
+     [("honest", "a round leads to the same state at a better cost")]),
+    ("A transition without effects", "deliveries", [(D, "    effects:\n      at: 0\n      stock: hold\n", "")], [("lint_model", "`load` has no effects")]),
+    ("A step that changes nothing", "deliveries", [(D, "base_cases:\n", f"{IDLE}cost\nbase_cases:\n")], [("lint_model", "a state comes again by wait")]),
+    ("A member twice in a set", "deliveries", [(P, "[ 1, 2, 3, 4 ]", "[ 1, 2, 2, 4 ]")], [("lint_model", "the set `left` has 2 twice")]),
+    ("The problem of another domain", "deliveries", [(P, "domain: deliveries", "domain: tours")], [("lint_model", "this is a problem of `tours`")]),
+    ("A place that is taken for a number", "deliveries", [(D, "stock: hold", "stock: at")], [("lint_model", "the integer variable `stock` becomes `at`")]),
+    ("No dual bound, where 0 is one", "deliveries", UNBOUND, [("lint_model", "no step makes a plan better, so `dual_bounds: [ 0 ]` is one")]),
+    ("A place too many", "deliveries", [(P, "place: 5", "place: 6")], [("lint_model", "cells of `way` beside the diagonal are left at the default")]),
 ]
