@@ -4,10 +4,12 @@ which says whether it is proved; behind it what the search prints of the model w
 `RUNS` are cases as in small_runs.py. Those of `OPEN` lie, so that no checker may ever prove them. What the parts of `TRUE` are told as is the
 checker's own affair, as long as it is true; model_parts.py has the models of models/."""
 
+from pathlib import Path
+
 import model_parts
 from certificate_runs import JUMP_HEAD, START, head, whole
 from small_runs import (
-    CLIMB, FALSE_BOUND, FALSE_BOUND_OFF, JUMP_BEST, JUMP_OUT, JUMP_STOPPED, RESOURCE, RESOURCE_FROM, RESOURCE_OFF, TOUR, TOUR_BEST, TOUR_BOUND_OUT, TOUR_OF_FOUR, TOUR_OUT, USAGE, problem, told, words,
+    CLIMB, FALSE_BOUND, FALSE_BOUND_OFF, JUMP_BEST, JUMP_OUT, JUMP_STOPPED, RESOURCE, RESOURCE_FROM, TOUR, TOUR_BEST, TOUR_BOUND_OUT, TOUR_OF_FOUR, TOUR_OUT, USAGE, problem, told, words,
 )
 
 # Each list costs 5 or 6, and the bound says that none costs less than 100.
@@ -22,8 +24,8 @@ FAULTY_ON = told("verdict fault ZeroDivisor at bound 1 after 0")
 
 TWO_LIES = RISING + "  - (+ 100 x)\n"
 
-# Less x alone is better, since nothing else differs then, and so is less y alone. Both together are not: of the two states that the first step
-# leads to, the one with less of both has the dearer way home.
+# Less x alone is better, since nothing else differs then, and so is less y alone, of which no condition speaks. Both together are not: of the two
+# states that the first step leads to, the one with less of both has the dearer way home.
 BOTH = """\
 domain: both
 state_variables:
@@ -40,7 +42,7 @@ base_cases:
 """
 BOTH_FROM = "domain: both\nproblem: one\ntarget: { x: 0, y: 0, t: 0 }\n"
 BOTH_OUT = told(
-    "preference x open", "preference y open", "solution 0 2", "high", "cheap", "pass 1 share 1 visited 2 dropped 1",
+    "preference x open", "preference y proved", "solution 0 2", "high", "cheap", "pass 1 share 1 visited 2 dropped 1",
     "pass 2 share 2 visited 3 dropped 0", "verdict optimal 0",
 )
 
@@ -51,7 +53,10 @@ PROVED = words("solve d p --prune proved")
 CERTIFIED = words("solve d p --prune proved --certificate on")
 CHECKED = words("check d p l --prune proved")
 
-TOUR_PARTS = told("bound 1 proved", "preference time open")
+RESOURCE_OUT = told("solution 2 2", "fast", "end", "pass 1 share 1 visited 2 dropped 0", "verdict optimal 2")
+
+TOUR_CERT = Path("models/tour/certificates/four_customers.txt").read_text(encoding="utf-8")
+TOUR_PARTS = told("bound 1 proved", "preference time proved")
 
 # Each step costs no less than what this bound falls by.
 FALLING = CLIMB + "dual_bounds:\n  - (- 3 x)\n"
@@ -103,14 +108,9 @@ def more_lies():
         (CERTIFIED, printed, 0),
     ]
     yield "proved: a bound that rises as it lies, checked", [("list", printed)], [(CHECKED, OPEN_BOUND + "verdict certified optimal 5\n", 0)]
-    yield "proved: a base target", [("problem", problem("a", "x", 3))], [(PROVED, OPEN_BOUND + "solution 0 0\nverdict optimal 0\n", 0)]
     yield "proved: a bound without a value", [("domain", FAULTY), start], [(words("solve d p"), FAULTY_ON, 12), (PROVED, OPEN_BOUND + JUMP_OUT, 0)]
     yield "proved: two bounds that lie", [("domain", TWO_LIES)], [(PROVED, OPEN_BOUND + "bound 2 open\n" + JUMP_OUT, 0)]
     yield "proved: no model", [("domain", "domain: a\n")], [(PROVED, "refused domain:1:1 40 MissingKey\n", 3)]
-
-
-def others():
-    yield "proved: preferences that lie together", [("domain", BOTH), ("problem", BOTH_FROM)], [(PROVED, BOTH_OUT, 0)]
 
 
 def true():
@@ -125,14 +125,19 @@ def true():
     yield "proved: a bound before one that lies", [("domain", FALLING + "  - (+ 100 x)\n")], [(PROVED, "bound 1 proved\nbound 2 open\n" + FALLING_OUT, 0)]
     yield "proved: a true bound that no single step shows", [("domain", NOT_BY_STEPS)], [(words("solve d p"), JUMP_OUT, 0), (PROVED, OPEN_BOUND + JUMP_OUT, 0)]
     yield "proved: a bound that is proved and has no value", [("domain", WITHOUT_VALUE)], [(PROVED, WITHOUT_VALUE_OUT, 12)]
+    # No state that a search looks at is inner there.
+    yield "proved: a base target", [("domain", RISING), ("problem", problem("a", "x", 3))], [(PROVED, "bound 1 proved\nsolution 0 0\nverdict optimal 0\n", 0)]
     yield "proved: a tour", [("domain", TOUR), ("problem", TOUR_OF_FOUR)], [
         (PROVED, TOUR_PARTS + TOUR_OUT, 0),
         (words("solve d p --prune proved --gap on --budget 5"), TOUR_PARTS + TOUR_BOUND_OUT, 11),
         (words("solve d p --prune proved --engine best"), TOUR_PARTS + TOUR_BEST, 0),
+        (CERTIFIED, TOUR_PARTS + TOUR_CERT, 0),
     ]
-    yield "proved: a resource", [("domain", RESOURCE), ("problem", RESOURCE_FROM)], [(PROVED, "preference r open\n" + RESOURCE_OFF, 0)]
+    yield "proved: that tour, checked", [("list", TOUR_PARTS + TOUR_CERT)], [(CHECKED, TOUR_PARTS + "verdict certified optimal 14\n", 0)]
+    yield "proved: a resource", [("domain", RESOURCE), ("problem", RESOURCE_FROM)], [(PROVED, "preference r proved\n" + RESOURCE_OUT, 0)]
+    yield "proved: preferences that lie together", [("domain", BOTH), ("problem", BOTH_FROM)], [(PROVED, BOTH_OUT, 0)]
 
 
-OPEN = [*climbs(), *more_lies(), *others()]
+OPEN = [*climbs(), *more_lies()]
 TRUE = [*true()]
 RUNS = OPEN + TRUE + model_parts.RUNS

@@ -1,4 +1,5 @@
-"""The text of a model with bounds more: tables and dual bounds put in front of those that stand there, and cells put in front of theirs.
+"""The text of a model with bounds more: tables and dual bounds put in front of those that stand there, and cells put in front of theirs. Bounds that
+a checker leaves open are put behind the model's own, since it stops at the first one that it does not prove.
 
 What stands there stays as it is, each byte. The text that comes out is read again, and has to be the same model with these bounds more."""
 
@@ -7,6 +8,8 @@ import re
 from . import model, shell, yaml_text
 
 WORD = re.compile(rb"\w+")
+# A line behind those of a list or a map.
+TOP_LEVEL = re.compile(rb"[^\s#-]|---")
 
 
 class Added:
@@ -14,7 +17,7 @@ class Added:
 
     def __init__(self, domain, problem):
         self.taken = {word.decode("utf-8", "replace") for data in (domain, problem) for word in WORD.findall(data)}
-        self.objects, self.tables, self.cells, self.bounds = [], [], [], []
+        self.objects, self.tables, self.cells, self.bounds, self.behind = [], [], [], [], []
 
     def name(self, wanted):
         """A name that stands nowhere in the two texts."""
@@ -72,6 +75,19 @@ class Text:
         """Puts items in front of a list."""
         self.put(key, [b"- " + item.encode() for item in items], [item.encode() for item in items])
 
+    def put_behind(self, key, items):
+        """Puts items behind those of a list in block form. Whether it is one."""
+        value = self.pairs[key][1] if key in self.pairs else None
+        if value is None or value.kind == "scalar" or self.lines[value.line - 1][value.column - 1 : value.column] in (b"[", b"{"):
+            return False
+        row = self.lines[value.line - 1]
+        indent = row[: len(row) - len(row.lstrip(b" "))]
+        end = next((k for k in range(value.line, len(self.lines)) if TOP_LEVEL.match(self.lines[k])), len(self.lines))
+        while not self.lines[end - 1].strip() or self.lines[end - 1].startswith(b"#"):
+            end -= 1
+        self.in_front.append((end, [indent + b"- " + item.encode() + self.ending for item in items]))
+        return True
+
     def put_pairs(self, key, pairs):
         """Puts pairs in front of a map."""
         texts = [f"{name}: {value}".encode() for name, value in pairs]
@@ -118,6 +134,8 @@ def texts(domain, problem, added):
     second.put_pairs("object_numbers", added.objects)
     first.put_items("tables", added.tables)
     second.put_pairs("table_values", added.cells)
+    if added.behind and not first.put_behind("dual_bounds", added.behind):
+        added.bounds, added.behind = [*added.bounds, *added.behind], []
     first.put_items("dual_bounds", added.bounds)
     found = first.bytes(), second.bytes()
     after = model.load(*found)
@@ -127,11 +145,12 @@ def texts(domain, problem, added):
 
 
 def is_same(before, after, added):
-    """Whether the later model is the earlier one with these bounds in front of its own."""
-    count = len(added.bounds)
+    """Whether the later model is the earlier one with these bounds in front of its own, and behind them."""
+    first, last = len(added.bounds), len(after.bounds) - len(added.behind)
     return (
-        [b.node.text for b in after.bounds[:count]] == added.bounds
-        and [b.node.shape() for b in after.bounds[count:]] == [b.node.shape() for b in before.bounds]
+        [b.node.text for b in after.bounds[:first]] == added.bounds
+        and [b.node.text for b in after.bounds[last:]] == added.behind
+        and [b.node.shape() for b in after.bounds[first:last]] == [b.node.shape() for b in before.bounds]
         and [step.text for step in after.steps] == [step.text for step in before.steps]
         and [t.node.shape() for t in after.transitions] == [t.node.shape() for t in before.transitions]
         and [c.node.shape() for c in after.constraints] == [c.node.shape() for c in before.constraints]

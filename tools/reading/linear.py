@@ -9,6 +9,8 @@ SYSTEM = "/usr/bin/python3"
 WANTED = "linear programs are solved by HiGHS in SciPy, which is not there: Debian's package `python3-scipy` has it"
 # Set where this program was started anew by the system's Python.
 AGAIN = "DYPDL_SYSTEM_PYTHON"
+# Programs of more columns are solved from within, which is faster there, and then from corner to corner.
+MANY = 1000
 
 
 def has(module):
@@ -48,5 +50,6 @@ def solved(objective, rows, right, bounds, seconds):
         data += map(float, row.values())
         starts.append(len(columns))
     matrix = csr_matrix((data, columns, starts), shape=(len(rows), len(objective)))
-    done = linprog(objective, A_ub=matrix, b_ub=right, bounds=bounds, method="highs", options={"time_limit": max(0.1, seconds)})
+    method = "highs-ipm" if len(objective) > MANY else "highs"
+    done = linprog(objective, A_ub=matrix, b_ub=right, bounds=bounds, method=method, options={"time_limit": max(0.1, seconds)})
     return done.x.tolist() if done.status == 0 else None

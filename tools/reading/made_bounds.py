@@ -13,7 +13,21 @@ DERIVED = {
     "models/tour/time_windows.yaml models/tour/four_customers.yaml": 14,
     "models/knapsack/domain.yaml models/knapsack/problem.yaml": 134,
 }
-# And with what walks say there at least.
+# And with what tolls and walks say there at least, and what prices and weights do.
+TOLLS = {
+    "models/setup_times/domain.yaml models/setup_times/problem.yaml": 280,
+    "models/deliveries/domain.yaml models/deliveries/problem.yaml": 26,
+    "models/round_tour/domain.yaml models/round_tour/problem.yaml": 56,
+}
+KNAPSACKS = {
+    "models/knapsack/domain.yaml models/knapsack/problem.yaml": 134,
+    "models/multi_knapsack/domain.yaml models/multi_knapsack/problem.yaml": 109,
+    "models/lot_sizing/domain.yaml models/lot_sizing/problem.yaml": 331,
+}
+PACKINGS = {
+    "models/bin_packing/domain.yaml models/bin_packing/problem.yaml": 3,
+    "models/assembly_line/domain.yaml models/assembly_line/problem.yaml": 4,
+}
 WALKS = {
     "models/tour/time_windows.yaml models/tour/four_customers.yaml": 14,
     "models/deliveries/domain.yaml models/deliveries/problem.yaml": 26,
@@ -58,9 +72,9 @@ def without(check, room):
     stub = os.path.join(room, "stub")
     write(stub, STUB)
     os.chmod(stub, 0o755)
-    for words, package in ((["derive", *files], "python3-scipy"), (["bounds", "walks", *files], "python3-numpy"), (["solve_derived", stub, "solve", *files], "python3-scipy")):
+    for words, package in ((["derive", *files], "python3-scipy"), (["bounds", "walks", *files], "python3-numpy"), (["bounds", "tolls", *files], "python3-scipy"), (["solve_derived", stub, "solve", *files], "python3-scipy")):
         out, said, status = run(words, **places)
-        check.same(f"{words[0]} without {package}", ("", 1, True, 1), (out, said.count("\n"), package in said, status))
+        check.same(f"{' '.join(words[:2])} without {package}", ("", 1, True, 1), (out, said.count("\n"), package in said, status))
 
 
 def texts_of(folder):
@@ -77,7 +91,7 @@ def made(check, room, words, wanted, is_least=False):
     """A bound is made, says what is wanted at the target, or no less, and is true."""
     folder = os.path.join(room, "made")
     _, said, status = run([*words, "--out", folder])
-    told = re.search(r"(?:all together|and this one) (-?\d+)$", said.strip())
+    told = re.search(r"all together (-?\d+)$", said.strip())
     got = told and int(told.group(1))
     check.same(" ".join(words), (0, wanted), (status, min(got, wanted) if is_least and told else got))
     if status == 0:
@@ -87,7 +101,7 @@ def made(check, room, words, wanted, is_least=False):
 def forms(check, room):
     """Bounds stand in front, whatever form the texts have."""
     for k, texts in enumerate(FORMS):
-        for tool in (["derive"], ["bounds", "walks"]):
+        for tool in (["derive"], ["bounds", "walks"], ["bounds", "tolls"]):
             files = [os.path.join(room, name) for name in ("d.yaml", "p.yaml")]
             for path, text in zip(files, texts):
                 write(path, text)
@@ -125,14 +139,20 @@ def by_program(check, program):
 def all_of_them(check, program):
     with tempfile.TemporaryDirectory() as room:
         without(check, room)
+        for kind, models in (("knapsacks", KNAPSACKS), ("packings", PACKINGS)):
+            for files, wanted in models.items():
+                made(check, room, ["bounds", kind, *files.split(" ")], wanted)
+            out, said, status = run(["bounds", kind, "models/graph_clearing/domain.yaml", "models/graph_clearing/problem.yaml"])
+            check.same(f"bounds {kind} of costs that are joined by max", ("", 1, True, 1), (out, said.count("\n"), "no bound is made" in said, status))
         if "python3-scipy" in run(["derive", *next(iter(DERIVED)).split(" ")])[1]:
             print("(SciPy is not there, so nothing is derived)")
             return
         for files, wanted in DERIVED.items():
             made(check, room, ["derive", *files.split(" ")], wanted)
-        for files, wanted in WALKS.items():
-            made(check, room, ["bounds", "walks", *files.split(" ")], wanted, True)
-        for tool in (["derive"], ["bounds", "walks"]):
+        for kind, models in (("walks", WALKS), ("tolls", TOLLS)):
+            for files, wanted in models.items():
+                made(check, room, ["bounds", kind, *files.split(" ")], wanted, True)
+        for tool in (["derive"], ["bounds", "walks"], ["bounds", "tolls"], ["bounds", "knapsacks"]):
             check.ends_well([*tool, *next(iter(DERIVED)).split(" "), "--out", "/proc/nowhere"])
         forms(check, room)
         solved(check, room)

@@ -2,13 +2,15 @@
 
 A potential is a sum: a number for each member of each set that is in it, one for the mode, and a multiple of each integer. Where no step lets it
 fall by more than the step's weight, and no end does, it is a dual bound (under `reduce: max` turned round). The best one for some states
-is a linear program. Its answer is rounded, and the inequalities are checked in whole numbers."""
+is a linear program. Its answer is rounded, and the inequalities are checked in whole numbers. Numbers that are others in each mode are tolls."""
 
+import functools
 import math
 import random
 from fractions import Fraction
 
 from . import values
+from .columns import Columns, in_weights, near
 from .symbols import Unknown, added
 
 # An end of a span beyond this is no end.
@@ -17,7 +19,9 @@ FAR = 10**7
 DENOMINATORS = (1, 2, 3, 4, 5, 6, 8, 10, 12, 24, 60)
 MOST_DENOMINATOR, LAST_DENOMINATOR = 10**6, 10000
 NEAR = 1e-5
-DIVES, LONGEST = 60, 400
+# What whole tolls may say less than those with fractions.
+NEARLY = 0.015
+DIVES, LONGEST, MOST_STATES, ENOUGH = 60, 400, 1500, 300
 
 
 class Row:
@@ -55,42 +59,26 @@ class Potential:
 
 
 class Inequalities:
-    """What a potential of a model has to keep: a row for each step of each mode, and each end behind it."""
+    """What a potential of a model has to keep: a row for each step of each mode, and each end behind it. Where it has tolls, `near_ones` is how many members near each mode have them."""
 
-    def __init__(self, modes, clock):
+    def __init__(self, modes, clock, has_tolls=False, near_ones=None):
         m = modes.m
         if m.operator != "+":
             raise Unknown(f"only costs that are added up have potentials, and these are joined by `{m.operator}`")
         self.modes, self.m, self.clock, self.sign = modes, m, clock, 1 if m.minimize else -1
-        self.columns = {}
-        for p in modes.sets:
-            for k in range(modes.count(p)):
-                self.columns["member", p, k] = len(self.columns)
-        for p in modes.integers:
-            self.columns["integer", p] = len(self.columns)
         self.inner = dict(modes.inner())
         if modes.mode_of(m.target) not in self.inner:
             raise Unknown("the target is no inner state, so there is nothing to search")
-        for mode in modes.known:
-            self.columns["mode", mode] = len(self.columns)
-        self.rows, self.least, self.greatest, self.may_divide = [], 0, 0, True
-        for move in modes.moves():
+        moves = list(modes.moves())
+        tolls = (near(modes, moves, near_ones), in_weights(modes, moves)) if has_tolls else ()
+        self.columns = Columns(modes, *tolls)
+        self.rows, self.least, self.greatest = [], 0, 0
+        for move in moves:
+            clock()
             self.take(move)
         if not m.minimize:
             # a quotient rounds toward zero, so a potential below 0 would round to the wrong side
-            self.floors = [self.row(self.height(modes.state(mode, known), mode), {}, -1) for mode, known in self.inner.items()]
-
-    def height(self, state, mode):
-        """The potential of a state: for each monomial the columns with their factors."""
-        height = {(): {self.columns["mode", mode]: 1}}
-        for p in self.modes.sets:
-            for k, bit in enumerate(state[p]):
-                for monomial, a in bit.items():
-                    height.setdefault(monomial, {})[self.columns["member", p, k]] = a
-        for p in self.modes.integers:
-            for monomial, a in state[p].items():
-                height.setdefault(monomial, {})[self.columns["integer", p]] = a
-        return height
+            self.floors = [self.row(self.columns.height(mode, modes.state(mode, known)), {}, -1) for mode, known in self.inner.items()]
 
     def row(self, height, known, sign):
         """The row of `height <= known`, under `reduce: max` of `height >= known`."""
@@ -122,9 +110,9 @@ class Inequalities:
         modes, weight = self.modes, move.weight or {}
         self.see(weight)
         ends = modes.ends(move)
-        now = self.height(move.now, move.mode)
+        now = self.columns.height(move.mode, move.now)
         if not any(sure for _, sure in ends):
-            then = self.height(move.then, modes.mode_of(move.then))
+            then = self.columns.height(modes.mode_of(move.then), move.then)
             difference = {monomial: dict(columns) for monomial, columns in now.items()}
             for monomial, columns in then.items():
                 mine = difference.setdefault(monomial, {})
@@ -150,19 +138,9 @@ class Inequalities:
 
     # ---- values of potentials
 
-    def columns_at(self, state):
-        """The columns of a state with their factors."""
-        found = {self.columns["mode", self.modes.mode_of(state)]: 1}
-        for p in self.modes.sets:
-            for k in state[p]:
-                found[self.columns["member", p, k]] = 1
-        for p in self.modes.integers:
-            found[self.columns["integer", p]] = state[p]
-        return found
-
     def value(self, potential, state):
         """The dual bound in a state, rounded as it is written."""
-        total = sum(a * potential.whole[j] for j, a in self.columns_at(state).items())
+        total = sum(a * potential.whole[j] for j, a in self.columns.at(state).items())
         total += potential.unit - 1 if self.m.minimize else 0
         return total // potential.unit if total >= 0 else -(-total // potential.unit)
 
@@ -182,7 +160,7 @@ class Program:
         self.inequalities, self.solver, self.clock = inequalities, solver, clock
         self.count = len(inequalities.columns)
         self.limit = float(min(10**9, max(1000, inequalities.greatest * (10 + 2 * sum(inequalities.modes.count(p) for p in inequalities.modes.sets) + 2 * len(inequalities.inner)))))
-        self.width, self.entries, self.right, self.slack, self.seen = self.count, [], [], [], set()
+        self.width, self.entries, self.right, self.slack, self.seen, self.not_below_0 = self.count, [], [], [], set(), set()
         rows = inequalities.rows if inequalities.m.minimize else [*inequalities.rows, *inequalities.floors]
         for row in rows:
             self.put(row)
@@ -205,7 +183,10 @@ class Program:
                 y, self.width = self.width, self.width + 1
                 columns[y] = 1
             for end in ends:
-                self.line({**{j: end * a for j, a in mine.items() if end}, y: -1}, -end * own, 0)
+                if end:
+                    self.line({**{j: end * a for j, a in mine.items()}, y: -1}, -end * own, 0)
+                else:
+                    self.not_below_0.add(y)
             size += max(map(abs, ends), default=0) * sum(map(abs, mine.values()))
         self.line(columns, -number, size)
 
@@ -217,37 +198,57 @@ class Program:
             self.right.append(right)
             self.slack.append(size)
 
-    def solve(self, aim, narrower=0.0):
-        """The columns that are best for an aim; None where none was found in time."""
+    def solve(self, aim, narrower=0.0, fixed=None):
+        """The columns that are best for an aim, some of them with numbers that are fixed; None where none was found in time."""
         right = [r - narrower * size for r, size in zip(self.right, self.slack)]
         objective = [0.0] * self.width
         for j, a in aim.items():
             objective[j] = -self.inequalities.sign * float(a)
-        bounds = [(-self.limit, self.limit)] * self.count + [(None, None)] * (self.width - self.count)
+        bounds = [(-self.limit, self.limit)] * self.count + [(0 if y in self.not_below_0 else None, None) for y in range(self.count, self.width)]
+        for j, x in (fixed or {}).items():
+            bounds[j] = (x, x)
         found = self.solver(objective, self.entries, right, bounds, self.clock.left())
         if found is None:
             self.clock()
             return None
         return [x if j in self.used else 0.0 for j, x in enumerate(found)]
 
-    def potential(self, aim):
-        """The best potential for an aim in whole numbers; None where there is none."""
+    def potentials(self, aim):
+        """The best potential for an aim in whole numbers, where it was found. Of tolls one without a quotient comes first, and alone where it is nearly as good."""
         found = self.solve(aim)
         if found is None:
+            return []
+        best, q = self.exact(found), self.inequalities
+        whole = None if not q.columns.by_mode or best is not None and best.unit == 1 else self.floored(aim, found)
+        best = best or self.narrowed(aim)
+        if whole is not None and best is not None:
+            less, most = q.value(whole, q.m.target), q.value(best, q.m.target)
+            best = None if abs(most - less) <= NEARLY * abs(most) else best
+        return [self.tidy(potential) for potential in (whole, best) if potential is not None]
+
+    def floored(self, aim, found):
+        """An answer in whole numbers: first those that integers are multiplied by are rounded, then those of members, down, and those of modes are the best ones
+        with them."""
+        places, sign = self.inequalities.columns.places, self.inequalities.sign
+        fixed = {j: round(found[j]) for key, j in places.items() if key[0] in ("product", "integer")}
+        if any(abs(found[j] - x) > NEAR for j, x in fixed.items()):
+            found = self.solve(aim, 0.0, fixed)
+        if found is None:
             return None
-        return self.tidy(self.exact(found) or self.narrowed(aim))
+        fixed |= {j: sign * math.floor(sign * found[j] + NEAR) for key, j in places.items() if key[0] == "member"}
+        found = self.solve(aim, 0.0, fixed)
+        if found is None:
+            return None
+        whole = [fixed.get(j, round(x)) for j, x in enumerate(found[: self.count])]
+        return Potential(whole, 1) if self.inequalities.holds(whole, 1) else None
 
     def tidy(self, potential):
-        """The same potential without numbers for members that are in in every state: these go to the modes."""
-        if potential is None:
-            return None
+        """The same potential without numbers for members that are in, or out, in every state: these go to the modes."""
         whole, q = list(potential.whole), self.inequalities
-        for p in q.modes.sets:
-            for k in range(q.modes.count(p)):
-                if all(known.bits[p][k] is True for known in q.modes.known.values()):
-                    for mode in q.modes.known:
-                        whole[q.columns["mode", mode]] += whole[q.columns["member", p, k]]
-                    whole[q.columns["member", p, k]] = 0
+        for member, is_in, modes in q.columns.settled():
+            for mode in modes if is_in else ():
+                whole[mode] += whole[member]
+            whole[member] = 0
         return Potential(whole, potential.unit) if q.holds(whole, potential.unit) else potential
 
     def exact(self, found):
@@ -283,6 +284,8 @@ def drawn_states(m, seed):
     """Inner states on lists of steps that are drawn by chance, each with how far it stands on its list: 0 to 1."""
     play, draw, met = values.Play(m), random.Random(seed), []
     for _ in range(DIVES):
+        if len(met) > MOST_STATES:
+            break
         state, way = m.target, []
         for _ in range(LONGEST):
             try:
@@ -299,35 +302,55 @@ def drawn_states(m, seed):
     return met
 
 
+def own_bound(play, state):
+    """The tightest of the model's own bounds in a state; None where there is none."""
+    best = None
+    for k, b in enumerate(play.model.bounds, 1):
+        try:
+            said = play.value(b, state, (), f"bound {k}")
+        except values.Fault:
+            continue
+        best = said if best is None or play.better(best, said) else best
+    return best
+
+
 class Deriver:
     """The potentials of a model: the first is the best for the target, further ones are taken where they are better in the midst."""
 
     def __init__(self, inequalities, program, tell):
         self.inequalities, self.program, self.tell = inequalities, program, tell
         self.m, self.play, self.found = inequalities.m, values.Play(inequalities.m), []
-        self.met = [(state, far) for state, far in drawn_states(self.m, 1) if ("mode", inequalities.modes.mode_of(state)) in inequalities.columns]
+
+    @functools.cached_property
+    def met(self):
+        """Inner states that are drawn, each with how far it stands on its list."""
+        return [(state, far) for state, far in drawn_states(self.m, 1) if self.inequalities.modes.mode_of(state) in self.inequalities.inner]
 
     def behind(self):
-        """An aim at all states: each mode as often, and each member that may be in or out by half."""
-        aim, modes = {}, self.inequalities.modes
+        """An aim at all states: each mode as often, each member that may be in or out by half, and integers in the middle of their spans."""
+        aim, modes, columns = {}, self.inequalities.modes, self.inequalities.columns
+
+        def put(column, a):
+            aim[column] = aim.get(column, 0) + Fraction(a) / len(self.inequalities.inner)
+
         for mode, known in self.inequalities.inner.items():
-            state = {self.inequalities.columns["mode", mode]: Fraction(1)}
+            put(columns.of("mode", mode), 1)
+            spans = {p: known.spans[p] for p in modes.integers if max(-known.spans[p][0], known.spans[p][1]) <= FAR}
+            for p, span in spans.items():
+                put(columns.of("integer", mode, p), Fraction(sum(span), 2))
             for p in modes.sets:
                 for k, bit in enumerate(known.bits[p]):
-                    state[self.inequalities.columns["member", p, k]] = Fraction(1, 2) if bit is None else Fraction(int(bit))
-            for p in modes.integers:
-                low, high = known.spans[p]
-                if max(-low, high) <= FAR:
-                    state[self.inequalities.columns["integer", p]] = Fraction(low + high, 2)
-            for j, a in state.items():
-                aim[j] = aim.get(j, 0) + a / len(self.inequalities.inner)
+                    half = Fraction(1, 2) if bit is None else int(bit)
+                    put(columns.of("member", mode, p, k), half)
+                    for q in columns.timed:
+                        put(columns.of("product", mode, p, k, q), half * Fraction(sum(spans.get(q, (0,))), 2))
         return aim
 
     def at(self, states):
         """An aim at the average of some states."""
         aim = {}
         for state in states:
-            for j, a in self.inequalities.columns_at(state).items():
+            for j, a in self.inequalities.columns.at(state).items():
                 aim[j] = aim.get(j, 0) + Fraction(a, len(states))
         return aim
 
@@ -340,26 +363,16 @@ class Deriver:
                 yield f"states from {int(100 * low)} to {int(100 * high)} % of the way", sum_of(self.at(states), 1, target, Fraction(1, 1000))
         yield "all modes", sum_of(self.behind(), 1, target, Fraction(1, 1000))
 
-    def own(self, state):
-        """The tightest of the model's own bounds; None where there is none."""
-        best = None
-        for k, b in enumerate(self.m.bounds, 1):
-            try:
-                said = self.play.value(b, state, (), f"bound {k}")
-            except values.Fault:
-                continue
-            best = said if best is None or self.play.better(best, said) else best
-        return best
-
     def tightest(self, state, potentials):
-        said = [self.own(state), *(self.inequalities.value(p, state) for p in potentials)]
+        said = [own_bound(self.play, state), *(self.inequalities.value(p, state) for p in potentials)]
         said = [x for x in said if x is not None]
         return None if not said else max(said) if self.m.minimize else min(said)
 
     def gain(self, potential):
-        """By how much a further potential is better in the states that were drawn, as a share of what all say there."""
-        before = [self.tightest(state, self.found) for state, _ in self.met]
-        after = [self.tightest(state, [*self.found, potential]) for state, _ in self.met]
+        """By how much a further potential is better in some of the states that were drawn, as a share of what all say there."""
+        states = [state for state, _ in self.met[:: max(1, len(self.met) // ENOUGH)]]
+        before = [self.tightest(state, self.found) for state in states]
+        after = [self.tightest(state, [*self.found, potential]) for state in states]
         moved = sum(abs(b) + 1 if a is None else abs(b - a) for a, b in zip(before, after))
         return moved / max(1, sum(map(abs, after)))
 
@@ -370,20 +383,25 @@ class Deriver:
                 break
             self.tell(f"the potential that is best for {name} is worked out")
             try:
-                potential = self.program.potential(aim)
+                found = self.program.potentials(aim)
             except Unknown:
                 if self.found:
                     break
                 raise
-            if potential is None or any(potential.whole == one.whole and potential.unit == one.unit for one in self.found):
-                continue
-            if self.gain(potential) > (0.01 if self.found else 0) or not self.found and self.is_better(potential):
-                self.found.append(potential)
+            for potential in found:
+                self.take(potential)
         return self.found
+
+    def take(self, potential):
+        """Takes a potential where it says enough more than those that were found."""
+        if any(potential.whole == one.whole and potential.unit == one.unit for one in self.found):
+            return
+        if not self.found and self.is_better(potential) or self.gain(potential) > (0.01 if self.found else 0):
+            self.found.append(potential)
 
     def is_better(self, potential):
         """Whether it says more at the target than the model's own bounds."""
-        own = self.own(self.m.target)
+        own = own_bound(self.play, self.m.target)
         return own is None or self.play.better(own, self.inequalities.value(potential, self.m.target))
 
 

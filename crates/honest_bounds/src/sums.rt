@@ -13,12 +13,9 @@ ghost use Rattle.honest_bounds.specs.Steps.{room_of};
 use dp_base::Seq;
 use dp_model::{JoinOp, Model, NumOp};
 use poly_eval::operated;
-use poly_rules::at_least_zero;
+use poly_pairs::never_negative;
 use poly_terms::{Atom, Term, add_times};
 use std::alloc::{AllocError, Global};
-
-/// How deep the rules go.
-const DEPTH: u32 = 8;
 
 /// The operation by which costs are joined.
 fn joining(join: JoinOp) -> NumOp
@@ -99,7 +96,7 @@ pub fn never_better(
     ensures { IfOk result (λ shown. IsTrue shown → (v : ℕ → ℤ) → Fits table.now v → IsNotBetter model.now (worth v cost.now) (worth v bound.now)) }
 {
     match room(alloc, model, cost, bound)? {
-        Some(sum) => at_least_zero(alloc, table, &sum, DEPTH),
+        Some(sum) => never_negative(alloc, table, &sum),
         None => Ok(false),
     }
 }

@@ -1,5 +1,5 @@
 -- The first ones of a list that are all true.
-use Rattle.std.proofs.Common.{◌≡◌, ℕ, zero, suc, ◌+◌, ◌<◌, ◌≤◌, Bool, true, false, ◌&&◌, List, [], ◌∷◌, ◌++◌, length, drop, get_or, slice_get, Some, None, refl, sym, ap, ◌∙◌, subst, arith, add-one, drop-cons, append_assoc, append-nil}
+use Rattle.std.proofs.Common.{◌≡◌, ℕ, zero, suc, ◌+◌, ◌<◌, ◌≤◌, Bool, true, false, ◌&&◌, List, [], ◌∷◌, ◌++◌, length, drop, get_or, slice_get, Some, refl, sym, ap, ◌∙◌, arith, add-one, drop-cons, append_assoc, append-nil}
 use Rattle.std.proofs.lemmas.List.{drop_all}
 use Rattle.kept_model.specs.Parts.{chosen}
 use Rattle.honest_parts.specs.First.{AreFirst}
@@ -65,30 +65,6 @@ same_place i = omega arith
 -- what is kept so is first
 pub are_first : (xs : List Bool) → AreFirst (first_from true xs)
 are_first xs i h = first_all xs i (λ j le. first_only xs (suc i) h j (omega arith))
-
--- ---- lists of which none is true
-
-pub none_in : (xs : List Bool) → xs ≡ [] → (i : ℕ) → slice_get xs i ≡ Some true → ⊥
-none_in xs is i h = let clash : None ≡ Some true = sym (ap (λ (ys : List Bool). slice_get ys i) is) ∙ h in cc
-
-none_last : (xs : List Bool) (i : ℕ) → ((k : ℕ) → slice_get xs k ≡ Some true → ⊥) → slice_get (xs ++ false ∷ []) i ≡ Some true → ⊥
-none_last [] zero none h = cc
-none_last [] (suc i) none h = cc
-none_last (x ∷ xs) zero none h = none zero h
-none_last (x ∷ xs) (suc i) none h = none_last xs i (λ k at. none (suc k) at) h
-
-pub none_more : (old new : List Bool) → new ≡ old ++ false ∷ [] → ((k : ℕ) → slice_get old k ≡ Some true → ⊥) → (i : ℕ) → slice_get new i ≡ Some true → ⊥
-none_more old new is none i h = none_last old i none (subst (λ (ys : List Bool). slice_get ys i ≡ Some true) is h)
-
-long_last : (xs : List Bool) → length (xs ++ false ∷ []) ≡ suc (length xs)
-long_last [] = refl
-long_last (x ∷ xs) = ap suc (long_last xs)
-
-pub one_longer : (old new : List Bool) (n : ℕ) → new ≡ old ++ false ∷ [] → length old ≡ n → length new ≡ n + 1
-one_longer old new n is long = ap length is ∙ long_last old ∙ ap suc long ∙ sym (add-one n)
-
-pub ends_at : (n k many : ℕ) → n ≡ k → many ≤ k → k ≤ many → n ≡ many
-ends_at n k many e past most = omega arith
 
 -- ---- which numbers the kept ones have
 

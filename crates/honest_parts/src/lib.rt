@@ -10,6 +10,7 @@ ghost use Rattle.honest_parts.specs.First.{AreFirst, KeepsNumbers};
 use dp_base::Seq;
 use dp_model::Model;
 use honest_bounds::proved_bounds;
+use honest_preferences::proved_preferences;
 use honest_search::modes_of;
 use kept_model::Kept;
 use std::alloc::{AllocError, Global};
@@ -30,35 +31,22 @@ fn first_ones(alloc: Global, proved: &[bool]) -> Result<Vec<bool>, AllocError>
     Ok(kept)
 }
 
-/// No preference is kept, for each variable.
-fn no_preferences(alloc: Global, model: &Model) -> Result<Vec<bool>, AllocError>
-    ensures each { IfOk result (λ kept. length kept.items ≡ length model.now.variables) }
-    ensures none { IfOk result (λ kept. (i : ℕ) → slice_get kept.items i ≡ Some true → ⊥) }
-{
-    let mut kept = Vec::new(alloc);
-    for _variable in model.variables().list() {
-        kept.push(false)?;
-    }
-    Ok(kept)
-}
-
 /// The dual bounds and preferences of a model that are proved to be honest: no bound is tighter than the best completion of any
 /// state that the search may look at, and what is preferred is never worse. It is a function of the model alone.
 ///
 /// What is not proved may be honest too. A bound behind one that is not proved is not kept, so the number of a kept bound is its
-/// number in the model. No preference is proved yet.
+/// number in the model. Preferences are kept of integer variables alone.
 pub fn proved_parts(alloc: Global, model: &Model) -> Result<Kept, AllocError>
     ensures honest { IfOk result (λ kept. AreHonest model.now kept) }
     ensures bounds { IfOk result (λ kept. length kept.bounds ≡ length model.now.bounds) }
     ensures numbers { IfOk result (λ kept. KeepsNumbers model.now kept) }
     ensures preferences { IfOk result (λ kept. length kept.preferences ≡ length model.now.variables) }
     ensures named { IfOk result (λ kept. (i : ℕ) (v : Variable) → slice_get kept.preferences i ≡ Some true → slice_get model.now.variables i ≡ Some v → is_without v.preference ≡ false) }
-    ensures none { IfOk result (λ kept. (i : ℕ) → slice_get kept.preferences i ≡ Some true → ⊥) }
 {
     let modes = modes_of(alloc, model)?;
     let proved = proved_bounds(alloc, model, &modes)?;
     let bounds = first_ones(alloc, &proved)?;
-    let preferences = no_preferences(alloc, model)?;
+    let preferences = proved_preferences(alloc, model)?;
     Ok(Kept {
         bounds: Seq::of(bounds),
         preferences: Seq::of(preferences),

@@ -12,6 +12,7 @@ use Rattle.dp_steps.specs.Lists.{Leads, Completion}
 use Rattle.dp_steps.specs.States.{Base, Inner}
 use Rattle.dp_claims.specs.Honest.{IsNotBetter}
 use Rattle.dp_model.specs.declared.parts.Variable.{Variable}
+use Rattle.kept_model.specs.Honesty.{PreferencesHold}
 use Rattle.kept_model.specs.Parts.{variables_with}
 use Rattle.part_laws.specs.OneStep.{Invariant, IsWorth, Simulates}
 use Rattle.part_laws.specs.Laws.{IsAsGood, IsHeld, LawBound, LawPreferences, LawProved}
@@ -103,14 +104,14 @@ bound_law m e is u s prefix bound at w value done =
     let h = led m (IsHeld is.holds) inv m.target None u s prefix.0.0 prefix.1 inv.first prefix.0.1 in
     not_better_trans m.minimize value (is.worth s) bound (worth_holds m (IsHeld is.holds) is.worth inv is.is_worth s h prefix.1 w value done) (is.below s bound h prefix.1 at)
 
-pub preferences_law : LawPreferences
-preferences_law m variables are u u' s s' p p' dominates w' value' done =
-    let Holds : PlainState → Type 0 = IsHeld are.holds in
-    let AsGood : PlainState → PlainState → Type 0 = IsAsGood are.good in
-    let inv = are.invariant in
+pub preferences_by : (m : Model) (variables : List Variable) (Holds : PlainState → Type 0) (AsGood : PlainState → PlainState → Type 0) → Invariant m Holds → Simulates m variables Holds AsGood → PreferencesHold m variables
+preferences_by m variables Holds AsGood inv sim u u' s s' p p' dominates w' value' done =
     let h = led m Holds inv m.target None u s p.0.0 p.1 inv.first p.0.1 in
     let h' = led m Holds inv m.target None u' s' p'.0.0 p'.1 inv.first p'.0.1 in
-    simulated m variables Holds AsGood inv are.simulates s s' h h' p.1 p'.1 (are.simulates.dominating s s' h h' dominates) w' value' done
+    simulated m variables Holds AsGood inv sim s s' h h' p.1 p'.1 (sim.dominating s s' h h' dominates) w' value' done
+
+pub preferences_law : LawPreferences
+preferences_law m variables are = preferences_by m variables (IsHeld are.holds) (IsAsGood are.good) are.invariant are.simulates
 
 pub proved_law : LawProved
 proved_law m kept are =

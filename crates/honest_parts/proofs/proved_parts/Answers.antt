@@ -14,7 +14,7 @@ returns-clause-honest c =
     (subst (λ (xs : List Bool). AreHonest m (record { bounds = bounds; preferences = xs })) (sym c.of-2.ensures)
     (parts_honest m bounds preferences
     (λ i e keeps at. c.in_ok-proved.ensures.proved i e (subst (λ (xs : List Bool). slice_get xs i ≡ Some true) c.deref-2.ensures.value (c.in_ok-bounds.ensures.only i keeps i (same_place i))) at)
-    (λ i keeps. c.in_ok-preferences.ensures.none i keeps)))
+    c.in_ok-preferences.ensures.holds))
 
 pub returns-clause-bounds : goal.returns-clause-bounds
 returns-clause-bounds c = ap length c.of.ensures ∙ c.in_ok-bounds.ensures.each ∙ ap length c.deref-2.ensures.value ∙ c.in_ok-proved.ensures.each
@@ -26,7 +26,4 @@ pub returns-clause-preferences : goal.returns-clause-preferences
 returns-clause-preferences c = ap length c.of-2.ensures ∙ c.in_ok-preferences.ensures.each
 
 pub returns-clause-named : goal.returns-clause-named
-returns-clause-named c = λ i v keeps at. absurd (c.in_ok-preferences.ensures.none i (subst (λ (xs : List Bool). slice_get xs i ≡ Some true) c.of-2.ensures keeps))
-
-pub returns-clause-none : goal.returns-clause-none
-returns-clause-none c = λ i keeps. c.in_ok-preferences.ensures.none i (subst (λ (xs : List Bool). slice_get xs i ≡ Some true) c.of-2.ensures keeps)
+returns-clause-named c = λ i v keeps at. c.in_ok-preferences.ensures.named i v (subst (λ (xs : List Bool). slice_get xs i ≡ Some true) c.of-2.ensures keeps) at

@@ -1,0 +1,12 @@
+pub mod Binding
+pub mod Agreeing
+pub mod Same
+pub mod Numbers
+pub mod Simulation
+pub mod Satisfied
+pub mod Conditions
+pub mod Places
+pub mod Setting
+pub mod Choices
+pub mod Moving
+pub mod Switching
