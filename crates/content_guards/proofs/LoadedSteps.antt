@@ -59,7 +59,7 @@ word_whole item name text good is = by (value_in name (map_entries item)) refl i
     by None e k = absurd (cc k)
     by (Some tree) e k = text_whole tree text (value_whole name (map_entries item) tree (entries_whole item good) e) k
 
-file_names : (read : Reading) (domain_text problem_text : List ℕ) (domain problem : Tree) (m : Model) → Spells 1 domain_text domain → Spells 2 problem_text problem → meaning read domain problem ≡ Ok (parts_of m) → AreNamedInUtf8 m
+pub file_names : (read : Reading) (domain_text problem_text : List ℕ) (domain problem : Tree) (m : Model) → Spells 1 domain_text domain → Spells 2 problem_text problem → meaning read domain problem ≡ Ok (parts_of m) → AreNamedInUtf8 m
 file_names read domain_text problem_text domain problem m domain_spells problem_spells means i t at =
     let items : List Tree = items_of_both domain problem (codes "transitions") in
     let good = both_whole domain problem (codes "transitions") (reads_whole 1 domain_text domain domain_spells) (reads_whole 2 problem_text problem problem_spells) in
@@ -73,7 +73,7 @@ file_steps read domain_text problem_text domain problem m domain_spells problem_
 
 -- ---- what is written of a certificate is UTF-8
 
-ascii_whole : (text : List ℕ) → list_all is_print text ≡ true → whole [] text ≡ true
+pub ascii_whole : (text : List ℕ) → list_all is_print text ≡ true → whole [] text ≡ true
 ascii_whole [] h = no_bytes
 ascii_whole (x ∷ text) h =
     let parts = and_parts (is_print x) (list_all is_print text) h in
@@ -89,7 +89,7 @@ blanks_whole : (text : List ℕ) → is_blank_line text ≡ true → whole [] te
 blanks_whole [] h = no_bytes
 blanks_whole (x ∷ text) h = let parts = and_parts (is_blank x) (list_all is_blank text) h in low_more x text (below-blank x parts.0) (blanks_whole text parts.1)
 
-lines_whole : (ls : List (List ℕ)) → list_all (whole []) ls ≡ true → whole [] (text_of_lines ls) ≡ true
+pub lines_whole : (ls : List (List ℕ)) → list_all (whole []) ls ≡ true → whole [] (text_of_lines ls) ≡ true
 lines_whole [] h = no_bytes
 lines_whole (l ∷ ls) h =
     let parts = and_parts (whole [] l) (list_all (whole []) ls) h in
@@ -99,7 +99,7 @@ blank_lines_whole : (ls : List (List ℕ)) → list_all is_blank_line ls ≡ tru
 blank_lines_whole [] h = refl
 blank_lines_whole (l ∷ ls) h = let parts = and_parts (is_blank_line l) (list_all is_blank_line ls) h in and_from (whole [] l) (list_all (whole []) ls) (blanks_whole l parts.0) (blank_lines_whole ls parts.1)
 
-fine : (bytes : List ℕ) → whole [] bytes ≡ true → bad_byte bytes ≡ None
+pub fine : (bytes : List ℕ) → whole [] bytes ≡ true → bad_byte bytes ≡ None
 fine bytes h =
     let all : utf8_valid_len bytes ≡ length bytes = utf8_valid_len-IsUtf8 bytes (whole_utf8 bytes h) in
     cond-false (nat_lt (utf8_valid_len bytes) (length bytes)) (Some (utf8_valid_len bytes)) None (le-ltb (utf8_valid_len bytes) (length bytes) (omega (arith, all)))

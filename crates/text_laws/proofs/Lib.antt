@@ -1,0 +1,12 @@
+pub mod Digits
+pub mod Numbers
+pub mod Heads
+pub mod Reading
+pub mod Texts
+pub mod Fitting
+pub mod Telling
+pub mod Again
+pub mod Certificates
+pub mod BestRuns
+pub mod LineNames
+pub mod CertifiedBack

@@ -1,0 +1,4 @@
+pub mod Entries
+pub mod Records
+pub mod BestRuns
+pub mod Certified
