@@ -1,6 +1,6 @@
 -- Steps of a past: each is over what it stands for, so that where no step may cover a node, none that is kept covers it.
 use Rattle.std.proofs.Common.{◌≡◌, ℕ, ◌≤◌, ◌⊎◌, inl, inr, Bool, true, false, List, [], ◌∷◌, ◌++◌, length, set, Option, Some, None, refl, sym, ap, ◌∙◌, subst, arith}
-use Rattle.std.specs.Prelude.{ℤ, pos, nat_eq, int_le, int_lt, ◌≤ℤ◌}
+use Rattle.std.specs.Prelude.{ℤ, pos, nat_eq, int_le, int_lt}
 use Rattle.std.specs.BTreeMap.{BTreeMap, get}
 use Rattle.std.specs.BTreeMap.Range.{IsEntryInRange, IsRangeOf}
 use Rattle.std.specs.declared.ops.Bound.TheVariants.{Included, Unbounded}
@@ -15,11 +15,10 @@ use Rattle.state_layout.specs.Merits.{merit_of}
 use Rattle.state_layout.specs.declared.layout.Layout.{Layout}
 use Rattle.state_layout.specs.declared.node.Node.{Node}
 use Rattle.dom_store.specs.Chains.{chain_from, has_key}
-use Rattle.dom_store.specs.Covering.{bare, key_of, KeepsKey}
+use Rattle.dom_store.specs.Covering.{bare, covers, replaces, key_of, KeepsKey}
 use Rattle.dom_store.specs.Glances.{IsGlanceOf}
-use Rattle.dom_store.specs.Laws.{covers_shows}
-use Rattle.dom_store.specs.Past.{past_node, past_key, covers_past, is_past, passes_at, IsPastKept, AreUnder, ArePastStaircases}
-use Rattle.dom_store.specs.Staircases.{AreIndexed, AreStaircases}
+use Rattle.dom_store.specs.Laws.{covers_shows, covers_then}
+use Rattle.dom_store.specs.Past.{past_node, past_key, covers_past, is_past, passes_at, IsStoodFor, IsPastKept, AreUnder, ArePastStaircases}
 use Rattle.dom_store.specs.Stairs.{NoneCovers, HasStep, IsOver, IsUnder}
 use Rattle.dom_store.specs.declared.chains.Link.{Link}
 use Rattle.dom_store.specs.declared.glance.Glance.{Glance}
@@ -177,30 +176,52 @@ module _ (prune minimize : Bool) (operator : JoinOp) (layout : Layout) where
 
   -- ---- the steps of a row are made
 
-  -- what is kept of a row is at one of the places that are left, or is under a step
-  abbrev pub AreLeftUnder : ℕ → BTreeMap ℕ Step → List PastNode → List ℕ → Type 0
-  AreLeftUnder key steps past list =
-      (p : ℕ) (n : PastNode) → slice_get past p ≡ Some n → key ≡ past_key prune layout n → Has list p ⊎ IsUnder steps (order_word minimize operator n.cost) (merit_of layout n.state)
+  -- what is kept at the places of a row is at one of those that are left, or is under a step
+  abbrev pub AreLeftUnder : List ℕ → BTreeMap ℕ Step → List PastNode → List ℕ → Type 0
+  AreLeftUnder row steps past list =
+      (p : ℕ) (n : PastNode) → slice_get past p ≡ Some n → Has row p → Has list p ⊎ IsUnder steps (order_word minimize operator n.cost) (merit_of layout n.state)
 
-  pub left_under : (key : ℕ) (row row' : Option ℕ) (steps new : BTreeMap ℕ Step) (past : List PastNode) (links : List Link) (o next : Option ℕ) (place : ℕ) → (row ≡ Some key → AreLeftUnder key steps past (chain_from links o))
-      → o ≡ Some place → chain_from links (Some place) ≡ place ∷ chain_from links next → ((p : ℕ) (n : PastNode) → slice_get past p ≡ Some n → key ≡ past_key prune layout n → has_key links key p ≡ true) → ((k : ℕ) → row' ≡ Some k → row ≡ Some k)
+  pub left_under : (key : ℕ) (places : List ℕ) (row row' : Option ℕ) (steps new : BTreeMap ℕ Step) (past : List PastNode) (links : List Link) (o next : Option ℕ) (place : ℕ) → (row ≡ Some key → AreLeftUnder places steps past (chain_from links o))
+      → o ≡ Some place → chain_from links (Some place) ≡ place ∷ chain_from links next → ((p : ℕ) → Has places p → has_key links key p ≡ true) → ((k : ℕ) → row' ≡ Some k → row ≡ Some k)
       → (row' ≡ Some key → has_key links key place ≡ true → (n : PastNode) → slice_get past place ≡ Some n → IsUnder new (order_word minimize operator n.cost) (merit_of layout n.state))
-      → ((k : ℕ) → row' ≡ Some k → (w m : ℤ) → IsUnder steps w m → IsUnder new w m) → row' ≡ Some key → AreLeftUnder key new past (chain_from links next)
-  left_under key row row' steps new past links o next place h here is filed same under others on p n there key_is = by (h (same key on) p n there key_is)
+      → ((k : ℕ) → row' ≡ Some k → (w m : ℤ) → IsUnder steps w m → IsUnder new w m) → row' ≡ Some key → AreLeftUnder places new past (chain_from links next)
+  left_under key places row row' steps new past links o next place h here is filed same under others on p n there at_row = by (h (same key on) p n there at_row)
     where
       at : (place ≡ p) ⊎ Has (chain_from links next) p → Has (chain_from links next) p ⊎ IsUnder new (order_word minimize operator n.cost) (merit_of layout n.state)
-      at (inl e) = inr (under on (subst (λ q. has_key links key q ≡ true) (sym e) (filed p n there key_is)) n (ap (slice_get past) e ∙ there))
+      at (inl e) = inr (under on (subst (λ q. has_key links key q ≡ true) (sym e) (filed p at_row)) n (ap (slice_get past) e ∙ there))
       at (inr r) = inl r
 
       by : Has (chain_from links o) p ⊎ IsUnder steps (order_word minimize operator n.cost) (merit_of layout n.state) → Has (chain_from links next) p ⊎ IsUnder new (order_word minimize operator n.cost) (merit_of layout n.state)
       by (inl left) = at (has_cases place (chain_from links next) p (subst (λ (ps : List ℕ). Has ps p) (ap (chain_from links) here ∙ is) left))
       by (inr u) = inr (others key on (order_word minimize operator n.cost) (merit_of layout n.state) u)
 
-  pub all_under : (key : ℕ) (row : Option ℕ) (steps : BTreeMap ℕ Step) (past : List PastNode) (links : List Link) (o : Option ℕ) → ((k : ℕ) → row ≡ Some k → k ≡ key) → (row ≡ Some key → AreLeftUnder key steps past (chain_from links o)) → o ≡ None → AreUnder prune minimize operator layout row steps past
-  all_under key row steps past links o same h ends p n there on =
-      let is : past_key prune layout n ≡ key = same (past_key prune layout n) on in
-      by (h (on ∙ ap Some is) p n there (sym is))
+  -- then all of the row is under a step: what stands for it is
+  pub all_under : KeepsKey prune minimize operator → (places : ℕ → List ℕ) (count : ℕ) (key : ℕ) (row : Option ℕ) (steps : BTreeMap ℕ Step) (past : List PastNode) (links : List Link) (o : Option ℕ) → IsPastKept prune minimize operator layout places count past → ((k : ℕ) → row ≡ Some k → k ≡ key)
+      → (row ≡ Some key → AreLeftUnder (places key) steps past (chain_from links o)) → o ≡ None → AreUnder prune minimize operator layout row steps past
+  all_under one places count key row steps past links o kept same h ends p n there on = by (kept.rows p n there)
     where
-      by : Has (chain_from links o) p ⊎ IsUnder steps (order_word minimize operator n.cost) (merit_of layout n.state) → IsUnder steps (order_word minimize operator n.cost) (merit_of layout n.state)
-      by (inl left) = absurd (has_none p (subst (λ (ps : List ℕ). Has ps p) (ap (chain_from links) ends) left))
-      by (inr u) = u
+      is : past_key prune layout n ≡ key
+      is = same (past_key prune layout n) on
+
+      ended : (q : ℕ) (word merit : ℤ) → Has (chain_from links o) q ⊎ IsUnder steps word merit → IsUnder steps word merit
+      ended q word merit (inl left) = absurd (has_none q (subst (λ (ps : List ℕ). Has ps q) (ap (chain_from links) ends) left))
+      ended q word merit (inr u) = u
+
+      by : IsStoodFor prune minimize operator layout places past n → IsUnder steps (order_word minimize operator n.cost) (merit_of layout n.state)
+      by s =
+          let same_key : past_key prune layout s.1 ≡ key = one layout (bare s.1.state s.1.cost) (bare n.state n.cost) s.3 ∙ is in
+          let u = ended s.0 (order_word minimize operator s.1.cost) (merit_of layout s.1.state) (h (on ∙ ap Some is) s.0 s.1 s.2 (subst (λ k. Has (places k) s.0) same_key s.4)) in
+          let shown = covers_shows prune minimize operator layout (bare s.1.state s.1.cost) (bare n.state n.cost) s.3 in
+          (u.0, u.1, u.2, le_through (pos u.0) (order_word minimize operator s.1.cost) (order_word minimize operator n.cost) u.3 shown.0, le_through (merit_of layout n.state) (merit_of layout s.1.state) u.1.merit shown.1 u.4)
+
+-- ---- a node covers what is kept of another
+
+kept_low : (a b : ℕ) (x y : ℤ) → pos a ≡ x → pos b ≡ y → a ≤ b → int_le x y ≡ true
+kept_low a b x y e f h = subst (λ (z : ℤ). int_le x z ≡ true) f (subst (λ (z : ℤ). int_le z (pos b) ≡ true) e (pos_le a b h))
+
+-- where the words do not show that it does not, the states decide
+pub covers_kept : (prune minimize : Bool) (operator : JoinOp) (layout : Layout) (node : Node) (n : PastNode) (word held : ℕ) (states : Bool) → pos word ≡ order_word minimize operator node.cost → pos held ≡ order_word minimize operator n.cost → word ≤ held
+    → states ≡ replaces prune layout node.state n.state → states ≡ true → covers prune minimize operator layout node (bare n.state n.cost) ≡ true
+covers_kept prune minimize operator layout node n word held states e f low test holds =
+    sym (covers_then prune minimize operator layout node (bare n.state n.cost) states (int_le (order_word minimize operator node.cost) (order_word minimize operator n.cost)) test holds refl)
+    ∙ kept_low word held (order_word minimize operator node.cost) (order_word minimize operator n.cost) e f low

@@ -62,7 +62,7 @@ pub(crate) fn raise_past<K: Covers>(
     kept: &[PastNode],
     key: u64,
 )
-    requires kept { IsPastKept K.prune layout.now (row_in chains.now.heads.items chains.now.links.items) (length chains.now.links.items) kept.now }
+    requires kept { IsPastKept K.prune K.minimize K.operator layout.now (row_in chains.now.heads.items chains.now.links.items) (length chains.now.links.items) kept.now }
     requires steps { ArePastStaircases K.prune K.minimize K.operator layout.now (row_in staircases.old.chains.heads.items staircases.old.chains.links.items) (length staircases.old.chains.links.items) staircases.old.stairs.items kept.now }
     ensures { ArePastStaircases K.prune K.minimize K.operator layout.now (row_in staircases.new.chains.heads.items staircases.new.chains.links.items) (length staircases.new.chains.links.items) staircases.new.stairs.items kept.now }
 {
@@ -86,7 +86,7 @@ fn raised<K: Covers>(
     kept: &[PastNode],
     key: u64,
 ) -> Stairs
-    requires kept { IsPastKept K.prune layout.now (row_in chains.now.heads.items chains.now.links.items) (length chains.now.links.items) kept.now }
+    requires kept { IsPastKept K.prune K.minimize K.operator layout.now (row_in chains.now.heads.items chains.now.links.items) (length chains.now.links.items) kept.now }
     ensures steps { AreUnder K.prune K.minimize K.operator layout.now result.row result.steps kept.now }
     ensures row { (k : ℕ) → result.row ≡ Some k → k ≡ key }
 {
