@@ -1,5 +1,5 @@
 -- What a looker is of, and what nodes stand for.
-use Rattle.std.specs.Prelude.{◌++◌, ◌∷◌, if◌then◌else◌, Bool, true, false, ℤ, int_le, ◌≡◌, ℕ, List, [], length, map, get_or, slice_get, Option, Some, None, Result, Ok, Err}
+use Rattle.std.specs.Prelude.{◌<◌, ◌++◌, ◌∷◌, if◌then◌else◌, Bool, true, false, ℤ, int_le, ◌≡◌, ℕ, List, [], length, map, get_or, slice_get, Option, Some, None, Result, Ok, Err}
 use Rattle.std.specs.List.{flat_map, range_with_len}
 use Rattle.dp_base.specs.Results.{◌>>=◌}
 use Rattle.dp_model.specs.declared.parts.PlainState.{PlainState}
@@ -11,6 +11,7 @@ use Rattle.replay_list.specs.declared.replayed.Reached.{Reached}
 use Rattle.dp_model.specs.declared.answers.Keep.{Keep}
 use Rattle.dp_model.specs.declared.answers.Keep.TheVariants.{Layer, All}
 use Rattle.cert_types.specs.declared.cert.Cert.{Cert}
+use Rattle.cert_types.specs.declared.nodes.CertNode.{CertNode}
 use Rattle.cert_types.specs.declared.nodes.CertStep.{CertStep}
 use Rattle.cert_laws.specs.Shown.{layer_of}
 use Rattle.cert_laws.specs.Checks.{if_stands, is_covered, node_at, start, step_fails, stepped}
@@ -71,6 +72,22 @@ with_new m prune past (n ∷ ns) = with_new m prune (if is_covered m prune past 
 abbrev pub pick_fails : Model → Cert → List PastNode → Reached → Option ℕ → Option CertReason
 pick_fails m cert past here None = None
 pick_fails m cert past here (Some g) = step_fails m cert past here g
+
+-- the node at a place is open, and stands for the same state at the same cost so far as an open one before it
+pub record IsCopy (nodes : List CertNode) (standings : List Standing) (place : ℕ) : Type 0 where
+  pub earlier : ℕ
+  pub first : CertNode
+  pub copy : CertNode
+  pub found_first : Standing
+  pub found_copy : Standing
+  pub before : earlier < place
+  pub at_first : slice_get nodes earlier ≡ Some first
+  pub at_copy : slice_get nodes place ≡ Some copy
+  pub stands_first : slice_get standings earlier ≡ Some found_first
+  pub stands_copy : slice_get standings place ≡ Some found_copy
+  pub open_first : first.cut ≡ false
+  pub open_copy : copy.cut ≡ false
+  pub same : found found_first ≡ found found_copy
 
 -- these cover the same states, at the same costs so far, as those
 abbrev pub CoverAlike : Model → (prune : Bool) → List PastNode → List PastNode → Type 0

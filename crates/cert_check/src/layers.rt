@@ -1,18 +1,21 @@
 //! The layers of a certificate, one after another.
 
-ghost use Rattle.std.specs.Prelude.{◌≡◌, ◌+◌, ◌<◌, ◌^◌, [], IfOk, OnOk, length};
+ghost use Rattle.std.specs.Prelude.{◌≡◌, ℕ, ◌+◌, ◌<◌, ◌^◌, [], Some, None, IfOk, OnOk, length, slice_get};
 ghost use Rattle.eval_room.specs.Needs.{ServesModel};
 ghost use Rattle.cost_laws.specs.Orders.{IsLawOf};
 ghost use Rattle.state_layout.specs.Conditions.{IsLayoutOf};
 ghost use Rattle.cert_types.specs.Lines.{line_of_layer, lines_of_list};
 ghost use Rattle.cert_laws.specs.Shown.{layer_of};
-ghost use Rattle.cert_laws.specs.Checks.{covering, layer_told, layers_told};
-ghost use Rattle.cert_check.specs.Looked.{AllFit, AreFound, CoverAlike, kept_before, pasts, with_new};
+ghost use Rattle.cert_types.specs.declared.nodes.CertNode.{CertNode as TheNode};
+ghost use Rattle.cert_laws.specs.Checks.{covering, layer_told, layers_told, node_fails_at};
+ghost use Rattle.cert_check.specs.Looked.{AllFit, AreFound, CoverAlike, found, kept_before, pasts, with_new};
+ghost use Rattle.cert_check.specs.declared.standings.Standing.{Standing as TheStanding};
 
 use crate::clauses::node_fails;
+use crate::copies::{Seen, is_copy};
 use crate::looker::Looker;
 use crate::standings::{Standing, layer_stood, remember};
-use cert_laws::Checked;
+use cert_laws::{CertReason, Checked};
 use cert_types::{Cert, CertNode};
 use cost_laws::CostLaw;
 use dom_store::{Covers, PastStore};
@@ -60,6 +63,45 @@ fn keep_next<K: Covers>(
     remember(past, looker, next)
 }
 
+/// Why the line of the node at a place is rejected, if it is, where none of those before it is. An open node that is a copy of an earlier
+/// one needs no look.
+fn line_fails<L: CostLaw, K: Covers>(
+    looker: &Looker<'_>,
+    alloc: Global,
+    cert: &Cert,
+    past: &PastStore<K>,
+    nodes: &[CertNode],
+    standings: &[Standing],
+    seen: &mut Seen,
+    place: usize,
+    stack: &mut [u64],
+) -> Result<Option<CertReason>, AllocError>
+    requires law { IsLawOf looker.now L.minimize L.operator }
+    requires covering { IsLawOf looker.now K.minimize K.operator }
+    requires prune { K.prune ≡ cert.now.prune }
+    requires layout { IsLayoutOf looker.now past.now.layout }
+    requires room { ServesModel looker.now (length stack.old) }
+    requires fits { AllFit looker.now standings.now }
+    requires within { place < length nodes.now }
+    requires level { length standings.now ≡ length nodes.now }
+    requires before { (k : ℕ) (n : TheNode) (s : TheStanding) → k < place → slice_get nodes.now k ≡ Some n → slice_get standings.now k ≡ Some s → node_fails_at looker.now cert.now past.now.nodes n (found s) ≡ None }
+    ensures { IfOk result (λ fails. (n : TheNode) (s : TheStanding) → slice_get nodes.now place ≡ Some n → slice_get standings.now place ≡ Some s → fails ≡ node_fails_at looker.now cert.now past.now.nodes n (found s)) }
+{
+    let copied = is_copy::<L>(looker, nodes, standings, seen, place)?;
+    if copied {
+        return Ok(None);
+    }
+    node_fails::<L, K>(
+        looker,
+        alloc,
+        cert,
+        past,
+        nodes[place],
+        &standings[place],
+        stack,
+    )
+}
+
 /// What is told of the nodes of a layer, of which this is the first line.
 fn layer_told<L: CostLaw, K: Covers>(
     looker: &Looker<'_>,
@@ -83,8 +125,12 @@ fn layer_told<L: CostLaw, K: Covers>(
     requires past { CoverAlike looker.now K.prune past.now.nodes (covering looker.now cert.now cert.now.keep (l + 1)) }
     ensures { IfOk result (λ told. told ≡ layer_told looker.now cert.now l 0 (layer_of cert.now.layers l)) }
 {
-    for (place, n) in nodes_of(cert, l).iter().enumerate() {
-        let fails = node_fails::<L, K>(looker, alloc, cert, past, *n, &standings[place], stack)?;
+    let nodes = nodes_of(cert, l);
+    let mut seen = Seen::new(alloc);
+    for place in 0..nodes.len() {
+        let fails = line_fails::<L, K>(
+            looker, alloc, cert, past, nodes, standings, &mut seen, place, stack,
+        )?;
         if let Some(reason) = fails {
             let line = line + 1 + place as u32;
             return Ok(Checked::No { line, reason });

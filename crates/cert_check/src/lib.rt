@@ -4,6 +4,7 @@
 
 mod checking;
 mod clauses;
+mod copies;
 mod layers;
 mod looker;
 mod standings;
