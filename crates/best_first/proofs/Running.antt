@@ -26,7 +26,7 @@ use Rattle.pass_ledger.specs.Passes.{Pass}
 use Rattle.pass_ledger.proofs.Lists.{has_none}
 use Rattle.shard_core.specs.Stands.{Suited}
 use Rattle.shard_threads.specs.Players.{AllStay}
-use Rattle.shard_threads.specs.Seats.{joined}
+use Rattle.joined_seats.specs.Joined.{joined}
 use Rattle.shard_threads.specs.declared.seated.Seated.{Seated}
 
 -- ---- memory ran out before the first turn

@@ -33,9 +33,9 @@ use Rattle.path_log.specs.Paths.{Log}
 use Rattle.pass_ledger.specs.Passes.{Pass, word_of}
 use Rattle.pass_ledger.specs.declared.records.FaultHere.{FaultHere}
 use Rattle.pass_ledger.specs.declared.records.Held.{Held}
-use Rattle.shard_threads.specs.Seats.{joined, with_less}
-use Rattle.shard_threads.proofs.Joined.{all_of, all_above, all_below, all_equal, all_none, all_same, joined_same, joined_sum, least_each, least_first, least_one, greatest_each, greatest_one}
-use Rattle.shard_turns.specs.Turners.{IsOfferOf}
+use Rattle.joined_seats.specs.Joined.{joined, with_less}
+use Rattle.joined_seats.proofs.Joined.{all_of, all_above, all_below, all_equal, all_none, all_same, joined_same, joined_sum, least_each, least_first, least_one, greatest_each, greatest_one}
+use Rattle.shard_seats.specs.Seats.{IsOfferOf}
 
 -- ---- what the seat of one shard says
 

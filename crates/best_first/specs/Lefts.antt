@@ -15,7 +15,7 @@ use Rattle.board_words.specs.Steps.{best_known}
 use Rattle.board_words.specs.declared.seat.View.{View}
 use Rattle.path_log.specs.Paths.{Log}
 use Rattle.pass_ledger.specs.Passes.{Pass, StartsInner}
-use Rattle.shard_threads.specs.Seats.{joined, with_less}
+use Rattle.joined_seats.specs.Joined.{joined, with_less}
 
 -- a shard raised a halt, or met one
 abbrev pub HaveHalted : List SeatFacts → Type 0

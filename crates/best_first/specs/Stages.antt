@@ -4,7 +4,7 @@ use Rattle.board_words.specs.Seats.{BoardFacts, SeatFacts, IsSeatOf}
 use Rattle.board_words.specs.declared.seat.View.{View}
 use Rattle.pass_ledger.specs.Passes.{Pass, StartsInner}
 use Rattle.shard_mail.specs.Ends.{MailboxFacts}
-use Rattle.shard_threads.specs.Seats.{with_less}
+use Rattle.joined_seats.specs.Joined.{with_less}
 use Rattle.shard_threads.specs.declared.seated.Seated.{Seated}
 use Rattle.best_turns.specs.declared.turner.BestTurner.{BestTurner}
 use Rattle.best_first.specs.Crews.{KeepAll}

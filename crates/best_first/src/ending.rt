@@ -13,7 +13,7 @@ ghost use Rattle.board_words.specs.Steps.{best_known};
 ghost use Rattle.board_words.specs.declared.seat.View.{View};
 ghost use Rattle.cost_laws.specs.Orders.{IsLawOf};
 ghost use Rattle.pass_ledger.specs.Passes.{Pass};
-ghost use Rattle.shard_threads.specs.Seats.{joined};
+ghost use Rattle.joined_seats.specs.Joined.{joined};
 
 use crate::room::{Room, leave_all, settle_all};
 use best_ends::{BestEnd, BestTally, answer, out_of_memory};
@@ -23,9 +23,10 @@ use board_words::{Board, BoardSeat};
 use cost_laws::CostLaw;
 use dom_store::Covers;
 use dp_model::Options;
+use joined_seats::join_seats;
 use path_log::PathLog;
 use shard_mail::Mailbox;
-use shard_threads::{Seated, join_seats};
+use shard_threads::Seated;
 use std::alloc::Global;
 use std::sync::Wait;
 

@@ -23,8 +23,8 @@ use Rattle.best_shard.specs.Stands.{Stands, Holds, EndsAs}
 use Rattle.best_shard.specs.declared.shard.BestShard.{BestShard}
 use Rattle.shard_mail.specs.Ends.{MailboxFacts, PosterFacts, TakerFacts, IsPosterOf, IsNextFor, posted_by, taken_by}
 use Rattle.shard_mail.specs.Mails.{LawfulUnder}
-use Rattle.shard_turns.specs.Turners.{IsOfferOf}
-use Rattle.shard_turns.proofs.Sitting.{offered_after, offered_news}
+use Rattle.shard_seats.specs.Seats.{IsOfferOf}
+use Rattle.shard_seats.proofs.Sitting.{offered_after, offered_news}
 use Rattle.best_turns.specs.Envelopes.{sender_of, are_lawful}
 use Rattle.best_turns.specs.Turners.{Sits, Sat, IsTakerFor, ArePostersFor, HasAllMail, HasSomeMail, Acts, Leaves, EndsBy}
 use Rattle.best_turns.specs.Works.{HasTaken, HasHandled, HasPostedNext}

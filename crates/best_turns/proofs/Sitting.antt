@@ -26,7 +26,7 @@ use Rattle.best_ledger.proofs.Moments.{visits_append, no_visits_in}
 use Rattle.best_ledger.proofs.Steps.{pruned_same}
 use Rattle.best_turns.specs.Turners.{HasSeen, Sits, HasCause, Sat}
 use Rattle.best_turns.specs.declared.turner.BestEnded.TheVariants as ends
-use Rattle.shard_turns.specs.Turners.{IsOfferOf}
+use Rattle.shard_seats.specs.Seats.{IsOfferOf}
 use Rattle.state_layout.specs.declared.node.Node.{Node}
 
 -- ---- the best word

@@ -16,7 +16,8 @@ use Rattle.best_ledger.specs.declared.records.BestRecord.{BestRecord}
 use Rattle.best_ledger.specs.declared.records.Moment.{Moment}
 use Rattle.best_ledger.specs.declared.records.Moment.TheVariants.{Pruned}
 use Rattle.best_shard.specs.Stands.{Stands, EndsAs}
-use Rattle.shard_turns.specs.Turners.{IsSharedBy, IsOfferOf}
+use Rattle.shard_turns.specs.Turners.{IsSharedBy}
+use Rattle.shard_seats.specs.Seats.{IsOfferOf}
 use Rattle.best_turns.specs.Envelopes.{letters_in, taken_from, terms_of}
 use Rattle.best_turns.specs.declared.envelope.BestEnvelope.{BestEnvelope}
 use Rattle.best_turns.specs.declared.turner.BestEnded.{BestEnded}

@@ -8,7 +8,7 @@ use Rattle.pass_ledger.specs.declared.records.PrunedAt.{PrunedAt}
 use Rattle.pass_ledger.proofs.Worked.{has_one, none_is, some_is}
 use Rattle.shard_mail.specs.Ends.{PosterFacts, IsSettled}
 use Rattle.shard_mail.specs.Mails.{letters_of}
-use Rattle.shard_turns.specs.Turners.{HasSeen}
+use Rattle.shard_seats.specs.Seats.{HasSeen}
 use Rattle.end_guards.specs.Boards.{seat, pruned_by, poster, sender, LawWorkedBoard, LawWorkedSeats, LawWorkedMail}
 
 one_part : (seen best : ℕ) → IsWhole (seat seen) → best ≡ best_known (seat seen)

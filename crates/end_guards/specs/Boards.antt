@@ -6,8 +6,8 @@ use Rattle.board_words.specs.declared.seat.View.{View}
 use Rattle.pass_ledger.specs.Worked.{alone, n0, second_pass, word_11, word_3, no_word}
 use Rattle.pass_ledger.specs.declared.records.PrunedAt.{PrunedAt}
 use Rattle.shard_mail.specs.Ends.{PosterFacts, IsSettled}
-use Rattle.shard_turns.specs.Turners.{HasEnded, HasSeen}
-use Rattle.shard_turns.specs.declared.turner.Ended.TheVariants as ends
+use Rattle.shard_seats.specs.Seats.{HasEnded, HasSeen}
+use Rattle.shard_seats.specs.declared.ended.Ended.TheVariants as ends
 
 -- a new seat with one part of a board, with a limit of 4 visits, that has seen this word
 abbrev pub seat : (seen : ℕ) → View

@@ -16,11 +16,12 @@ use Rattle.shard_threads.specs.declared.seated.Seated.{Seated}
 use Rattle.shard_turns.specs.Calls.{IsCalling, CallsFor, queue_of}
 use Rattle.shard_turns.specs.Turners.{Keeps, KeepsAs}
 use Rattle.shard_turns.specs.declared.calling.Calling.{Calling}
-use Rattle.shard_turns.specs.declared.turner.Ended.{Ended}
+use Rattle.shard_seats.specs.declared.ended.Ended.{Ended}
 use Rattle.shard_turns.specs.declared.turner.Turner.{Turner}
 use Rattle.pass_run.specs.Callers.{AreLastCallers, CallTo, HaveCalled, caller_list, callers_of}
 use Rattle.pass_run.specs.Crews.{KeepAll}
-use Rattle.pass_run.proofs.Places.{Begins, begins_last, begins_less, long_more, none_there, same_at, set_off, set_same, there}
+use Rattle.pass_run.proofs.Places.{Begins, begins_last, begins_less, long_more, none_there, same_at, set_off, set_same}
+use Rattle.pass_over.proofs.Places.{there}
 
 -- ---- the callers of shards that call
 

@@ -4,11 +4,11 @@ use Rattle.board_words.specs.Seats.{BoardFacts, SeatFacts, IsSeatOf}
 use Rattle.board_words.specs.declared.seat.View.{View}
 use Rattle.pass_ledger.specs.Passes.{Pass, StartsInner}
 use Rattle.shard_mail.specs.Ends.{MailboxFacts}
-use Rattle.shard_threads.specs.Seats.{with_less}
+use Rattle.joined_seats.specs.Joined.{with_less}
 use Rattle.shard_threads.specs.declared.seated.Seated.{Seated}
 use Rattle.shard_turns.specs.declared.turner.Turner.{Turner}
 use Rattle.pass_run.specs.Crews.{KeepAll}
-use Rattle.pass_run.specs.Lefts.{IsBefore}
+use Rattle.pass_over.specs.Lefts.{IsBefore}
 use Rattle.pass_run.specs.Rooms.{IsRoomFor}
 use Rattle.pass_run.specs.declared.room.Room.{Room}
 

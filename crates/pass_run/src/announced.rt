@@ -1,40 +1,41 @@
 //! A pass that announces the costs of better solutions while it runs.
 
-ghost use Rattle.std.specs.Prelude.{◌≡◌, ◌<◌, ◌≤◌, ◌^◌, ℕ, List, Option, Some, ℤ, false, length, option_map, slice_get, IfErr, IfOk};
+ghost use Rattle.std.specs.Prelude.{◌≡◌, ◌<◌, ◌≤◌, ◌^◌, ℕ, List, Option, Some, ℤ, length, slice_get, IfErr, IfOk};
 ghost use Rattle.announcer.specs.Ends.{AreCallersOf, AreNewCallers, IsBegunOf, IsCrierOf, new_crier};
 ghost use Rattle.announcer.specs.declared.view.CalledCost.{CalledCost};
-ghost use Rattle.announcing.specs.Hearing.{Hears, costs_cried};
-ghost use Rattle.announcing.specs.Hearing.{Heard as HeardBy};
 ghost use Rattle.announcing.specs.Telling.{IsTold};
 ghost use Rattle.board_words.specs.Rules.{IsWhole};
 ghost use Rattle.board_words.specs.Seats.{BoardFacts, IsSeatOf};
 ghost use Rattle.board_words.specs.Steps.{best_known};
 ghost use Rattle.board_words.specs.declared.seat.View.{View};
 ghost use Rattle.cost_laws.specs.Orders.{IsLawOf};
-ghost use Rattle.dp_model.specs.declared.answers.Found.{Found as Solutions};
 ghost use Rattle.dp_steps.specs.States.{Inner};
 ghost use Rattle.pass_ends.specs.Ends.{IsPassEnd};
 ghost use Rattle.pass_ends.specs.Passes.{AreOptions, pass_of};
 ghost use Rattle.pass_ledger.specs.Passes.{Pass};
+ghost use Rattle.pass_over.specs.Announcements.{EndsAnnounced, HasAnnounced, HasLast, RanOut};
+ghost use Rattle.pass_over.specs.Passes.{MayPass};
 ghost use Rattle.shard_mail.specs.Ends.{MailboxFacts};
 ghost use Rattle.shard_threads.specs.Players.{AreHeld, AllStay};
 ghost use Rattle.shard_turns.specs.Plays.{plays_by};
-ghost use Rattle.pass_run.specs.Announcements.{EndsAnnounced, HasAnnounced, HasHeard, HasLast, HasLooked, HasSettled, RanOut, WasHeard, cost_in, forgotten};
+ghost use Rattle.pass_run.specs.Announcements.{HasHeard, HasLooked, HasSettled, WasHeard, forgotten};
 ghost use Rattle.pass_run.specs.Callers.{AreLastCallers, CallTo};
 ghost use Rattle.pass_run.specs.Crews.{AllEnded, KeepAll};
-ghost use Rattle.pass_run.specs.Passes.{MayPass};
+ghost use Rattle.pass_run.specs.Hearing.{Heard as HeardBy, Hears, costs_cried};
 
+use crate::ear::{Ear, MOST_HEARD};
 use crate::ending::Over;
 use crate::stages::{Begun, begin_pass, end_pass, not_begun};
 use announcer::{AnnounceQueue, Caller, Crier};
-use announcing::{Ear, MOST_HEARD, Told, look_all, look_some};
+use announcing::{Told, look_all, look_some};
 use board_words::{Board, BoardSeat};
 use cost_laws::CostLaw;
 use dom_store::{Covers, Dominating, Exact};
 use dp_base::Seq;
-use dp_model::{Found, Model as DpModel, Options};
+use dp_model::{Model as DpModel, Options};
 use dp_outside::{Gate, Sink};
 use pass_ends::{PassEnd, out_of_memory};
+use pass_over::{AnnouncedEnd, best_cost, silent};
 use shard_mail::Mailbox;
 use shard_threads::{Floor, Seated, turn_in_threads};
 use shard_turns::{Calling, Envelope, Turner};
@@ -43,20 +44,6 @@ use std::alloc::Global;
 use std::mem;
 use std::sync::Wait;
 use std::thread::Threads;
-
-/// How a pass ended, and what it announced.
-#[derive(Debug, Drop)]
-pub struct AnnouncedEnd {
-    pub end: PassEnd,
-    /// The last cost that was announced, in this pass or before it.
-    pub last: Option<i64>,
-    /// How many costs were announced.
-    pub announced: u64,
-    /// How often a shard found no room for a cost.
-    pub refused: u64,
-    /// Whether a write failed. Then nothing more was announced, and the pass went on to its end.
-    pub failed: bool,
-}
 
 /// A pass whose shards have ended, and what was heard of them until then.
 #[derive(Drop)]
@@ -251,26 +238,6 @@ fn forget(end: PassEnd) -> PassEnd
     }
 }
 
-/// The cost of a solution, if there is one.
-fn cost_of(found: &Option<Found>) -> Option<i64>
-    ensures { result ≡ option_map (λ (f : Solutions). f.cost) found.now }
-{
-    match found {
-        Some(found) => Some(found.cost),
-        None => None,
-    }
-}
-
-/// The cost of the best solution of a pass.
-fn best_cost(end: &PassEnd) -> Option<i64>
-    ensures { result ≡ cost_in end.now }
-{
-    match end {
-        PassEnd::Closed { best, .. } => cost_of(best),
-        PassEnd::Halted { best, .. } => cost_of(best),
-    }
-}
-
 /// Looks at the costs that were left in the queue, and at last at the pass's best. More costs than can be counted have ended the
 /// memory.
 fn look_last<S: Sink>(
@@ -354,19 +321,6 @@ fn settle_pass<R: Wait, S: Sink>(
         announced: told.count,
         refused,
         failed: told.failed,
-    }
-}
-
-/// The answer of a pass that announced nothing.
-fn silent(end: PassEnd, last: Option<i64>) -> AnnouncedEnd
-    ensures { result ≡ record { end = end; last = last; announced = 0; refused = 0; failed = false } }
-{
-    AnnouncedEnd {
-        end,
-        last,
-        announced: 0,
-        refused: 0,
-        failed: false,
     }
 }
 

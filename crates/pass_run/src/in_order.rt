@@ -7,7 +7,7 @@ ghost use Rattle.cost_laws.specs.Orders.{IsLawOf};
 ghost use Rattle.dp_steps.specs.States.{Inner};
 ghost use Rattle.pass_ends.specs.Ends.{IsPassEnd};
 ghost use Rattle.pass_ends.specs.Passes.{AreOptions, pass_of};
-ghost use Rattle.pass_run.specs.Passes.{MayPass};
+ghost use Rattle.pass_over.specs.Passes.{MayPass};
 
 use crate::ending::Over;
 use crate::stages::{Begun, begin_pass, end_pass};

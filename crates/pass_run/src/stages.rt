@@ -10,20 +10,21 @@ ghost use Rattle.cost_laws.specs.Orders.{IsLawOf};
 ghost use Rattle.pass_ledger.specs.Passes.{Pass};
 ghost use Rattle.pass_ends.specs.Ends.{IsPassEnd};
 ghost use Rattle.pass_ends.specs.Passes.{pass_of};
-ghost use Rattle.pass_run.specs.Announcements.{RanOut};
+ghost use Rattle.pass_over.specs.Announcements.{RanOut};
+ghost use Rattle.pass_over.specs.Passes.{MayPass};
 ghost use Rattle.pass_run.specs.Callers.{AreLastCallers, CallTo};
 ghost use Rattle.pass_run.specs.Crews.{AllEnded};
-ghost use Rattle.pass_run.specs.Passes.{MayPass};
 ghost use Rattle.pass_run.specs.Stages.{IsBegun};
 
 use crate::crew::{Crew, make_crew};
-use crate::ending::{Over, gather, tell, visits_so_far};
+use crate::ending::{Left, Over, gather};
 use crate::room::Room;
 use board_words::{Board, BoardSeat};
 use cost_laws::CostLaw;
 use dom_store::Covers;
 use dp_model::{Model as DpModel, Options};
 use pass_ends::{PassEnd, out_of_memory};
+use pass_over::{tell, visits_so_far};
 use shard_mail::Mailbox;
 use shard_threads::{Seated, seat_all};
 use shard_turns::{Envelope, Turner};
@@ -114,6 +115,11 @@ pub(crate) fn end_pass<'m, L: CostLaw, K: Covers, R: Wait>(
         boxes,
         room,
     } = begun;
-    let left = gather(rt, board, seat, boxes, room, shards);
-    tell::<L>(alloc, options, share, board, seat, left, before)
+    let Left {
+        ends,
+        logs,
+        callers,
+    } = gather(rt, board, seat, boxes, room, shards);
+    let end = tell::<L>(alloc, options, share, board, seat, ends, logs, before);
+    Over { end, callers }
 }

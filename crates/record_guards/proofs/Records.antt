@@ -28,7 +28,7 @@ use Rattle.pass_ledger.proofs.Worked.{best_way, has_two, in_range, small}
 use Rattle.pass_ledger.proofs.WorkedEnough.{worked_enough}
 use Rattle.pass_ledger.proofs.WorkedFault.{worked_fault}
 use Rattle.pass_run.proofs.Places.{none_there}
-use Rattle.pass_run.specs.Announcements.{last_or}
+use Rattle.pass_over.specs.Announcements.{last_or}
 use Rattle.solve_passes.specs.Records.{Announced, Pass, Ending, Ended, OutOfMemory, Right, RightAnnounced, TellsBest, KeepsWord, announced_costs}
 use Rattle.record_guards.specs.Records.{unpruned, pruned, of_11, pass, first, second, run, faulted, LawWorkedRecords, LawWorkedWords}
 

@@ -1,3 +1,4 @@
 pub mod Records
 pub mod Bounds
 pub mod Settled
+pub mod Announced

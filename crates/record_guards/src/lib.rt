@@ -1,6 +1,7 @@
 //! Guards of the definitions that a run is promised by: what they say of records and models that are written out.
 #![tactic(auto)]
 
+ghost use Rattle.record_guards.specs.Announced.{LawWorkedAnnounced};
 ghost use Rattle.record_guards.specs.Bounds.{LawWorkedBounds};
 ghost use Rattle.record_guards.specs.Records.{LawWorkedRecords, LawWorkedWords};
 ghost use Rattle.record_guards.specs.Settled.{LawSettled, LawWorkedModels};
@@ -22,4 +23,10 @@ pub fn law_worked_bounds()
 pub fn law_worked_settled()
     ensures settled { LawSettled }
     ensures models { LawWorkedModels }
+{}
+
+/// Passes that announce the costs of lists, each better than the one before, and their best at last, are right. Those that keep the best
+/// back, but for the last one before want of memory, or tell what no list costs, are not.
+pub fn law_worked_announced()
+    ensures { LawWorkedAnnounced }
 {}

@@ -2,4 +2,3 @@ pub mod Places
 pub mod Staying
 pub mod Parting
 pub mod Seating
-pub mod Joined

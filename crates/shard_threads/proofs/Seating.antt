@@ -4,7 +4,8 @@ use Rattle.std.proofs.lemmas.List.{append_assoc, length_push}
 use Rattle.board_words.specs.Seats.{BoardFacts, IsSeatOf}
 use Rattle.board_words.specs.Steps.{after_split, split_view}
 use Rattle.board_words.specs.declared.seat.View.{View}
-use Rattle.shard_threads.specs.Seats.{AreSeated, with_less}
+use Rattle.shard_threads.specs.Seats.{AreSeated}
+use Rattle.joined_seats.specs.Joined.{with_less}
 use Rattle.shard_threads.specs.declared.seated.Seated.{Seated}
 use Rattle.shard_threads.proofs.Places.{at_front, at_last, each_more, long_parts}
 

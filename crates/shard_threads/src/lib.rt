@@ -16,5 +16,5 @@ pub use between::{Between, Nothing};
 pub use order::turn_in_order;
 pub use player::{Floor, Player, Pulse};
 pub use seated::Seated;
-pub use seats::{join_seats, seat_all};
+pub use seats::seat_all;
 pub use threads::turn_in_threads;

@@ -1,9 +1,10 @@
 //! Seats on the board, one for each player.
 
-ghost use Rattle.std.specs.Prelude.{◌≡◌, ℕ, ◌-◌, ◌*◌, ◌<◌, ◌≤◌, length, slice_get, Some, IfOk, OnOk, OnErr};
+ghost use Rattle.std.specs.Prelude.{◌≡◌, ◌-◌, ◌*◌, ◌<◌, ◌≤◌, length, IfOk, OnOk, OnErr};
 ghost use Rattle.board_words.specs.Rules.{draws_each};
-ghost use Rattle.board_words.specs.Seats.{SeatFacts, IsSeatOf};
-ghost use Rattle.shard_threads.specs.Seats.{AreSeated, with_less, joined};
+ghost use Rattle.board_words.specs.Seats.{IsSeatOf};
+ghost use Rattle.joined_seats.specs.Joined.{with_less};
+ghost use Rattle.shard_threads.specs.Seats.{AreSeated};
 
 use crate::seated::Seated;
 use board_words::{Board, BoardSeat};
@@ -32,16 +33,4 @@ pub fn seat_all<P: Drop>(
         });
     }
     Ok(all)
-}
-
-/// Joins seats again, one after another.
-pub fn join_seats(board: &Board, seat: &mut BoardSeat, seats: Vec<BoardSeat>)
-    requires seat { IsSeatOf board.now seat.old }
-    requires seats { (i : ℕ) (s : SeatFacts) → slice_get seats.items i ≡ Some s → IsSeatOf board.now s }
-    ensures seat { IsSeatOf board.now seat.new }
-    ensures view { seat.new.view ≡ joined seat.old.view seats.items }
-{
-    for other in seats {
-        board.join(seat, other);
-    }
 }

@@ -9,7 +9,7 @@ use Rattle.std.specs.Vec.{with_item}
 use Rattle.board_words.specs.Causes.{halt_number}
 use Rattle.board_words.specs.Rules.{no_word}
 use Rattle.board_words.specs.Seats.{BoardFacts, SeatFacts, IsSeatOf}
-use Rattle.board_words.specs.Steps.{after_look, after_offer, after_draw, after_halt, after_halted, IsBestFor, IsCountFor}
+use Rattle.board_words.specs.Steps.{after_look, after_offer, after_halt, after_halted, IsBestFor}
 use Rattle.board_words.specs.declared.halt.HaltCause.{HaltCause}
 use Rattle.board_words.specs.declared.halt.HaltCause.TheVariants as causes
 use Rattle.board_words.specs.declared.seat.View.{View}
@@ -33,38 +33,21 @@ use Rattle.shard_mail.specs.Ends.{MailboxFacts, PosterFacts, TakerFacts, IsPoste
 use Rattle.shard_mail.specs.Mails.{LawfulUnder}
 use Rattle.shard_turns.specs.Calls.{CallsFor, HasCalled, MayCall}
 use Rattle.shard_turns.specs.Envelopes.{sender_of, are_lawful}
-use Rattle.shard_turns.specs.Turners.{IsOfferOf, Sits, Sat, IsTakerFor, ArePostersFor, HasAllMail, HasSomeMail, HadMemory, Acts, Leaves}
+use Rattle.shard_turns.specs.Turners.{IsTakerFor, ArePostersFor, HasAllMail, HasSomeMail, Acts, Leaves}
+use Rattle.shard_seats.specs.Seats.{IsOfferOf, Sits, Sat, HadMemory}
 use Rattle.shard_turns.specs.Works.{HasTaken, HasClosed, HasHandled, HasPostedNext}
 use Rattle.shard_turns.specs.declared.calling.Calling.{Calling}
 use Rattle.shard_turns.specs.declared.envelope.Envelope.{Envelope}
-use Rattle.shard_turns.specs.declared.turner.Ended.{Ended}
-use Rattle.shard_turns.specs.declared.turner.Ended.TheVariants as ends
+use Rattle.shard_seats.specs.declared.ended.Ended.{Ended}
+use Rattle.shard_seats.specs.declared.ended.Ended.TheVariants as ends
 use Rattle.shard_turns.specs.declared.turner.Turner.{Turner}
+use Rattle.shard_seats.proofs.Sitting.{Drew, Halts}
 use Rattle.shard_turns.proofs.Called.{calls_kept, calls_now, calls_visited, may_call}
-use Rattle.shard_turns.proofs.Kept.{fewer_visits}
+use Rattle.shard_seats.proofs.Kept.{fewer_visits}
 use Rattle.shard_turns.proofs.Mail.{enclosed, can_take, takes_mail, some_mail, vain_mail, posters_with, may_post, posts_mail, kept_mail}
-use Rattle.shard_turns.proofs.Sitting.{drawn_at, offered_after, offered_news, sits_same, sits_pruned, sits_visited, sat_met, sat_done, sat_memory, sat_budget, sat_drawn, sat_fault}
+use Rattle.shard_seats.proofs.Sitting.{drawn_at, offered_after, offered_news, sits_same, sits_pruned, sits_visited, sat_met, sat_done, sat_memory, sat_budget, sat_drawn, sat_fault}
 use Rattle.spot_eval.specs.declared.ends.SpotFault.{SpotFault}
 use Rattle.state_layout.specs.declared.node.Node.{Node}
-
--- ---- the seat
-
--- the seat looked at the best word, and drew a number
-pub record Drew (board : BoardFacts) (old : SeatFacts) (best number : ℕ) (new : SeatFacts) : Type 0 where
-  pub on_board : IsSeatOf board new
-  pub view : new.view ≡ drawn_at old.view best number
-  pub least : IsBestFor old.view best
-  pub count : IsCountFor (after_look old.view best) number
-
-pub drew : (board : BoardFacts) (old looked new : SeatFacts) (best number : ℕ) → looked.view ≡ after_look old.view best → IsBestFor old.view best → IsSeatOf board new → new.view ≡ after_draw looked.view number → IsCountFor looked.view number → Drew board old best number new
-drew board old looked new best number look least on view count =
-    record { on_board = on; view = view ∙ ap (λ (v : View). after_draw v number) look; least = least; count = subst (λ (v : View). IsCountFor v number) look count }
-
--- the seat raised the halt of a cause, and the shard has ended by it
-pub record Halts (board : BoardFacts) (old : SeatFacts) (cause : HaltCause) (end : Ended) (new : SeatFacts) : Type 0 where
-  pub ended : end ≡ ends.Halted cause
-  pub on_board : IsSeatOf board new
-  pub view : new.view ≡ after_halt old.view (halt_number cause)
 
 -- ---- a node that waits
 

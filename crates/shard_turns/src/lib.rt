@@ -9,4 +9,4 @@ mod turner;
 
 pub use calling::Calling;
 pub use envelope::Envelope;
-pub use turner::{Ended, Turner};
+pub use turner::Turner;

@@ -1,9 +1,6 @@
 //! A shard with its ends of the mailboxes, and its turns.
 
 ghost use Rattle.std.specs.Prelude.{◌≡◌, None, IfErr, IfOk, OnOk};
-ghost use Rattle.board_words.specs.Causes.{halt_number};
-ghost use Rattle.board_words.specs.Seats.{IsSeatOf};
-ghost use Rattle.board_words.specs.Steps.{after_halt};
 ghost use Rattle.pass_ledger.specs.Passes.{Pass};
 ghost use Rattle.shard_core.specs.Calls.{IsQuiet};
 ghost use Rattle.shard_core.specs.Stands.{Suited};
@@ -18,18 +15,8 @@ use cost_laws::CostLaw;
 use dom_store::Covers;
 use shard_core::{Shard, Visited};
 use shard_mail::{Mailbox, Poster, Taker};
+use shard_seats::{Ended, halt};
 use std::sync::Wait;
-
-/// Why a shard takes no more turns.
-#[derive(Clone, Copy, Debug, PartialEq, Eq)]
-pub enum Ended {
-    /// All its letters are posted, and no shard has a state of the next layer.
-    Done,
-    /// Another shard halted the pass.
-    Met,
-    /// It halted the pass.
-    Halted(HaltCause),
-}
 
 /// A shard, its taker of the mailbox that has its number, and its poster of each mailbox.
 #[derive(Drop)]
@@ -271,15 +258,4 @@ impl<'m, L: CostLaw, K: Covers> Turner<'m, L, K> {
             Err(_) => Err(halt(board, seat, HaltCause::Memory)),
         }
     }
-}
-
-/// Halts the pass, and answers why a shard has ended.
-fn halt(board: &Board, seat: &mut BoardSeat, cause: HaltCause) -> Ended
-    requires { IsSeatOf board.now seat.old }
-    ensures ended { result ≡ Ended.Halted cause }
-    ensures seat { IsSeatOf board.now seat.new }
-    ensures view { seat.new.view ≡ after_halt seat.old.view (halt_number cause) }
-{
-    board.halt(seat, cause);
-    Ended::Halted(cause)
 }

@@ -18,8 +18,8 @@ use Rattle.dp_steps.specs.Lists.{Solution}
 use Rattle.pass_ends.specs.declared.answers.PassEnd.{PassEnd}
 use Rattle.pass_ledger.proofs.Lists.{has_cases, has_none}
 use Rattle.pass_run.proofs.Places.{each_more, none_there}
-use Rattle.pass_run.specs.Announcements.{HasAnnounced, HasLast, last_or}
-use Rattle.pass_run.specs.declared.announced.AnnouncedEnd.{AnnouncedEnd}
+use Rattle.pass_over.specs.Announcements.{HasAnnounced, HasLast, last_or}
+use Rattle.pass_over.specs.declared.announced.AnnouncedEnd.{AnnouncedEnd}
 use Rattle.solve_report.proofs.Written.{Takes-nothing}
 use Rattle.solve_passes.specs.Announcing.{IsMade, MayAnnounce}
 use Rattle.solve_passes.specs.Ongoing.{AreAnnounced, HasWord, IsWordOf, announces, held_after, held_cost}

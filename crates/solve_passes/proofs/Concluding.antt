@@ -16,7 +16,7 @@ use Rattle.run_ends.specs.declared.solved.Solved.{Solved}
 use Rattle.solve_passes.proofs.Announces.{announced_more, each_announces, right_more}
 use Rattle.solve_passes.specs.Announcing.{MayAnnounce}
 use Rattle.solve_passes.specs.Ongoing.{Passes, History, HistoryOf, Concluded, IsBoundOf, IsTold, announces, held_after, held_cost, lines_of, pass_of, solutions_of}
-use Rattle.pass_run.specs.Announcements.{last_or}
+use Rattle.pass_over.specs.Announcements.{last_or}
 use Rattle.solve_passes.specs.Records.{Announced, Pass, Ending, Ended, OutOfMemory, Record, KeepsWord, RightAnnounced, RightBound, RightEnding, TellsBest, costs_in, bound_text, claim_after, claim_of, ending_status, ending_text, passes_text}
 use Rattle.solve_passes.specs.declared.progress.Printing.{Printing}
 use Rattle.solve_passes.specs.declared.progress.Progress.{Progress}

@@ -27,7 +27,7 @@ use Rattle.pass_ledger.proofs.Backwards.{law}
 use Rattle.pass_ledger.specs.Ledgers.{NoneBelow}
 use Rattle.pass_ledger.specs.Passes as ledgers
 use Rattle.announce_laws.specs.Last.{word_or_none}
-use Rattle.pass_run.specs.Announcements.{RanOut, last_or}
+use Rattle.pass_over.specs.Announcements.{RanOut, last_or}
 use Rattle.solve_passes.proofs.AfterPass.{led}
 use Rattle.solve_passes.proofs.Announces.{last_held, tells_best}
 use Rattle.solve_passes.proofs.Concluding.{all, failed_pass, grown, no_bound_before_memory, over, went_on}

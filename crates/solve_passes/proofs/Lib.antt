@@ -8,3 +8,4 @@ pub mod AfterPass
 pub mod Concluding
 pub mod AtTarget
 pub mod Going
+pub mod Follows

@@ -22,7 +22,7 @@ use Rattle.dp_steps.specs.Lists.{Solution}
 use Rattle.gap_laws.specs.Gaps.{IsRunBound}
 use Rattle.pass_ends.specs.declared.answers.PassEnd.{PassEnd}
 use Rattle.pass_ends.specs.declared.answers.PassEnd.TheVariants as ends
-use Rattle.pass_run.specs.Announcements.{last_or}
+use Rattle.pass_over.specs.Announcements.{last_or}
 use Rattle.solve_passes.specs.Records.{Announced, Pass, Ending, Ended, OutOfMemory, Record, NumberedFrom, Improving, Right, KeepsWord, TellsBest, announced_costs, claim_of, costs, last_solution, visits, bound_text, found_text, passes_text, ending_text, record_text, ending_status}
 use Rattle.solve_passes.specs.declared.progress.Counts.{Counts}
 use Rattle.solve_passes.specs.declared.progress.Printing.{Printing}

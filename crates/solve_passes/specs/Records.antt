@@ -6,7 +6,7 @@ use Rattle.announce_laws.specs.Last.{Improving as ImprovingCosts}
 use Rattle.announcing.specs.Telling.{announce_text}
 use Rattle.dp_model.specs.Costs.{IsBetter}
 use Rattle.dp_base.specs.Bytes.{line}
-use Rattle.pass_run.specs.Announcements.{last_or}
+use Rattle.pass_over.specs.Announcements.{last_or}
 use Rattle.solve_report.specs.Lines.{solution_text, announced_line, pass_line, bound_line, verdict_text}
 use Rattle.dp_claims.specs.Enough.{Has, IsAtMostReached, IsBelowEnough}
 use Rattle.dp_claims.specs.Honest.{Honest}

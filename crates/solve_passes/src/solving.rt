@@ -8,17 +8,18 @@ ghost use Rattle.dp_model.specs.Costs.{InRange};
 ghost use Rattle.dp_model.specs.declared.answers.Found.{Found};
 ghost use Rattle.dp_model.specs.declared.answers.Options.{Options};
 ghost use Rattle.board_words.specs.Rules.{IsWhole};
-ghost use Rattle.board_words.specs.Seats.{IsSeatOf};
+ghost use Rattle.board_words.specs.Seats.{BoardFacts, SeatFacts, IsSeatOf};
 ghost use Rattle.board_words.specs.Steps.{best_known};
 ghost use Rattle.pass_ends.specs.Ends.{IsPassEnd};
 ghost use Rattle.pass_ends.specs.Passes.{AreOptions, pass_of};
 ghost use Rattle.run_ends.specs.Claims.{solved_by as solved};
-ghost use Rattle.solve_passes.specs.Announcing as announced;
-ghost use Rattle.solve_passes.specs.Announcing.{IsMade};
+ghost use Rattle.solve_passes.specs.Announcing.{IsMade, IsNextMade};
 ghost use Rattle.solve_passes.specs.Ongoing as ongoing;
 ghost use Rattle.solve_passes.specs.Records.{Ended};
 ghost use Rattle.solve_passes.specs.Ongoing.{Concluded, HasWord, HistoryOf, IsFollowed, IsImproved, IsOngoing, IsTold, LosesNothing, going_on, halt_ending, halt_in, held_cost, printed_bound, rest_text, tally_in, verdict_of};
 
+use crate::alone::solve_alone;
+use crate::made::{Made, announces, made_by, made_silently};
 use crate::progress::{Counts, Printing, Progress, Tally, add_pass, put_bound_line, put_found};
 use crate::turns::turn_after;
 use board_words::{Board, BoardSeat};
@@ -26,7 +27,7 @@ use cost_laws::NO_INCUMBENT;
 use dp_model::{Cause, FaultAt, FaultKind, Found, Model, Options, Seq, Spot, Verdict};
 use dp_outside::{Gate, Sink};
 use pass_ends::PassEnd;
-use pass_run::{AnnouncedEnd, run_pass, run_pass_announced, start_at};
+use pass_run::{run_pass, run_pass_announced, start_at};
 use run_ends::{Solved, Status, conclude, run_out, solved_by};
 use std::alloc::Global;
 use std::sync::Wait;
@@ -35,7 +36,7 @@ use successors::{ExpandEnd, Start};
 use width_loop::{GapSummary, Schedule, Turn};
 
 /// The cost of the solution that is held.
-fn cost_of(held: &Option<Found>) -> Option<i64>
+pub(crate) fn cost_of(held: &Option<Found>) -> Option<i64>
     ensures { result ≡ held_cost held.now }
 {
     match held {
@@ -199,24 +200,37 @@ fn after_pass<S: Sink>(
     }
 }
 
-/// A pass that was made, and what it announced.
-#[derive(Debug, Drop)]
-pub struct Made {
-    pub end: PassEnd,
-    /// `None` where costs are not announced.
-    pub counts: Option<Counts>,
-    /// Whether a write of an announced cost failed.
-    pub failed: bool,
-}
-
-/// Whether costs are announced.
-fn announces(printing: Printing) -> bool
-    ensures { result ≡ ongoing.announces printing }
+/// What follows a pass that was made: it is printed, counted, and its solution kept. Answers the status if the run is over.
+pub(crate) fn follow<S: Sink>(
+    out: &mut S,
+    model: &Model,
+    gap: bool,
+    printing: Printing,
+    progress: &mut Progress,
+    made: Made,
+) -> Option<Status>
+    requires { (options : Options) × (board : BoardFacts) × (was : SeatFacts) × (now : SeatFacts) × (text : Option (List ℕ)) × (faults : ℕ) × IsNextMade model.now options board printing progress.old was now text (S.taken out.old) faults (S.faults out.old) made }
+    ensures goes_on { (options : Options) (board : BoardFacts) (was now : SeatFacts) (text : Option (List ℕ)) (faults : ℕ) → IsNextMade model.now options board printing progress.old was now text (S.taken out.old) faults (S.faults out.old) made
+        → IfNone result (IsOngoing model.now options board progress.new now × (progress.old.passes < progress.new.passes)) }
+    ensures history { (options : Options) (board : BoardFacts) (was now : SeatFacts) (text : Option (List ℕ)) (faults : ℕ) → IsNextMade model.now options board printing progress.old was now text (S.taken out.old) faults (S.faults out.old) made
+        → IfNone result ((before : Option (List ℕ)) → HistoryOf model.now options gap printing before text progress.old → HistoryOf model.now options gap printing before (S.taken out.new) progress.new) }
+    ensures ends { (options : Options) (board : BoardFacts) (was now : SeatFacts) (text : Option (List ℕ)) (faults : ℕ) → IsNextMade model.now options board printing progress.old was now text (S.taken out.old) faults (S.faults out.old) made
+        → IfSome result (λ status. (before : Option (List ℕ)) → HistoryOf model.now options gap printing before text progress.old → Concluded model.now options gap printing before (S.taken out.new) (solved status progress.new.held)) }
+    ensures failed { (options : Options) (board : BoardFacts) (was now : SeatFacts) (text : Option (List ℕ)) (faults : ℕ) → IsNextMade model.now options board printing progress.old was now text (S.taken out.old) faults (S.faults out.old) made
+        → result ≡ Some Status.WriteFault → Rose faults (S.faults out.new) }
+    ensures count { (options : Options) (board : BoardFacts) (was now : SeatFacts) (text : Option (List ℕ)) (faults : ℕ) → IsNextMade model.now options board printing progress.old was now text (S.taken out.old) faults (S.faults out.old) made
+        → faults ≤ S.faults out.new }
 {
-    match printing {
-        Printing::All { announce } => announce,
-        Printing::VerdictAlone => false,
+    let Made {
+        end,
+        counts,
+        failed,
+    } = made;
+    if failed {
+        return Some(Status::WriteFault);
     }
+    let (tally, halt) = parts_of(end, gap);
+    after_pass(out, model, printing, progress, counts, tally, halt)
 }
 
 /// Makes a pass, which announces costs where these are printed. The last cost before it is that of the solution that is held.
@@ -250,25 +264,10 @@ fn run_announced<R: Threads + Wait + Sync, S: Sink, G: Gate>(
         let ended = run_pass_announced(
             rt, alloc, model, options, share, board, seat, gate, out, last,
         );
-        let AnnouncedEnd {
-            end,
-            last: _,
-            announced,
-            refused,
-            failed,
-        } = ended;
-        return Made {
-            end,
-            counts: Some(Counts { announced, refused }),
-            failed,
-        };
+        return made_by(ended);
     }
     let end = run_pass(rt, alloc, model, options, share, board, seat, gate);
-    Made {
-        end,
-        counts: None,
-        failed: false,
-    }
+    made_silently(end)
 }
 
 /// Makes a pass. Answers the status if the run is over.
@@ -299,16 +298,7 @@ fn make_pass<R: Threads + Wait + Sync, S: Sink, G: Gate>(
     let made = run_announced(
         rt, alloc, out, model, options, printing, share, last, board, seat, gate,
     );
-    let Made {
-        end,
-        counts,
-        failed,
-    } = made;
-    if failed {
-        return Some(Status::WriteFault);
-    }
-    let (tally, halt) = parts_of(end, gap);
-    after_pass(out, model, printing, progress, counts, tally, halt)
+    follow(out, model, gap, printing, progress, made)
 }
 
 /// Makes passes until one of them ends the run.
@@ -418,9 +408,34 @@ fn fault_at_target(alloc: Global, spot: Spot, kind: FaultKind) -> Verdict
     })
 }
 
+/// Ends a run whose target is no inner state, or meets a fault. `None` where the target is an inner state, and a search is to be made.
+pub(crate) fn solve_at_target<S: Sink>(
+    alloc: Global,
+    out: &mut S,
+    model: &Model,
+    options: &Options,
+    printing: Printing,
+) -> Option<Solved>
+    ensures inner { IfNone result (Inner model.now model.now.target × (out.new ≡ out.old)) }
+    ensures concluded { (gap : Bool) → IfSome result (Concluded model.now options.now gap printing (S.taken out.old) (S.taken out.new)) }
+    ensures failed { IfSome result (λ s. s.status ≡ Status.WriteFault → Rose (S.faults out.old) (S.faults out.new)) }
+    ensures count { S.faults out.old ≤ S.faults out.new }
+{
+    match start_at(alloc, model, options.prune()) {
+        Ok(Start::Open(_)) => None,
+        Ok(Start::Base(cost)) => Some(conclude_at_target(alloc, out, model, printing, cost)),
+        Ok(Start::NotAllowed) => Some(solved_by(conclude(out, model, &Verdict::Infeasible), None)),
+        Err(ExpandEnd::Fault { spot, kind, .. }) => {
+            let fault = fault_at_target(alloc, spot, kind);
+            Some(solved_by(conclude(out, model, &fault), None))
+        }
+        Err(ExpandEnd::Memory) => Some(solved_by(run_out(out), None)),
+    }
+}
+
 /// Solves a model: prints the record of the run, or of it the verdict alone, and answers the status, and what the run claims of all
 /// legal lists. With `gap`, a run that is stopped prints a bound where its passes have proved one, and a run may end as optimal by
-/// the floors of dropped nodes.
+/// the floors of dropped nodes. With one worker this is `solve_alone`, which needs neither the handle nor the gate.
 pub fn solve<R: Threads + Wait + Sync, S: Sink, G: Gate>(
     rt: &R,
     alloc: Global,
@@ -436,14 +451,11 @@ pub fn solve<R: Threads + Wait + Sync, S: Sink, G: Gate>(
     ensures failed { result.status ≡ Status.WriteFault → Rose (S.faults out.old) (S.faults out.new) }
     ensures count { S.faults out.old ≤ S.faults out.new }
 {
-    match start_at(alloc, model, options.prune()) {
-        Ok(Start::Open(_)) => search(rt, alloc, out, model, options, gap, printing, gate),
-        Ok(Start::Base(cost)) => conclude_at_target(alloc, out, model, printing, cost),
-        Ok(Start::NotAllowed) => solved_by(conclude(out, model, &Verdict::Infeasible), None),
-        Err(ExpandEnd::Fault { spot, kind, .. }) => {
-            let fault = fault_at_target(alloc, spot, kind);
-            solved_by(conclude(out, model, &fault), None)
-        }
-        Err(ExpandEnd::Memory) => solved_by(run_out(out), None),
+    if options.workers() == 1 {
+        return solve_alone(alloc, out, model, options, gap, printing);
     }
+    if let Some(solved) = solve_at_target(alloc, out, model, options, printing) {
+        return solved;
+    }
+    search(rt, alloc, out, model, options, gap, printing, gate)
 }

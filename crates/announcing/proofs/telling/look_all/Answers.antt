@@ -1,7 +1,7 @@
 use Rattle.std.proofs.Common.{◌≤◌, ◌<◌, [], ◌∷◌, ◌++◌, List, ℤ, FitsSigned, length, take, sym, subst, rules, arith, w64, append-nil}
 use Rattle.std.proofs.lemmas.Int.{to_z-of_z}
 use Rattle.announcing.specs.Telling.{IsTold}
-use Rattle.announcing.proofs.Hearing.{all_of, one_more}
+use Rattle.announcing.proofs.Looking.{all_of, one_more}
 use Rattle.announcing.proofs.telling.look_all.Goals as goal
 
 pub loop-i-init : goal.loop-i-init

@@ -1,5 +1,5 @@
 use Rattle.std.proofs.Common.{ap, ◌∙◌}
-use Rattle.shard_threads.specs.Seats.{joined}
+use Rattle.joined_seats.specs.Joined.{joined}
 use Rattle.best_first.proofs.Ended.{are_full, have_left, of_boxes, seats_on}
 use Rattle.best_first.proofs.ending.gather.Goals as goal
 

@@ -1,6 +1,7 @@
 use Rattle.std.proofs.Common.{ap, subst, ◌∙◌, arith}
 use Rattle.board_words.specs.Seats.{SeatFacts}
-use Rattle.shard_threads.specs.Seats.{AreSeated, with_less}
+use Rattle.shard_threads.specs.Seats.{AreSeated}
+use Rattle.joined_seats.specs.Joined.{with_less}
 use Rattle.best_ledger.specs.Searches.{pass_of, search_of}
 use Rattle.best_first.proofs.Fresh.{all_begin}
 use Rattle.best_first.proofs.Running.{is_before, no_memory}

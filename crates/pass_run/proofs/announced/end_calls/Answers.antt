@@ -1,6 +1,6 @@
 use Rattle.std.proofs.Common.{List, ℤ, inr, sym, subst}
 use Rattle.announcer.specs.Ends.{AreCallersOf, AreLeft, CallerFacts, IsBegunOf}
-use Rattle.announcing.specs.Hearing.{costs_cried}
+use Rattle.pass_run.specs.Hearing.{costs_cried}
 use Rattle.pass_run.proofs.Heard.{settled_by}
 use Rattle.pass_run.proofs.announced.end_calls.Goals as goal
 

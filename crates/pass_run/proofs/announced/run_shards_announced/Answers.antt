@@ -1,10 +1,11 @@
 use Rattle.std.proofs.Common.{◌≡◌, Bool, rules, refl, sym, ap, subst}
 use Rattle.board_words.specs.Seats.{SeatFacts}
 use Rattle.pass_ends.specs.Passes.{pass_of}
-use Rattle.announcing.specs.Hearing.{costs_cried}
+use Rattle.pass_run.specs.Hearing.{costs_cried}
 use Rattle.announcing.specs.Telling.{IsTold}
-use Rattle.pass_run.specs.Announcements.{EndsAnnounced, WasHeard}
-use Rattle.pass_run.proofs.Heard.{ends_silent}
+use Rattle.pass_run.specs.Announcements.{WasHeard}
+use Rattle.pass_over.specs.Announcements.{EndsAnnounced}
+use Rattle.pass_over.proofs.Looked.{ends_silent}
 use Rattle.pass_run.proofs.announced.run_shards_announced.Goals as goal
 
 pub returns-in_default-clause-answer : goal.returns-in_default-clause-answer

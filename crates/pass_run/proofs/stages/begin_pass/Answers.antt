@@ -1,10 +1,11 @@
 use Rattle.std.proofs.Common.{refl, sym, ap, subst, ◌∙◌, arith}
 use Rattle.board_words.specs.Seats.{SeatFacts}
-use Rattle.shard_threads.specs.Seats.{AreSeated, with_less}
+use Rattle.shard_threads.specs.Seats.{AreSeated}
+use Rattle.joined_seats.specs.Joined.{with_less}
 use Rattle.pass_ends.specs.Passes.{pass_of}
-use Rattle.pass_run.specs.Announcements.{RanOut}
+use Rattle.pass_over.specs.Announcements.{RanOut}
 use Rattle.pass_run.proofs.Fresh.{all_begin}
-use Rattle.pass_run.proofs.Running.{is_before, no_memory}
+use Rattle.pass_over.proofs.Running.{is_before, no_memory}
 use Rattle.pass_run.proofs.stages.begin_pass.Goals as goal
 
 pub seat_all-requires-clause-parts : goal.seat_all-requires-clause-parts

@@ -1,6 +1,6 @@
 use Rattle.std.proofs.Common.{refl, sym, subst}
-use Rattle.pass_run.specs.Announcements.{RanOut}
-use Rattle.pass_run.proofs.Running.{no_memory}
+use Rattle.pass_over.specs.Announcements.{RanOut}
+use Rattle.pass_over.proofs.Running.{no_memory}
 use Rattle.pass_run.proofs.stages.not_begun.Goals as goal
 
 pub returns-clause-memory : goal.returns-clause-memory

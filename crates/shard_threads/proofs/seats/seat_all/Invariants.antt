@@ -1,7 +1,8 @@
 use Rattle.std.proofs.Common.{◌≡◌, ◌≤◌, ◌++◌, length, vec_capacity}
 use Rattle.std.specs.Vec.Iter.{into_iter_items}
 use Rattle.board_words.specs.Seats.{IsSeatOf}
-use Rattle.shard_threads.specs.Seats.{AreSeated, with_less}
+use Rattle.shard_threads.specs.Seats.{AreSeated}
+use Rattle.joined_seats.specs.Joined.{with_less}
 use Rattle.shard_threads.proofs.seats.seat_all.Given as goal
 
 -- the players so far

@@ -1,14 +1,29 @@
-use Rattle.std.proofs.Common.{sym, ◌∙◌}
+use Rattle.std.proofs.Common.{sym, subst, ◌∙◌}
 use Rattle.board_words.specs.Steps.{best_known}
+use Rattle.pass_ends.specs.Ends.{IsPassEnd}
+use Rattle.pass_ends.specs.Passes.{pass_of}
 use Rattle.solve_passes.proofs.Announces.{made_aloud, made_quiet}
 use Rattle.solve_passes.proofs.solving.run_announced.Goals as goal
+use Rattle.solve_passes.specs.Announcing.{IsMade}
+use Rattle.solve_passes.specs.declared.made.Made.{Made}
+
+pub returns-then-announces-clause-answer : goal.returns-then-announces-clause-answer
+returns-then-announces-clause-answer g c = λ some.
+    subst (λ (m : Made). IsPassEnd (pass_of c.args.model.now c.args.options.now c.args.share some) c.args.seat.now.view c.run_pass_announced-ended.new.seat.view m.end) (sym c.made_by.ensures) (c.run_pass_announced-ended.ensures.answer some)
 
 pub returns-then-announces-clause-announced : goal.returns-then-announces-clause-announced
 returns-then-announces-clause-announced g c =
     let ended = c.run_pass_announced-ended in
-    made_aloud c.args.model.now c.args.printing c.args.last (best_known c.args.seat.now.view) (best_known ended.new.seat.view) (g.S.Sink.taken c.args.out.now) (g.S.Sink.taken ended.new.out) (g.S.Sink.faults c.args.out.now) (g.S.Sink.faults ended.new.out) ended.result
-    (sym c.announces.ensures ∙ c.if-announces.true) ended.ensures.announced ended.ensures.last
+    subst (IsMade c.args.model.now c.args.printing c.args.last (best_known c.args.seat.now.view) (best_known ended.new.seat.view) (g.S.Sink.taken c.args.out.now) (g.S.Sink.taken ended.new.out) (g.S.Sink.faults c.args.out.now) (g.S.Sink.faults ended.new.out)) (sym c.made_by.ensures)
+    (made_aloud c.args.model.now c.args.printing c.args.last (best_known c.args.seat.now.view) (best_known ended.new.seat.view) (g.S.Sink.taken c.args.out.now) (g.S.Sink.taken ended.new.out) (g.S.Sink.faults c.args.out.now) (g.S.Sink.faults ended.new.out) ended.result
+    (sym c.announces.ensures ∙ c.if-announces.true) ended.ensures.announced ended.ensures.last)
+
+pub returns-clause-answer : goal.returns-clause-answer
+returns-clause-answer g c = λ some.
+    subst (λ (m : Made). IsPassEnd (pass_of c.args.model.now c.args.options.now c.args.share some) c.args.seat.now.view c.run_pass-end.new.seat.view m.end) (sym c.made_silently.ensures) (c.run_pass-end.ensures.answer some)
 
 pub returns-clause-announced : goal.returns-clause-announced
 returns-clause-announced g c =
-    made_quiet c.args.model.now c.args.printing c.args.last (best_known c.args.seat.now.view) (best_known c.run_pass-end.new.seat.view) (g.S.Sink.taken c.args.out.now) (g.S.Sink.faults c.args.out.now) c.run_pass-end.result (sym c.announces.ensures ∙ c.if-announces.false)
+    let end = c.run_pass-end in
+    subst (IsMade c.args.model.now c.args.printing c.args.last (best_known c.args.seat.now.view) (best_known end.new.seat.view) (g.S.Sink.taken c.args.out.now) (g.S.Sink.taken c.args.out.now) (g.S.Sink.faults c.args.out.now) (g.S.Sink.faults c.args.out.now)) (sym c.made_silently.ensures)
+    (made_quiet c.args.model.now c.args.printing c.args.last (best_known c.args.seat.now.view) (best_known end.new.seat.view) (g.S.Sink.taken c.args.out.now) (g.S.Sink.faults c.args.out.now) end.result (sym c.announces.ensures ∙ c.if-announces.false))

@@ -1,31 +1,19 @@
-use Rattle.std.proofs.Common.{FitsSigned, sym, subst, w64, ℤ, rules}
-use Rattle.std.proofs.lemmas.Int.{to_z-of_z}
-use Rattle.dp_steps.specs.States.{Base}
-use Rattle.solve_passes.proofs.AtTarget.{base_start, fault_start, fault_target, forbidden_start, forbidden_target, inner_start, no_memory}
-use Rattle.solve_passes.proofs.Concluding.{answered}
+use Rattle.std.proofs.Common.{◌≡◌, ◌≤◌, ℕ, List, Option, ap, subst}
+use Rattle.dp_outside.specs.Outside.{Rose}
+use Rattle.run_ends.specs.declared.status.Status.TheVariants as statuses
 use Rattle.solve_passes.proofs.solving.solve.Goals as goal
-use Rattle.successors.specs.Answers.{Met}
+use Rattle.solve_passes.specs.Ongoing.{Concluded}
 
-pub search-requires-clause-inner : goal.search-requires-clause-inner
-search-requires-clause-inner g c κs within = inner_start c.args.model.now c.prune.result c.in-Ok-Open.field-0 c.in-Ok-Open.field-0-0 c.in-Ok-Open.ensures.start c.in-Ok-Open.field-0-is
-
-pub conclude_at_target-requires-clause-base : goal.conclude_at_target-requires-clause-base
-conclude_at_target-requires-clause-base g c =
-    let fits : FitsSigned w64 c.in-Ok-Base.cost = search rules in
-    subst (λ (n : ℤ). Base c.args.model.now c.args.model.now.target n) (sym (to_z-of_z w64 c.in-Ok-Base.cost fits)) (base_start c.args.model.now c.prune.result c.in-Ok-Base.field-0 c.in-Ok-Base.cost c.in-Ok-Base.ensures.start c.in-Ok-Base.field-0-is)
-
-pub returns-in-Ok-NotAllowed-clause-concluded : goal.returns-in-Ok-NotAllowed-clause-concluded
-returns-in-Ok-NotAllowed-clause-concluded g c =
-    answered c.solved_by.result c.solved_by.ensures (forbidden_target c.args.model.now c.args.options.now c.args.gap c.args.printing (g.S.Sink.taken c.args.out.now) (g.S.Sink.taken c.conclude.new.out) c.conclude.result
-    (forbidden_start c.args.model.now c.prune.result c.in-Ok-NotAllowed.field-0 c.in-Ok-NotAllowed.ensures.start c.in-Ok-NotAllowed.field-0-is) c.conclude.ensures.printed)
-
-pub returns-in-Err-Fault-clause-concluded : goal.returns-in-Err-Fault-clause-concluded
-returns-in-Err-Fault-clause-concluded g c =
-    let found = rw c.in-Err-Fault.field-0-is at c.in-Err-Fault.ensures.start in
-    let met : Met = record { spot = c.in-Err-Fault.spot; kind = c.in-Err-Fault.kind; last = c.in-Err-Fault.field-0-2 } in
-    answered c.solved_by-in-Err-Fault.result c.solved_by-in-Err-Fault.ensures (fault_target c.args.model.now c.args.options.now c.args.gap c.args.printing (g.S.Sink.taken c.args.out.now) (g.S.Sink.taken c.conclude-in-Err-Fault.new.out) c.conclude-in-Err-Fault.result met c.fault_at_target-fault.result _ _
-    (fault_start c.args.model.now c.args.options.now c.prune.result met c.prune.ensures found) c.fault_at_target-fault.ensures c.in-Err-Fault.spot-is c.in-Err-Fault.kind-is c.conclude-in-Err-Fault.ensures.printed)
+pub returns-in-Some-clause-concluded : goal.returns-in-Some-clause-concluded
+returns-in-Some-clause-concluded g c = c.in-Some.ensures.concluded c.args.gap
 
 pub returns-clause-concluded : goal.returns-clause-concluded
 returns-clause-concluded g c =
-    answered c.solved_by-in-Err-Memory.result c.solved_by-in-Err-Memory.ensures (no_memory c.args.model.now c.args.options.now c.args.gap c.args.printing (g.S.Sink.taken c.args.out.now) (g.S.Sink.taken c.run_out.new.out) c.run_out.result c.run_out.ensures.printed)
+    subst (λ (text : Option (List ℕ)). Concluded c.args.model.now c.args.options.now c.args.gap c.args.printing text (g.S.Sink.taken c.search.new.out) c.search.result) (ap g.S.Sink.taken c.in_default.ensures.inner.1) c.search.ensures.concluded
+
+pub returns-clause-failed : goal.returns-clause-failed
+returns-clause-failed g c =
+    subst (λ (n : ℕ). c.search.result.status ≡ statuses.WriteFault → Rose n (g.S.Sink.faults c.search.new.out)) (ap g.S.Sink.faults c.in_default.ensures.inner.1) c.search.ensures.failed
+
+pub returns-clause-count : goal.returns-clause-count
+returns-clause-count g c = subst (λ (n : ℕ). n ≤ g.S.Sink.faults c.search.new.out) (ap g.S.Sink.faults c.in_default.ensures.inner.1) c.search.ensures.count

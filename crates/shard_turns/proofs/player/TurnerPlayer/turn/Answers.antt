@@ -1,6 +1,6 @@
 use Rattle.std.proofs.Common.{◌≡◌, Option, Some, None, is_some, true, false, refl, subst, ◌∙◌}
 use Rattle.shard_turns.specs.Turners.{KeepsAs}
-use Rattle.shard_turns.specs.declared.turner.Ended.{Ended}
+use Rattle.shard_seats.specs.declared.ended.Ended.{Ended}
 use Rattle.shard_turns.proofs.player.TurnerPlayer.turn.Goals as goal
 
 is_off : (o : Option Ended) → is_some o ≡ false → o ≡ None

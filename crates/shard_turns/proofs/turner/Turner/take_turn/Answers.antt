@@ -2,7 +2,7 @@ use Rattle.std.proofs.Common.{Option, Some, sym, subst, ◌∙◌}
 use Rattle.std.proofs.lemmas.Option.{none-some}
 use Rattle.shard_turns.proofs.Acting.{turned, left_gone}
 use Rattle.shard_turns.specs.Turners.{KeepsAs}
-use Rattle.shard_turns.specs.declared.turner.Ended.{Ended}
+use Rattle.shard_seats.specs.declared.ended.Ended.{Ended}
 use Rattle.shard_turns.proofs.turner.Turner.take_turn.Goals as goal
 
 pub returns-in-Err-clause-keeps : goal.returns-in-Err-clause-keeps

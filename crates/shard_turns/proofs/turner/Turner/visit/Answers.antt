@@ -3,7 +3,8 @@ use Rattle.board_words.specs.Rules.{no_word}
 use Rattle.shard_core.specs.Calls.{IsVisit}
 use Rattle.shard_core.specs.Stands.{Stands}
 use Rattle.shard_core.specs.declared.shard.Shard.{Shard}
-use Rattle.shard_turns.proofs.Acting.{none_waits_here, not_true, prunes, visits, visits_news, calls_may, spends, loses, faults, drew}
+use Rattle.shard_turns.proofs.Acting.{none_waits_here, not_true, prunes, visits, visits_news, calls_may, spends, loses, faults}
+use Rattle.shard_seats.proofs.Sitting.{drew}
 use Rattle.shard_turns.specs.Turners.{Leaves}
 use Rattle.shard_turns.proofs.Called.{same_queue}
 use Rattle.shard_turns.proofs.turner.Turner.visit.Goals as goal
