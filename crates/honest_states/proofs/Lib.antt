@@ -3,3 +3,4 @@ pub mod Knowing
 pub mod Opened
 pub mod Closing
 pub mod Numbers
+pub mod Bits

@@ -1,3 +1,4 @@
 pub mod Modes
 pub mod Symbols
 pub mod Facts
+pub mod Bits

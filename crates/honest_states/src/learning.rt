@@ -6,6 +6,7 @@ ghost use Rattle.poly_terms.specs.Spans.{Within};
 ghost use Rattle.poly_terms.specs.Fits.{Fits};
 ghost use Rattle.honest_states.specs.Facts.{AreFacts};
 
+use crate::absorbing::absorbed;
 use dp_base::Seq;
 use poly_rules::span_of;
 use poly_terms::{Atom, Span, Term, add_times, constant, is_bit, with_bit};
@@ -63,6 +64,19 @@ pub fn turned(alloc: Global, sum: &[Term]) -> Result<Option<Vec<Term>>, AllocErr
     }
 }
 
+/// Whether a sum is above 0: by its interval, or by that of a sum that is no greater.
+fn is_above_zero(alloc: Global, table: &[Atom], sum: &[Term]) -> Result<bool, AllocError>
+    ensures { IfOk result (λ shown. IsTrue shown → (v : ℕ → ℤ) → Fits table.now v → worth v sum.now ≤ℤ pos 0 → ⊥) }
+{
+    if above_zero(span_of(table, sum, NESTED)) {
+        return Ok(true);
+    }
+    match absorbed(alloc, table, sum)? {
+        Some(less) => Ok(above_zero(span_of(table, &less, NESTED))),
+        None => Ok(false),
+    }
+}
+
 /// Whether a sum is above 0 where a bit has this value.
 fn is_barred(
     alloc: Global,
@@ -74,7 +88,7 @@ fn is_barred(
     ensures { IfOk result (λ barred. IsTrue barred → (v : ℕ → ℤ) → Fits table.now v → worth v sum.now ≤ℤ pos 0 → v atom ≡ as_bit value → ⊥) }
 {
     match with_bit(alloc, sum, atom, value)? {
-        Some(rest) => Ok(above_zero(span_of(table, &rest, NESTED))),
+        Some(rest) => is_above_zero(alloc, table, &rest),
         None => Ok(false),
     }
 }

@@ -2,6 +2,7 @@
 //! that holds adds to what is known.
 #![tactic(auto)]
 
+mod absorbing;
 mod closed;
 mod joining;
 mod learning;
