@@ -5,6 +5,7 @@ ghost use Rattle.ledger_guards.specs.Floors.{LawWorkedFloor};
 ghost use Rattle.ledger_guards.specs.Forced.{LawWorkedForced};
 ghost use Rattle.ledger_guards.specs.Shares.{LawWorkedShares};
 ghost use Rattle.ledger_guards.specs.Shuttle.{LawWorkedSmall};
+ghost use Rattle.ledger_guards.specs.Stay.{LawWorkedStay};
 
 /// A model of two states with a round that leaves the cost as it is: no round betters its cost, so twelve visits are enough. In a
 /// model in which each step betters the cost, a round does.
@@ -25,4 +26,9 @@ pub fn law_worked_shares()
 /// Where a forced transition is enabled no other one is considered: a visit accounts for it, and for no other.
 pub fn law_worked_forced()
     ensures { LawWorkedForced }
+{}
+
+/// A round of one step that leaves the cost as it is makes a list that is not lean. Where the step betters the cost the list is lean.
+pub fn law_worked_stay()
+    ensures { LawWorkedStay }
 {}
