@@ -34,6 +34,10 @@ TOUR_STOPPED = TOUR_OUT.split("pass 3")[0] + told("pass 3 share 4 visited 3 drop
 
 STOPPED_THREE = ("verdict stopped 3\n", 11)
 
+# Of two workers the first owns the state that meets the fault; where there is another variable, of value 1, the second does.
+BIG_BESIDE = BIG.replace("    type: integer\n", "    type: integer\n  - name: y\n    type: integer\n", 1)
+BIG_FROM = "domain: big\nproblem: one\ntarget:\n  x: 0\n  y: 1\n"
+
 # The last line of a fault is the last step of its list.
 FAULT = ("big\n", 12)
 
@@ -60,5 +64,11 @@ RUNS = [
         [("domain", BIG), ("problem", problem("big", "x", 0))],
         [],
         [*lasts("--engine best", *FAULT, (2, 7)), *lasts("--keep all", *FAULT, (2, 7))],
+    ),
+    (
+        "a fault that the other worker meets",
+        [("domain", BIG_BESIDE), ("problem", BIG_FROM)],
+        [],
+        [*lasts("--engine best", *FAULT, (1, 2)), *lasts("--keep all", *FAULT, (1, 2))],
     ),
 ]

@@ -11,7 +11,7 @@ from small_runs import told, words
 BOUNDS = {
     "assembly_line": (2, 2, 0), "bin_packing": (1, 1, 0), "deliveries": (1, 1, 3), "electric_van": (1, 1, 6), "graph_clearing": (6, 6, 5), "grid": (0, 0, 1),
     "job_shop": (0, 12, 2), "knapsack": (1, 1, 1), "language": (1, 1, 2), "lot_sizing": (1, 1, 9), "matrix_chain": (1, 1, 6), "multi_knapsack": (4, 4, 1),
-    "open_stacks": (1, 1, 7), "pickup_delivery": (0, 1, 3), "round_tour": (2, 2, 5), "setup_times": (1, 1, 5), "talent": (1, 1, 5), "tardiness": (1, 1, 6),
+    "open_stacks": (1, 1, 7), "pickup_delivery": (1, 1, 3), "round_tour": (2, 2, 5), "setup_times": (1, 1, 5), "talent": (1, 1, 5), "tardiness": (1, 1, 6),
     "u_line": (2, 2, 0), "vehicle_routing": (1, 1, 6),
 }
 

@@ -83,12 +83,12 @@ def written_to(folder, domain, problem, limit, make):
     return count
 
 
-def made_in(folder, domain, problem, limit, most):
-    """Writes a model with potentials more; how many were made."""
+def made_in(folder, domain, problem, limit, most, has_tolls=False):
+    """Writes a model with potentials more, or with tolls; how many were made."""
 
     def make(m, added):
         limit.tell("the states of the model are put into modes")
-        inequalities = potentials.Inequalities(modes.Modes(m, limit), limit)
+        inequalities = potentials.Inequalities(modes.Modes(m, limit), limit, has_tolls)
         return potentials_of(m, inequalities, potentials.Program(inequalities, linear.solved, limit), limit, most, added)
 
     return written_to(folder, domain, problem, limit, make)

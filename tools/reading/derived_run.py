@@ -20,29 +20,46 @@ class Caught(Exception):
     """A signal."""
 
 
-class Run:
-    """One search. `files` are the two files as written, `made` how many bounds stand in front of the model's own in the derived text."""
+class Made:
+    """A text with bounds that were made: its two files, and how many stand in front of the model's own."""
 
-    def __init__(self, program, files, made, tell):
-        self.program, self.files, self.made, self.tell = program, files, made, tell
+    def __init__(self, count, files):
+        self.count, self.files = count, files
+
+
+class Run:
+    """One search. `files` are the two files as written, `texts` those with bounds that were made, the one with most of them first; `made` is how many
+    the text has that is searched."""
+
+    def __init__(self, program, files, texts, tell):
+        self.program, self.files, self.texts, self.tell, self.made = program, files, texts, tell, 0
         self.cost, self.steps, self.left, self.child = None, [], 0, None
         self.words = []  # of each bound that was made `proved` or `open`, as the program tells it
 
-    def proves_made(self, derived):
+    def proves(self, text):
         """Whether the program proves each bound that was made: a search of one visit tells it in its first lines."""
-        words = [self.program, "solve", *derived, "--prune", "proved", "--budget", "1"]
+        words = [self.program, "solve", *text.files, "--prune", "proved", "--budget", "1"]
         done = subprocess.run(words, stdout=subprocess.PIPE, stderr=subprocess.DEVNULL, stdin=subprocess.DEVNULL, check=False)
-        told = done.stdout.decode("utf-8", "replace").splitlines()[: self.made]
-        return told == [f"bound {number} proved" for number in range(1, self.made + 1)]
+        told = done.stdout.decode("utf-8", "replace").splitlines()[: text.count]
+        return told == [f"bound {number} proved" for number in range(1, text.count + 1)]
 
-    def search(self, derived, options, within):
+    def chosen(self, options):
+        """The text that is searched, and the options: the first text of which all bounds that were made are proved, and else the first one."""
+        prune, _ = seconds.option_in(["solve", *options], "--prune")
+        if not self.texts:
+            return Made(0, self.files), [*options, *([] if prune else ["--prune", "proved"])]
+        text = None if prune in ("on", "off") else next((text for text in self.texts if self.proves(text)), None)
+        if prune is not None:
+            return text or self.texts[0], options
+        if text is None:
+            self.tell(f"not all of the {self.texts[0].count} bounds that were made are proved by the program; the search believes them, as `--prune on` does")
+        return text or self.texts[0], [*options, "--prune", "proved" if text else "on"]
+
+    def search(self, options, within):
         """Runs the program, within so many seconds where these are given. Its status, and the lines from the verdict on."""
-        if seconds.option_in(["solve", *options], "--prune")[0] is None:
-            proves = self.proves_made(derived)
-            options = [*options, "--prune", "proved" if proves else "on"]
-            if not proves:
-                self.tell(f"not all of the {self.made} bounds that were made are proved by the program; the search believes them, as `--prune on` does")
-        words = ["solve", *derived, *options]
+        text, options = self.chosen(options)
+        self.made = text.count
+        words = ["solve", *text.files, *options]
         timed = [] if within is None else [sys.executable, os.path.join(shell.TOP, "tools", "timed")]
         limit = [] if within is None else ["--seconds", f"{max(0.05, within):.2f}"]
         self.child = subprocess.Popen([*timed, self.program, *limit, *words], stdout=subprocess.PIPE, stdin=subprocess.DEVNULL)
@@ -100,12 +117,12 @@ class Run:
         raise Caught(number)
 
 
-def solved(run, derived, options, within):
+def solved(run, options, within):
     """Searches and judges; the status is the program's."""
     for number in (signal.SIGINT, signal.SIGTERM, signal.SIGHUP):
         signal.signal(number, run.end)
     try:
-        status, held = run.search(derived, options, within)
+        status, held = run.search(options, within)
         if not run.judged():
             return 1
     except Caught as caught:

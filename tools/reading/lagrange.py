@@ -101,8 +101,7 @@ class Lagrange:
         self.prices = {columns.of("integer", None, p): k for k, p in enumerate(inequalities.modes.integers)}
         self.modes = {j: key[1] for key, j in columns.places.items() if key[0] == "mode"}
         # ways are looked for from the ends on
-        rows = inequalities.rows if inequalities.m.minimize else [*inequalities.rows, *inequalities.floors]
-        self.arcs = [Arc(row, self.modes, self.prices, self.sign) for row in reversed(rows)]
+        self.arcs = [Arc(row, self.modes, self.prices, self.sign) for row in reversed([*inequalities.rows, *inequalities.floors])]
 
     def worth(self, values, unit, aim):
         """What an aim is worth with prices, in parts of which `unit` stand for 1, and how steep that is; None where there is no potential."""

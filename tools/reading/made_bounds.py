@@ -37,7 +37,7 @@ WALKS = {
 STUB = """#!/bin/sh
 case "$*" in
     replay*) echo "verdict legal $LEGAL" ;;
-    *--budget\\ 1) printf 'bound 1 proved\\nbound 2 proved\\nbound 3 proved\\n'; exit 11 ;;
+    *--budget\\ 1) for k in 1 2 3; do [ $k -gt $PROVED ] || echo "bound $k proved"; done; exit 11 ;;
     *proved*) printf 'bound 1 proved\\nbound 2 open\\npreference time open\\nsolution 14 2\\nbound 1 proved\\nverdict legal\\nbound 14\\nverdict optimal 14\\n' ;;
 esac
 """
@@ -118,14 +118,23 @@ def solved(check, room):
     """What is handed on of a program's lines: those of bounds that were made are not, and no verdict without a legal list."""
     stub, files = os.path.join(room, "stub"), next(iter(DERIVED)).split(" ")
     words = ["solve_derived", stub, "solve", *files]
-    made_of = len(re.findall(r"potential_unvisited\w*, type", run(["derive", *files])[0]))
+    made_of = number_made(run(words, LEGAL="14", PROVED="3")[1])
     held = ["preference time open", "solution 14 2", "bound 1 proved", "verdict legal", "bound 14"]
     own = [f"bound {k - made_of} {word}" for k, word in ((1, "proved"), (2, "open")) if k > made_of]
     for cost, verdict, status in (("14", ["verdict optimal 14"], 0), ("15", [], 1)):
-        out, _, ended = run(words, LEGAL=cost)
+        out, _, ended = run(words, LEGAL=cost, PROVED="3")
         check.same(f"solve_derived, replay says {cost}", ([*own, *held, *verdict], status), (out.splitlines(), ended))
-    out, said, status = run(["solve_derived", stub, "solve", "models/graph_clearing/domain.yaml", "models/graph_clearing/problem.yaml"], LEGAL="14")
+    out, said, status = run(["solve_derived", stub, "solve", "models/graph_clearing/domain.yaml", "models/graph_clearing/problem.yaml"], LEGAL="14", PROVED="3")
     check.same("solve_derived where no bound is made", (True, 0), ("no bound is made" in said, status))
+    words = ["solve_derived", stub, "solve", "models/setup_times/domain.yaml", "models/setup_times/problem.yaml"]
+    found = [number_made(run(words, LEGAL="14", PROVED=str(proved))[1]) for proved in (2, 1, 0)]
+    check.same("solve_derived takes tolls where all are proved, or none", [2, 1, 2], found)
+
+
+def number_made(said):
+    """Of how many bounds that were made standard error tells."""
+    found = re.search(r"of (?:the )?([0-9]+) (?:bounds )?that were made", said)
+    return found and int(found.group(1))
 
 
 def by_program(check, program):

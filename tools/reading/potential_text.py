@@ -1,5 +1,6 @@
 """The text of potentials: tables for their numbers, and the expressions of their sums."""
 
+from .potentials import Potential
 from .symbols import Unknown
 
 
@@ -14,15 +15,24 @@ class Writer:
         self.word = "toll" if self.columns.by_mode else "potential"
 
     def write(self, potential):
-        modes, parts = self.found.modes, []
+        """A quotient, or where it is split what is whole of each number and a quotient of what is left, which is never below 0."""
+        unit, whole = potential.unit, []
+        if unit > 1 and self.found.is_split:
+            whole = self.parts(Potential([x // unit for x in potential.whole], 1), self.word)
+            potential = Potential([x % unit for x in potential.whole], unit)
+        rest = quotient(self.parts(potential, f"{self.word}_rest" if whole else self.word) or ["0"], unit, self.m.minimize)
+        self.added.bounds.append(f"(+ {' '.join(whole)} {rest})" if whole else rest)
+
+    def parts(self, potential, word):
+        """The parts of a sum, with tables whose names begin with a word."""
+        self.begins, modes, parts = word, self.found.modes, []
         for p in modes.sets:
             parts += self.of_set(potential, p)
             for q in self.columns.timed:
                 parts += self.of_product(potential, p, q)
         for p in modes.integers:
             parts += self.of_integer(potential, p)
-        parts += self.of_modes(potential)
-        self.added.bounds.append(quotient(parts or ["0"], potential.unit, self.m.minimize))
+        return parts + self.of_modes(potential)
 
     def of_set(self, potential, p):
         """The sum of the numbers of the members of a set; nothing where all are 0."""
@@ -31,7 +41,7 @@ class Writer:
         if not any(cells.values()):
             return []
         is_wide = self.columns.by_mode and bool(self.elements)
-        table = self.added.table(f"{self.word}_{v.name}", [*(self.objects if is_wide else []), self.m.objects[v.of].name], cells)
+        table = self.added.table(f"{self.begins}_{v.name}", [*(self.objects if is_wide else []), self.m.objects[v.of].name], cells)
         return [f"(sum {table} {self.at} {v.name})" if is_wide else f"(sum {table} {v.name})"]
 
     def of_product(self, potential, p, q):
@@ -40,7 +50,7 @@ class Writer:
         cells = {(k,): potential.whole[self.columns.of("product", None, p, k, q)] for k in range(self.found.modes.count(p))}
         if not any(cells.values()):
             return []
-        return [f"(* {name} (sum {self.added.table(f'{self.word}_{v.name}_{name}', [self.m.objects[v.of].name], cells)} {v.name}))"]
+        return [f"(* {name} (sum {self.added.table(f'{self.begins}_{v.name}_{name}', [self.m.objects[v.of].name], cells)} {v.name}))"]
 
     def rows(self):
         """The modes that have numbers of their own."""
@@ -55,7 +65,7 @@ class Writer:
         if len(set(factors.values())) == 1:
             factor = next(iter(factors.values()))
             return [] if not factor else [name if factor == 1 else f"(* {factor} {name})"]
-        return [f"(* {name} ({self.added.table(f'{self.word}_{name}', self.objects, factors)} {self.at}))"]
+        return [f"(* {name} ({self.added.table(f'{self.begins}_{name}', self.objects, factors)} {self.at}))"]
 
     def of_modes(self, potential):
         """The part that is a cell for the values of the elements."""
@@ -65,7 +75,7 @@ class Writer:
         if not self.elements:
             return [str(values[()])]
         self.look(values)
-        name = self.added.table("_".join([self.word, *(v.name for v in self.elements)]), self.objects, values)
+        name = self.added.table("_".join([self.begins, *(v.name for v in self.elements)]), self.objects, values)
         return [f"({name} {self.at})"]
 
     def look(self, modes):

@@ -72,13 +72,15 @@ class Inequalities:
         moves = list(modes.moves())
         tolls = (near(modes, moves, near_ones), in_weights(modes, moves)) if has_tolls else ()
         self.columns = Columns(modes, *tolls)
-        self.rows, self.least, self.greatest = [], 0, 0
+        self.rows, self.least, self.greatest, self.varies = [], 0, 0, False
         for move in moves:
             clock()
             self.take(move)
-        if not m.minimize:
-            # a quotient rounds toward zero, so a potential below 0 would round to the wrong side
-            self.floors = [self.row(self.columns.height(mode, modes.state(mode, known)), {}, -1) for mode, known in self.inner.items()]
+        # where a base cost is no number, an end shows a quotient if all that is whole stands beside it, and what is left is never below 0
+        self.is_split = self.varies and all(known.spans[p][0] >= 0 for known in self.inner.values() for p in modes.integers)
+        # a quotient rounds toward zero, so a potential below 0 would round to the wrong side
+        is_one_sided = m.minimize or self.is_split
+        self.floors = [] if is_one_sided else [self.row(self.columns.height(mode, modes.state(mode, known)), {}, -1) for mode, known in self.inner.items()]
 
     def row(self, height, known, sign):
         """The row of `height <= known`, under `reduce: max` of `height >= known`."""
@@ -125,6 +127,7 @@ class Inequalities:
                 continue
             cost = {} if base.cost is None else modes.symbolic.lazily(lambda b=base: modes.symbolic.number(b.cost.tree, move.then, ()), False)
             self.see(added(weight, cost))
+            self.varies |= any(modes.atoms.with_known(cost, known))
             self.put_row(self.with_known(now, known), modes.atoms.with_known(added(weight, cost), known))
 
     def with_known(self, height, known):
@@ -142,15 +145,14 @@ class Inequalities:
         """The dual bound in a state, rounded as it is written."""
         total = sum(a * potential.whole[j] for j, a in self.columns.at(state).items())
         total += potential.unit - 1 if self.m.minimize else 0
-        return total // potential.unit if total >= 0 else -(-total // potential.unit)
+        return total // potential.unit if total >= 0 or self.is_split else -(-total // potential.unit)
 
     def holds(self, whole, unit):
         """Whether all inequalities hold for these numbers, and what is written is a dual bound: by whole numbers alone."""
         self.clock()
-        if unit > 1 and self.least < 0 and self.m.minimize:
+        if unit > 1 and self.least < 0 and self.m.minimize and not self.is_split:
             return False
-        rows = self.rows if unit == 1 or self.m.minimize else [*self.rows, *self.floors]
-        return all(row.holds(whole, unit) for row in rows)
+        return all(row.holds(whole, unit) for row in (self.rows if unit == 1 else [*self.rows, *self.floors]))
 
 
 class Program:
@@ -161,8 +163,7 @@ class Program:
         self.count = len(inequalities.columns)
         self.limit = float(min(10**9, max(1000, inequalities.greatest * (10 + 2 * sum(inequalities.modes.count(p) for p in inequalities.modes.sets) + 2 * len(inequalities.inner)))))
         self.width, self.entries, self.right, self.slack, self.seen, self.not_below_0 = self.count, [], [], [], set(), set()
-        rows = inequalities.rows if inequalities.m.minimize else [*inequalities.rows, *inequalities.floors]
-        for row in rows:
+        for row in (*inequalities.rows, *inequalities.floors):
             self.put(row)
         self.used = {j for columns in self.entries for j in columns}
 
