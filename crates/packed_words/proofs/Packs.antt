@@ -1,11 +1,13 @@
 -- Sets of a table in words, and what a table's cell has.
-use Rattle.std.proofs.Common.{◌≡◌, ℕ, zero, suc, ◌+◌, ◌*◌, ◌/◌, ◌%◌, ◌<◌, ◌≤◌, true, false, not, ◌&&◌, ◌||◌, eqb, List, [], ◌∷◌, ◌++◌, length, get_or, map, refl, sym, ap, subst, ◌∙◌, inl, inr, arith, rules}
-use Rattle.std.specs.Prelude.{Option, Some, None, option_and_then, slice_get, unwrap_or, nat_lt}
+use Rattle.std.proofs.Common.{◌≡◌, ℕ, zero, suc, ◌+◌, ◌*◌, ◌/◌, ◌%◌, ◌^◌, ◌<◌, ◌≤◌, true, false, not, ◌&&◌, ◌||◌, eqb, List, [], ◌∷◌, ◌++◌, length, get_or, map, replicate, set, refl, sym, ap, subst, ◌∙◌, inl, inr, arith, rules}
+use Rattle.std.specs.Prelude.{Option, Some, None, option_and_then, slice_get, unwrap_or, nat_lt, bit_or}
 use Rattle.std.specs.Int.{bit_at}
 use Rattle.std.specs.List.{filter, list_all, range_with_len}
 use Rattle.std.proofs.lemmas.Bool.{and_parts, cases_lt, cases_eq, eq-eqb, ne_eqb, not-true, ltb-true, ltb-false, lt-ltb, le-ltb}
-use Rattle.std.proofs.lemmas.List.FromFn.{get_or-map-range_with_len, length-map-range_with_len, map-range_with_len_more}
-use Rattle.std.proofs.lemmas.List.{get_or_past}
+use Rattle.std.proofs.lemmas.List.FromFn.{get_or-map-range_with_len, length-map-range_with_len}
+use Rattle.std.proofs.lemmas.List.{ext_get_or, get_or_past, get_or-replicate, get_or-set_same, get_or-set_other, length-replicate, length-set}
+use Rattle.std.proofs.lemmas.List.Sums.{fold_push}
+use Rattle.std.proofs.lemmas.Nat.{one_shl}
 use Rattle.std.proofs.lemmas.Nat.Bits.{bit_at-zero}
 use Rattle.bit_sets.specs.Sets.{bound_of, has, has_bit, members_of}
 use Rattle.bit_sets.proofs.Meanings.{no_bit}
@@ -17,7 +19,7 @@ use Rattle.dp_model.specs.declared.parts.Cells.{Cells}
 use Rattle.dp_model.specs.declared.parts.Cells.TheVariants as cells
 use Rattle.dp_model.specs.declared.parts.TableData.{TableData}
 use Rattle.dp_model.specs.declared.whole.Model.{Model}
-use Rattle.state_layout.specs.Signatures.{word_count, set_word, set_words}
+use Rattle.state_layout.specs.Signatures.{word_count, with_member, set_word, set_words}
 use Rattle.state_layout.proofs.Decoding.{where_same, fold_bit}
 use Rattle.state_layout.proofs.Stepping.{ascends_none}
 use Rattle.packed_words.specs.declared.tables.Shape.{Shape}
@@ -25,8 +27,53 @@ use Rattle.packed_words.specs.declared.tables.Tables.{Tables}
 use Rattle.packed_words.specs.Sets.{IsClean, one_word}
 use Rattle.packed_words.specs.Tables.{sets_of, shape_of, shape_in, cell_in, AreTablesOf}
 
-pub packed_more : (set : List ℕ) (n : ℕ) (old new : List ℕ) (w : ℕ) → old ≡ map (set_word set) (range_with_len 0 n) → w ≡ set_word set n → new ≡ old ++ w ∷ [] → new ≡ map (set_word set) (range_with_len 0 (n + 1))
-packed_more set n old new w e f g = rw (g, e, f) (sym (map-range_with_len_more (set_word set) 0 n n (omega arith)))
+-- ---- a set in words, member by member
+
+set_words_long : (count : ℕ) (xs : List ℕ) → length (set_words count xs) ≡ word_count count
+set_words_long count xs = length-map-range_with_len (set_word xs) 0 (word_count count)
+
+set_words_at : (count : ℕ) (xs : List ℕ) (k : ℕ) → k < word_count count → get_or (set_words count xs) k 0 ≡ set_word xs k
+set_words_at count xs k h = get_or-map-range_with_len (set_word xs) 0 (word_count count) k k 0 h (omega arith)
+
+-- no members yet
+pub none_put : (count : ℕ) (words : List ℕ) → words ≡ replicate (word_count count) 0 → words ≡ set_words count []
+none_put count words e = e ∙ ext_get_or 0 (replicate (word_count count) 0) (set_words count []) (length-replicate {A = ℕ} (word_count count) 0 ∙ sym (set_words_long count [])) (λ k h.
+    let below : k < word_count count = omega (arith, h, length-replicate {A = ℕ} (word_count count) 0) in
+    get_or-replicate (word_count count) k 0 0 below ∙ sym (set_words_at count [] k below))
+
+one_more : (xs : List ℕ) (m k : ℕ) → set_word (xs ++ m ∷ []) k ≡ with_member k (set_word xs k) m
+one_more xs m k = fold_push (with_member k) 0 xs m
+
+-- the word that a member is in gets its bit, and the others stay
+pub member_put : (count : ℕ) (xs words : List ℕ) (m : ℕ) → words ≡ set_words count xs → m / 64 < length words → set words (m / 64) (bit_or (get_or words (m / 64) 0) (1 * 2 ^ (m % 64) % 2 ^ 64)) ≡ set_words count (xs ++ m ∷ [])
+member_put count xs words m e inside =
+    let long : length words ≡ word_count count = ap length e ∙ set_words_long count xs in
+    let new = set words (m / 64) (bit_or (get_or words (m / 64) 0) (1 * 2 ^ (m % 64) % 2 ^ 64)) in
+    let new_long : length new ≡ word_count count = length-set words (m / 64) (bit_or (get_or words (m / 64) 0) (1 * 2 ^ (m % 64) % 2 ^ 64)) ∙ long in
+    ext_get_or 0 new (set_words count (xs ++ m ∷ [])) (new_long ∙ sym (set_words_long count (xs ++ m ∷ []))) (λ k h.
+    let below : k < word_count count = omega (arith, h, new_long) in
+    let was : get_or words k 0 ≡ set_word xs k = ap (λ (ws : List ℕ). get_or ws k 0) e ∙ set_words_at count xs k below in
+    let is : get_or (set_words count (xs ++ m ∷ [])) k 0 ≡ with_member k (set_word xs k) m = set_words_at count (xs ++ m ∷ []) k below ∙ one_more xs m k in
+    at_place k was is (elim (cases_eq (m / 64) k) [
+      | inl same ↦ (
+          let bit : 1 * 2 ^ (m % 64) % 2 ^ 64 ≡ 2 ^ (m % 64) = one_shl (m % 64) 64 (omega arith) in
+          rw (eq-eqb (m / 64) k same, sym same, get_or-set_same words (m / 64) (bit_or (get_or words (m / 64) 0) (1 * 2 ^ (m % 64) % 2 ^ 64)) 0 inside, bit) refl)
+      | inr other ↦ rw (ne_eqb (m / 64) k other, get_or-set_other words (m / 64) k (bit_or (get_or words (m / 64) 0) (1 * 2 ^ (m % 64) % 2 ^ 64)) 0 (λ f. other (sym f))) refl
+    ]))
+  where
+    at_place : (k : ℕ) → get_or words k 0 ≡ set_word xs k → get_or (set_words count (xs ++ m ∷ [])) k 0 ≡ with_member k (set_word xs k) m
+        → get_or (set words (m / 64) (bit_or (get_or words (m / 64) 0) (1 * 2 ^ (m % 64) % 2 ^ 64))) k 0 ≡ with_member k (get_or words k 0) m
+        → get_or (set words (m / 64) (bit_or (get_or words (m / 64) 0) (1 * 2 ^ (m % 64) % 2 ^ 64))) k 0 ≡ get_or (set_words count (xs ++ m ∷ [])) k 0
+    at_place k was is step = step ∙ (ap (λ (w : ℕ). with_member k w m) was ∙ sym is)
+
+-- a member in none of the words changes none
+pub member_past : (count : ℕ) (xs words : List ℕ) (m : ℕ) → words ≡ set_words count xs → length words ≤ m / 64 → words ≡ set_words count (xs ++ m ∷ [])
+member_past count xs words m e past =
+    let long : length words ≡ word_count count = ap length e ∙ set_words_long count xs in
+    e ∙ ext_get_or 0 (set_words count xs) (set_words count (xs ++ m ∷ [])) (set_words_long count xs ∙ sym (set_words_long count (xs ++ m ∷ []))) (λ k h.
+    let below : k < word_count count = omega (arith, h, set_words_long count xs) in
+    let other : with_member k (set_word xs k) m ≡ set_word xs k = rw (ne_eqb (m / 64) k (λ f. omega (arith, f, below, long, past))) refl in
+    set_words_at count xs k below ∙ (sym other ∙ (sym (one_more xs m k) ∙ sym (set_words_at count (xs ++ m ∷ []) k below))))
 
 -- ---- ascending lists
 

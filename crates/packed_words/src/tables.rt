@@ -1,9 +1,9 @@
 //! What evaluators keep of a model's tables, made once: how many members each argument may have, and the words of sets.
 
-ghost use Rattle.std.specs.Prelude.{◌≡◌, ◌≤◌, ℕ, IfOk, map, length};
+ghost use Rattle.std.specs.Prelude.{◌≡◌, ◌++◌, ◌∷◌, [], ℕ, List, IfOk, map};
 ghost use Rattle.dp_model.specs.Evaluation.{count_of, counts_of, cells_object};
 ghost use Rattle.dp_model.specs.declared.whole.Model.{Model as DpModel};
-ghost use Rattle.state_layout.specs.Signatures.{word_count, with_member, set_word, set_words};
+ghost use Rattle.state_layout.specs.Signatures.{set_words};
 ghost use Rattle.packed_words.specs.Tables.{sets_of, shape_of, AreTablesOf};
 
 use crate::sets::words_for;
@@ -95,36 +95,23 @@ fn packed_sets(alloc: Global, count: u32, sets: &[Seq<u32>]) -> Result<Vec<Seq<u
     Ok(packed)
 }
 
-/// The words of a set.
+/// The words of a set, in one walk over its members.
 fn packed_set(alloc: Global, count: u32, set: &[u32]) -> Result<Seq<u64>, AllocError>
     ensures { IfOk result (λ words. words ≡ set_words count set.now) }
 {
-    let mut words = Vec::new(alloc);
-    for number in 0..words_for(count) as u32 {
-        words.push(set_word(set, number))?;
+    let mut words = vec![in alloc; 0u64; words_for(count)]?;
+    for member in set {
+        put_member(&mut words, *member);
     }
     Ok(Seq::of(words))
 }
 
-/// The word of this number of a set.
-#[tactic(auto, using(std::proofs::lemmas::List::Sums::fold_more))]
-fn set_word(set: &[u32], number: u32) -> u64
-    ensures { result ≡ set_word set.now number }
+/// Adds a member to the words of a set. One that is in none of the words changes nothing.
+fn put_member(words: &mut [u64], member: u32)
+    ensures { (count : ℕ) (set : List ℕ) → words.old ≡ set_words count set → words.new ≡ set_words count (set ++ member ∷ []) }
 {
-    let mut word = 0;
-    for member in set {
-        word = with_member(number, word, *member);
-    }
-    word
-}
-
-/// The word of this number, with the bit of a member that stands in it.
-fn with_member(number: u32, word: u64, member: u32) -> u64
-    ensures { result ≡ with_member number word member }
-{
-    if member / 64 == number {
-        word | 1 << (member % 64)
-    } else {
-        word
+    let place = (member / 64) as usize;
+    if place < words.len() {
+        words[place] |= 1 << (member % 64);
     }
 }

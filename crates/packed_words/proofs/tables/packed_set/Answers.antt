@@ -1,8 +1,9 @@
-use Rattle.std.proofs.Common.{◌≡◌, rules, ◌∷◌, [], ◌++◌}
-use Rattle.packed_words.proofs.Packs.{packed_more}
+use Rattle.std.proofs.Common.{◌≡◌, replicate, rules}
+use Rattle.state_layout.specs.Signatures.{word_count}
+use Rattle.packed_words.proofs.Packs.{none_put}
 use Rattle.packed_words.proofs.tables.packed_set.Goals as goal
 
-pub loop-number-preserved : goal.loop-number-preserved
-loop-number-preserved c =
-    let pushed : c.push.new.self.items ≡ c.loop-number.words.items ++ c.set_word.result ∷ [] = search rules in
-    packed_more c.args.set.now c.loop-number.number c.loop-number.words.items c.push.new.self.items c.set_word.result c.loop-number.invariant c.set_word.ensures pushed
+pub loop-member-init : goal.loop-member-init
+loop-member-init c =
+    let zeros : c.in_ok-words.words.items ≡ replicate (word_count c.args.count) 0 = search rules in
+    none_put c.args.count c.in_ok-words.words.items zeros

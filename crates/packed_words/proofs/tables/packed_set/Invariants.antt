@@ -1,8 +1,7 @@
-use Rattle.std.proofs.Common.{◌≡◌, map}
-use Rattle.std.specs.List.{range_with_len}
-use Rattle.state_layout.specs.Signatures.{set_word}
+use Rattle.std.proofs.Common.{◌≡◌, take}
+use Rattle.state_layout.specs.Signatures.{set_words}
 use Rattle.packed_words.proofs.tables.packed_set.Given as goal
 
--- the words so far
-abbrev pub invariant-loop-number : goal.invariant-loop-number
-invariant-loop-number l = l.words.items ≡ map (set_word l.set) (range_with_len 0 l.number)
+-- the words of the members so far
+abbrev pub invariant-loop-member : goal.invariant-loop-member
+invariant-loop-member l = l.words.items ≡ set_words l.count (take l.member-index l.set)
