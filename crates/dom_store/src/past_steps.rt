@@ -23,8 +23,8 @@ use crate::stairs::Stairs;
 use state_layout::{Layout, Node};
 use std::alloc::Global;
 
-// it is asked for each so many that are kept whether the row at hand is long
-const SPAN: usize = 8;
+// it is asked for each so many that are kept whether the row at hand is long: an odd number, as in `rising`
+const SPAN: usize = 7;
 
 /// Whether one of those that are kept covers the node with this key, where the steps of the row of the key tell it.
 pub(crate) fn told_by_steps<K: Covers>(
