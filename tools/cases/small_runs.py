@@ -809,6 +809,7 @@ RULES = [
         [("domain", FLIP), ("problem", problem("flip", "x", 0))],
         [
             (words("solve d p --budget 10"), told("pass 1 share 1 visited 10 dropped 0", "verdict stopped 10"), 11),
+            (words("solve d p --prune off --budget 10"), told("pass 1 share 1 visited 10 dropped 0", "verdict stopped 10"), 11),
             (words("solve d p --budget 1"), told("pass 1 share 1 visited 1 dropped 0", "verdict stopped 1"), 11),
             # The two states are kept once each, and two visits are enough.
             (words("solve d p --keep all"), told("pass 1 share 1 visited 2 dropped 0", "verdict infeasible"), 10),
@@ -951,6 +952,7 @@ GEN_RUNS = [
     ("the best of a tour of two towns", [], [(words("gen tour 2 0"), told("gen tour 2 0", "ground 3", "verdict optimal 167"), 0)]),
     ("numbers with zeros in front", [], [(words("gen path 02 00 --workers 08"), printed("path", 2, 0), 0)]),
     *(generated(*model) for model in GENERATED),
+    ("a long path once more", [], [(words("gen path 1000 1 --workers 8"), printed("path", 1000, 1), 0)]),
 ]
 
 # ---- the climb with one mistake
