@@ -8,7 +8,7 @@ import operator
 
 from asked import asked
 from case_lines import entry
-from values_cases import FAULTS, FOR_ALLS, GIVEN, LEVELS, REFUSED, TOO_DEEP
+from values_cases import FAULTS, FOR_ALLS, GIVEN, LEVELS, REFUSED, TOO_DEEP, tree_transitions
 from values_model import ARGS, COUNTS, ELEMENTS, GREATEST, INTEGERS, SETS, TABLES, domain_text, problem_text
 
 CRATE = "crates/cases_values"
@@ -221,6 +221,34 @@ def typed_cases():
     yield from REFUSED
 
 
+def transition_lines(number, conditions, effects):
+    """The lines of a transition whose preconditions, and whose effects, give these."""
+    yield from (f"transition {number} precondition {n} => {given}\n" for n, given in enumerate(conditions, 1))
+    yield from (f"transition {number} effect {n} => {given}\n" for n, given in enumerate(effects, 1))
+
+
+def given_by(trees):
+    return [answer(evaluate, parse(it), ARGS) for it in trees]
+
+
+def ground_line(transitions):
+    """The ground transitions, the first parameter slowest."""
+    grounds = [f"{t}({p},{q})" for t in range(transitions) for p in range(COUNTS["o3"]) for q in range(COUNTS["o3"])]
+    return f"ground {' '.join(grounds)}\n"
+
+
+def words_of(members, count):
+    """A set in words of 64 members, the first in the lowest bit."""
+    return [sum(1 << k % 64 for k in members if k // 64 == word) for word in range(-(-count // 64))]
+
+
+def signature_line():
+    """The words of the target but those of its resources: integers in two's complement, elements, sets."""
+    numbers = [it % 2**64 for it in [*INTEGERS.values(), *ELEMENTS.values()]]
+    sets = [word for of, members in SETS.values() for word in words_of(members, COUNTS[of])]
+    return f"signature {' '.join(map(str, numbers + sets))}\n"
+
+
 def front(text):
     return text if len(text) <= MOST_SHOWN else f"{text[:MOST_SHOWN]} .."
 
@@ -233,11 +261,15 @@ def write(name, lines):
 def main():
     cases = list(typed_cases())
     held = [answer(holds_for_all, over, parse(condition), ARGS) for over, condition in FOR_ALLS]
-    write("data/domain.yaml", domain_text(FOR_ALLS))
+    trees = list(tree_transitions())
+    write("data/domain.yaml", domain_text(FOR_ALLS, trees))
     write("data/problem.yaml", problem_text())
     write("data/values.txt", (entry(place, text) for place, text, _ in cases))
     out = [f"{place} {n}: {front(text)} => {given}\n" for n, (place, text, given) in enumerate(cases, 1)]
-    out += [f"precondition {n} => {given}\n" for n, given in enumerate(held, 1)]
+    out += transition_lines(0, held, [])
+    for n, (conditions, effects) in enumerate(trees, 1):
+        out += transition_lines(n, given_by(conditions), given_by(effects.values()))
+    out += [ground_line(len(trees) + 1), signature_line()]
     write("stdout", out)
 
 

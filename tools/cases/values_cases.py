@@ -528,3 +528,35 @@ def repeated(head, operand, count):
 DEEP = [("+", "1"), ("and", "yes"), ("union", "a")]
 LEVELS = [repeated(head, operand, MOST_LEVELS) for head, operand in DEEP]
 TOO_DEEP = [repeated(head, operand, MOST_LEVELS + 1) for head, operand in DEEP]
+
+# Sixty trees of transitions: twelve forms over a set S of each of five object types, with N for the last member. Numbers and conditions
+# stand in the transition of their set, and sets in the one of their form.
+TREES_OVER = {"one": 1, "all63": 63, "all64": 64, "ends": 65, "even": 1024}
+NUMBER_TREES = {"i": "(- (* 1000 |S|) |(union (remove N S) (~ S))|)", "least": "(/ |(~ S)| (- |S| |(remove N S)|))"}
+CONDITION_TREES = [
+    "(is_in N S)",
+    "(is_subset S (add 0 (remove N S)))",
+    "(= (union S (~ S)) (~ (intersection S (remove 0 S))))",
+    "(is_empty (difference (add p S) S))",
+]
+SET_TREES = [
+    "(~ S)",
+    "(add N (remove 0 S))",
+    "(union (remove 0 S) (~ S))",
+    "(difference (~ S) (add N S))",
+    "(if (is_in N S) (intersection S (~ (remove N S))) (add q S))",
+    "(remove (+ p 62) (union S (~ (remove N S))))",
+]
+
+
+def over(form, name):
+    """A form over the set of this name."""
+    return form.replace("S", name).replace("N", str(TREES_OVER[name] - 1))
+
+
+def tree_transitions():
+    """The preconditions and the effects of each of six transitions."""
+    for form, name in zip(SET_TREES, [*TREES_OVER, None]):
+        conditions = [over(it, name) for it in CONDITION_TREES] if name else []
+        numbers = {it: over(number, name) for it, number in NUMBER_TREES.items()} if name else {}
+        yield conditions, {**numbers, **{it: over(form, it) for it in TREES_OVER}}

@@ -17,6 +17,9 @@ def multiples(of, count):
 INTEGERS = {"i": 7, "most": GREATEST, "least": -GREATEST}
 ELEMENTS = {"two": 2, "five": 5, "far": 2**32 - 1}
 
+# Each resource: its type, its preference, and its value.
+RESOURCES = {"spent": ("integer", "less", -3), "late": ("element, object: o3", "greater", 1)}
+
 # Each variable that holds a set: its object type and its members.
 SETS = {
     "a": ("o3", multiples(2, 3)),
@@ -107,10 +110,27 @@ def for_all_lines(over, condition):
     return f"      - condition: {condition}\n        forall: [ {names} ]\n"
 
 
-def domain_text(for_alls):
-    """The domain, whose one transition has these conditions as its preconditions."""
+def parameter_lines():
+    return ["    parameters:\n", *(f"      - {{ name: {it}, object: o3 }}\n" for it in ARGS)]
+
+
+def tree_lines(number, conditions, effects):
+    """A transition with these preconditions and effects."""
+    preconditions = ["    preconditions:\n", *(f"      - {it}\n" for it in conditions)] if conditions else []
+    return [
+        f"  - name: tree{number}\n",
+        *parameter_lines(),
+        *preconditions,
+        "    effects:\n",
+        *(f"      {name}: {tree}\n" for name, tree in effects.items()),
+    ]
+
+
+def domain_text(for_alls, trees):
+    """The domain, whose first transition has these conditions as its preconditions, and the others these trees."""
     names = [f"  - {{ name: {it}, type: integer }}\n" for it in INTEGERS]
     names += [f"  - {{ name: {it}, type: element, object: o3 }}\n" for it in ELEMENTS]
+    names += [f"  - {{ name: {it}, type: {of}, preference: {side} }}\n" for it, (of, side, _) in RESOURCES.items()]
     names += [f"  - {{ name: {it}, type: set, object: {of} }}\n" for it, (of, _) in SETS.items()]
     return "".join(
         [
@@ -118,17 +138,19 @@ def domain_text(for_alls):
             *names,
             "tables:\n",
             *(table_line(name, *table[:3]) for name, table in TABLES.items()),
-            "transitions:\n  - name: step\n    parameters:\n",
-            *(f"      - {{ name: {it}, object: o3 }}\n" for it in ARGS),
+            "transitions:\n  - name: step\n",
+            *parameter_lines(),
             "    preconditions:\n",
             *(for_all_lines(*it) for it in for_alls),
+            *(line for number, tree in enumerate(trees, 1) for line in tree_lines(number, *tree)),
             "base_cases:\n  - [ false ]\n",
         ]
     )
 
 
 def problem_text():
-    values = {**INTEGERS, **ELEMENTS, **{name: members for name, (_, members) in SETS.items()}}
+    resources = {name: value for name, (_, _, value) in RESOURCES.items()}
+    values = {**INTEGERS, **ELEMENTS, **resources, **{name: members for name, (_, members) in SETS.items()}}
     return "".join(
         [
             "domain: values\nproblem: sample\nobject_numbers:\n",

@@ -2,12 +2,14 @@
 //! its refusal.
 #![tactic(auto)]
 
+mod calls;
 mod models;
 mod packed;
 mod plain;
 mod typed;
 mod values;
 
+use calls::{effect, grounds_text, precondition, signature_text};
 use case_files::{Entry, entries, escaped};
 use dp_model::Model;
 use dypdl_type::Scope;
@@ -15,10 +17,12 @@ use models::{args, model_of, scope};
 use std::alloc::Global;
 use std::{fs, io};
 use typed::answer;
-use values::condition;
 
 /// How many bytes of an expression are printed.
 const MOST_SHOWN: usize = 60;
+
+/// How many preconditions, and how many effects, of a transition are printed at most.
+const MOST_PLACES: usize = 1024;
 
 /// The front of a text that is shown.
 fn front(text: &str) -> &str {
@@ -51,19 +55,51 @@ fn print_cases<R: Print + Alloc<A = Global>>(rt: &R, model: &Model, file: &str) 
     Ok(())
 }
 
-/// Prints what each precondition of the model's first transition gives.
-fn print_preconditions<R: Print + Alloc<A = Global>>(rt: &R, model: &Model) -> io::Result<()> {
+/// Prints what the preconditions of a transition give.
+fn print_preconditions<R: Print + Alloc<A = Global>>(
+    rt: &R,
+    model: &Model,
+    transition: usize,
+) -> io::Result<()> {
     let alloc = rt.alloc();
     let args = args(alloc)?;
-    let Some(step) = model.transitions().list().first() else {
-        return println!(rt; "no transition");
-    };
-    for (index, c) in step.preconditions.list().iter().enumerate() {
-        let number = index.saturating_add(1);
-        let held = condition(alloc, model, &args, c)?;
-        println!(rt; "precondition {number} => {held}")?;
+    for place in 0..MOST_PLACES {
+        let Some(given) = precondition(alloc, model, &args, transition, place)? else {
+            return Ok(());
+        };
+        let number = place.saturating_add(1);
+        println!(rt; "transition {transition} precondition {number} => {given}")?;
     }
     Ok(())
+}
+
+/// Prints what the effects of a transition give.
+fn print_effects<R: Print + Alloc<A = Global>>(
+    rt: &R,
+    model: &Model,
+    transition: usize,
+) -> io::Result<()> {
+    let alloc = rt.alloc();
+    let args = args(alloc)?;
+    for place in 0..MOST_PLACES {
+        let Some(given) = effect(alloc, model, &args, transition, place)? else {
+            return Ok(());
+        };
+        let number = place.saturating_add(1);
+        println!(rt; "transition {transition} effect {number} => {given}")?;
+    }
+    Ok(())
+}
+
+/// Prints what the expressions of each transition give, and then the ground transitions and the target's signature.
+fn print_model<R: Print + Alloc<A = Global>>(rt: &R, model: &Model) -> io::Result<()> {
+    for transition in 0..model.transitions().list().len() {
+        print_preconditions(rt, model, transition)?;
+        print_effects(rt, model, transition)?;
+    }
+    let grounds = grounds_text(rt.alloc(), model)?;
+    let signature = signature_text(rt.alloc(), model)?;
+    println!(rt; "{grounds}\n{signature}")
 }
 
 fn main(rt: HostRuntime) -> io::Result<()> {
@@ -73,7 +109,7 @@ fn main(rt: HostRuntime) -> io::Result<()> {
     match model_of(rt.alloc(), domain.as_str(), problem.as_str()) {
         Some(model) => {
             print_cases(&rt, &model, file.as_str())?;
-            print_preconditions(&rt, &model)
+            print_model(&rt, &model)
         }
         None => println!(rt; "no model"),
     }

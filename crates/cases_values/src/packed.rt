@@ -71,7 +71,7 @@ impl Target {
 }
 
 /// So many words.
-fn words(alloc: Global, count: usize) -> Result<Vec<u64>, AllocError>
+pub(crate) fn words(alloc: Global, count: usize) -> Result<Vec<u64>, AllocError>
     ensures { IfOk result (λ words. length words.items ≡ count) }
 {
     vec![in alloc; 0u64; count]
@@ -83,7 +83,7 @@ fn no_room(alloc: Global) -> Result<String, AllocError> {
 }
 
 /// The members of a set in words, of which it may have so many, between braces.
-fn set_text(alloc: Global, count: u32, words: &[u64]) -> Result<String, AllocError> {
+pub(crate) fn members_in(alloc: Global, count: u32, words: &[u64]) -> Result<String, AllocError> {
     let mut text = String::from_str(alloc, "{")?;
     for member in 0..count {
         if words
@@ -130,7 +130,7 @@ fn members_at(alloc: Global, at: &Scene<'_>, e: &SetEx) -> Result<String, AllocE
     let mut set = words(alloc, words_for(count))?;
     let mut stack = words(alloc, need)?;
     match set_into(at, e, count, set.as_mut_slice(), stack.as_mut_slice()) {
-        Ok(()) => set_text(alloc, count, &set),
+        Ok(()) => members_in(alloc, count, &set),
         Err(kind) => String::from_str(alloc, fault_name(kind)),
     }
 }

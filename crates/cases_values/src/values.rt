@@ -7,7 +7,7 @@ use dp_model::{Cond, Model, Num, SetEx};
 use std::alloc::{AllocError, Global};
 
 /// What both evaluators give, or each of the two where they differ.
-fn agreed(alloc: Global, plain: String, packed: String) -> Result<String, AllocError> {
+pub(crate) fn agreed(alloc: Global, plain: String, packed: String) -> Result<String, AllocError> {
     if plain.as_str() == packed.as_str() {
         Ok(plain)
     } else {
