@@ -1,6 +1,7 @@
-"""The kinds of bounds that tools/bounds makes: each puts its tables and bounds into what is added, and tells what was made."""
+"""The kinds of bounds that tools/bounds makes: each puts its tables and bounds into what is added, and tells what was made. What makes one kind alone is
+imported where that kind is made, since reading it takes longer than making a small bound."""
 
-from . import derive_words, lagrange, linear, modes, packings, potentials, walk_text, walks
+from . import derive_words, linear, modes, potentials
 from .symbols import Unknown
 
 KINDS = ("walks", "tolls", "knapsacks", "packings")
@@ -23,11 +24,19 @@ def made(m, given, limit, added):
         return of_packings(m, found, given, limit, added)
     by_mode = given.KIND == "tolls"
     inequalities = potentials.Inequalities(found, limit, by_mode, given.near)
-    program = potentials.Program(inequalities, linear.solved, limit) if by_mode else lagrange.Lagrange(inequalities, limit)
+    program = potentials.Program(inequalities, linear.solved, limit) if by_mode else prices_of(inequalities, limit)
     return derive_words.potentials_of(m, inequalities, program, limit, given.most or (1 if by_mode else 3), added)
 
 
+def prices_of(inequalities, limit):
+    from . import lagrange
+
+    return lagrange.Lagrange(inequalities, limit)
+
+
 def shape_of(found, given, limit):
+    from . import walks
+
     shape = walks.Shape(found, (given.set, None if given.integer == "-" else given.integer), limit)
     if given.integer == "-":
         shape.integer = shape.clock_of_set = None
@@ -36,6 +45,8 @@ def shape_of(found, given, limit):
 
 def of_walks(m, found, given, limit, added):
     import numpy
+
+    from . import walk_text, walks
 
     shape = shape_of(found, given, limit)
     arcs = walks.Arcs(shape, numpy, given.slots)
@@ -47,6 +58,8 @@ def of_walks(m, found, given, limit, added):
 
 
 def of_packings(m, found, given, limit, added):
+    from . import packings
+
     packing = packings.Packing(shape_of(found, given, limit))
     limit.tell("weights of members and credits of rooms are tried")
     best = packings.Best(packing, limit)

@@ -3,7 +3,6 @@
 `Scope` types a form where a number, a set or a condition is wanted. A typed form is a `Tree`, which `values` evaluates."""
 
 import re
-from difflib import get_close_matches
 
 from .places import Refused
 
@@ -145,6 +144,8 @@ class Tree:
 
 def near(word, known):
     """A hint at the nearest known word."""
+    from difflib import get_close_matches
+
     close = get_close_matches(word, known, 1, 0.6)
     return f"; did you mean `{close[0]}`?" if close else "."
 

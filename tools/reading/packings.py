@@ -3,7 +3,10 @@
 In a packing each step takes a member out of those that are left and lowers the room by its size, or opens the next bin, which costs something. The weights
 are those of published bounds, which look at sizes as parts of a bin: Martello and Toth's second bound, and functions of Fekete and Schepers (Scholl and Klein's
 bounds for lines of stations are two of them). A whole bin weighs `unit`. The credit of a room is what may still go into it at most, so that no step
-lets weights less credit fall by more than its cost: that is seen from single steps, and checked here for each room that a step may find."""
+lets weights less credit fall by more than its cost: that is seen from single steps, and checked here for each room that a step may find.
+
+A credit is written as the least of some sums, each the greater of a line and of a steep one that jumps over the next step: in this form the
+solver's rules, which try a side of a greater or lesser number after the other, show for each step that it is enough."""
 
 import math
 from fractions import Fraction
@@ -13,6 +16,8 @@ from .symbols import Unknown
 from .walks import ENDLESS
 
 MOST_ROOM, MOST_PARTS = 20000, 9
+# So many sums may a credit be the least of: the solver takes some eight greater and lesser numbers apart, before a step and behind it.
+MOST_LEAVES = 8
 
 
 class Step:
@@ -102,9 +107,11 @@ class Weighing:
         divisor = math.gcd(whole, *shares)
         self.unit, closed = whole // divisor, [credit // divisor for credit in shares]
         self.weights = [closed[size] for size in packing.sizes]
-        # the least credit that will do is taken where its text is no longer
+        # the least credit that will do is taken where it can be written in few sums, or is no longer
         least = self.least_credits()
-        self.credits = least if least[-1] <= self.unit and len(pieces(least)) <= len(pieces(closed)) else closed
+        self.credits, self.leaves = closed, leaves(closed, self.unit)
+        if least[-1] <= self.unit and (leaves(least, self.unit) or self.leaves is None and len(pieces(least)) <= len(pieces(closed))):
+            self.credits, self.leaves = least, leaves(least, self.unit)
 
     def least_credits(self):
         """What goes into a room at most, each member as often as one likes."""
@@ -127,22 +134,74 @@ class Weighing:
         return self.packing.cost * (over // self.unit if over >= 0 else -(-over // self.unit))
 
     def text(self, added):
-        """The bound, with a table for the weights: for each piece of the rooms a quotient of its own, so that single steps are easily shown."""
-        shape, room, text = self.packing.shape, self.packing.room_text(), None
+        """The bound, with a table for the weights."""
+        shape, room = self.packing.shape, self.packing.room_text()
         v = self.packing.m.variables[shape.set]
         table = added.table("weight", [self.packing.m.objects[v.of].name], {(k,): n for k, n in enumerate(self.weights)})
         weight = f"(sum {table} {f'(~ {v.name})' if shape.fills else v.name})"
-        for first, number, steep in pieces(self.credits):
-            here = self.bins_text(weight, room, number - steep * first, steep)
-            text = here if text is None else f"(if (>= {room} {first}) {here} {text})"
+        text = self.by_pieces(weight, room) if self.leaves is None else self.bins_text(weight, least_text(self.leaves, room))
         return text if self.packing.cost == 1 else f"(* {self.packing.cost} {text})"
 
-    def bins_text(self, weight, room, credit, steep):
-        """The bins that a weight takes, less a credit that grows with the room."""
-        less = self.unit - 1 - credit
-        over = weight if not steep else f"(- {weight} {room if steep == 1 else f'(* {steep} {room})'})"
-        over = over if not less else f"(+ {over} {less})" if less > 0 else f"(- {over} {-less})"
-        return over if self.unit == 1 else f"(/ {over} {self.unit})"
+    def by_pieces(self, weight, room):
+        """For each piece of the rooms a quotient of its own, where a credit has too many for one sum."""
+        text = None
+        for first, number, steep in pieces(self.credits):
+            here = self.bins_text(weight, line_text(number - steep * first, steep, room))
+            text = here if text is None else f"(if (>= {room} {first}) {here} {text})"
+        return text
+
+    def bins_text(self, weight, credit):
+        """The bins that a weight takes, less a credit."""
+        over = weight if credit == "0" else f"(- {weight} {credit})"
+        return over if self.unit == 1 else f"(/ (+ {over} {self.unit - 1}) {self.unit})"
+
+
+def line_text(number, steep, room):
+    """A number and so many times the room."""
+    if not steep:
+        return str(number)
+    times = room if steep == 1 else f"(* {steep} {room})"
+    return times if not number else f"(+ {times} {number})" if number > 0 else f"(- {times} {-number})"
+
+
+def least_text(sums, room):
+    """The least of some sums, in halves, so that few lesser numbers stand within one another."""
+    if len(sums) > 1:
+        half = (len(sums) + 1) // 2
+        return f"(min {least_text(sums[:half], room)} {least_text(sums[half:], room)})"
+    ((number, steep), jump), = sums
+    line = line_text(number, steep, room)
+    return line if jump is None else f"(max {line} {line_text(*jump, room)})"
+
+
+def leaves(numbers, steepest):
+    """Sums of which the least is a list of numbers that never falls: each a line, as its number at 0 and how steep it is, and a line beside it that jumps over
+    the step behind its piece, or None. None where there are more than some."""
+    found = []
+    for first, last, steep in stairs(numbers):
+        if len(found) > MOST_LEAVES:
+            return None
+        line, end = (numbers[first] - steep * first, steep), numbers[last]
+        jump = None if all(line[0] + steep * x >= numbers[x] for x in range(last, len(numbers))) else (end - steepest * last, steepest)
+        if (line, None) not in found and (line, jump) not in found:
+            found.append((line, jump))
+    found = [one for one in found if one[1] is None or (one[0], None) not in found]
+    return found if len(found) <= MOST_LEAVES and all(least_of(found, x) == number for x, number in enumerate(numbers)) else None
+
+
+def stairs(numbers):
+    """The pieces of a list by their first and last place and how steep they are, where each line lies above all that is in front of it: else each number is its own."""
+    parts = pieces(numbers)
+    for k, (first, number, steep) in enumerate(parts):
+        last = (parts[k + 1][0] if k + 1 < len(parts) else len(numbers)) - 1
+        if all(number - steep * (first - x) >= numbers[x] for x in range(first)):
+            yield first, last, steep if last > first else 0
+        else:
+            yield from ((x, x, 0) for x in range(first, last + 1))
+
+
+def least_of(sums, x):
+    return min(max(number + steep * x, number + steep * x if jump is None else jump[0] + jump[1] * x) for (number, steep), jump in sums)
 
 
 def pieces(numbers):

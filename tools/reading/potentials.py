@@ -380,8 +380,6 @@ class Deriver:
     def derive(self, most):
         """At most so many potentials; what was found is kept where the time is over."""
         for name, aim in self.aims():
-            if len(self.found) >= most:
-                break
             self.tell(f"the potential that is best for {name} is worked out")
             try:
                 found = self.program.potentials(aim)
@@ -391,6 +389,9 @@ class Deriver:
                 raise
             for potential in found:
                 self.take(potential)
+            # the next aim looks at states that are drawn
+            if len(self.found) >= most:
+                break
         return self.found
 
     def take(self, potential):

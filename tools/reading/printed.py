@@ -1,6 +1,7 @@
 """What the solver prints, read by counts: a line that owns lines behind it, as `solution COST N` owns N steps, owns them whatever they look
 like. So a step by the name `verdict optimal 0` misleads nobody. Lines of other text around what was printed, as on a page, are passed over."""
 
+import functools
 import re
 
 COUNT, COST = "([0-9]{1,39})", "(-?[0-9]{1,39})"
@@ -20,7 +21,6 @@ FORMS = {
     "steps": [("steps", f"steps {COUNT}")],
     **{word: [("end", form)] for word, form in (("refused", r"refused .*"), ("usage:", r"usage: .*"), ("read", r"read fault .*"), ("too", r"too long .*"), ("memory", r"memory"))},
 }
-FORMS = {word: [(kind, re.compile(form)) for kind, form in forms] for word, forms in FORMS.items()}
 BEHIND = {"prune": "keep", "claim": "prune", "steps": "claim"}
 BEGINS = ("part", "announce", "solution", "pass", "search", "bound")
 OWNERS = ("solution", "fault", "better", "faulty", "steps")
@@ -46,9 +46,16 @@ class Reader:
         return kind, match
 
 
+@functools.cache
+def forms_of(word):
+    """The forms of lines that begin with a word. Few tools read them, so they are made where they are wanted."""
+    return [(kind, re.compile(form)) for kind, form in FORMS.get(word, ())]
+
+
 def form_of(text):
     text = text.removesuffix("\r")
-    for kind, form in FORMS.get(text.split(" ", 1)[0], ()):
+    word = text.split(" ", 1)[0]
+    for kind, form in forms_of(word) if word in FORMS else ():
         match = form.fullmatch(text)
         if match:
             return kind, match

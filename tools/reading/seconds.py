@@ -5,7 +5,6 @@ import resource
 import signal
 import subprocess
 import sys
-import tempfile
 import time
 
 FIRST_BUDGET, GREATEST_BUDGET, MOST_GROWTH, SAFE, ROOM = 64, 2**40, 32, 0.8, 0.8
@@ -89,6 +88,8 @@ class Search:
 
     def run(self, budget, seconds):
         """A short run, which is ended after so many seconds."""
+        import tempfile
+
         began = time.monotonic()
         with tempfile.TemporaryFile() as output:
             child = self.start(budget, output)
