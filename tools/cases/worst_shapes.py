@@ -40,28 +40,30 @@ transitions:
 base_cases: [ [ (= x 40) ] ]
 """
 
-# One step leads to one state at ever lower costs, or to states of which none dominates another.
+# Each step doubles w, up to n. High steps add it to the cost, so that one state comes at each cost below n; or to two resources, of which one is better
+# where the other is worse.
 FALLING = """domain: falling
-objects: [ o ]
-state_variables: [ { name: place, type: integer } ]
+state_variables: [ { name: w, type: integer }, { name: done, type: integer } ]
 tables: [ { name: n, type: integer } ]
 transitions:
-  - { name: go, parameters: [ { name: p, object: o } ], preconditions: [ (= place 0) ], effects: { place: 1 }, cost: (+ cost (- n p)) }
-  - { name: leave, preconditions: [ (= place 1) ], effects: { place: 2 }, cost: (+ cost 1) }
-base_cases: [ [ (= place 2) ] ]
+  - { name: low, preconditions: [ (< w n), (= done 0) ], effects: { w: (* w 2) } }
+  - { name: high, preconditions: [ (< w n), (= done 0) ], effects: { w: (* w 2) }, cost: (+ cost w) }
+  - { name: leave, preconditions: [ (>= w n), (= done 0) ], effects: { done: 1 }, cost: (+ cost 1) }
+base_cases: [ [ (= done 1) ] ]
 """
 RESOURCES = """domain: resources
-objects: [ o ]
 state_variables:
-  - { name: place, type: integer }
+  - { name: w, type: integer }
+  - { name: done, type: integer }
   - { name: fuel, type: integer, preference: greater }
   - { name: hour, type: integer, preference: less }
+tables: [ { name: n, type: integer } ]
 transitions:
-  - { name: go, parameters: [ { name: p, object: o } ], preconditions: [ (= place 0) ], effects: { place: 1, fuel: (+ p 0), hour: (+ p 0) }, cost: (+ cost 1) }
-  - { name: leave, preconditions: [ (= place 1) ], effects: { place: 2 }, cost: (+ cost 1) }
-base_cases: [ [ (= place 2) ] ]
+  - { name: low, preconditions: [ (< w n), (= done 0) ], effects: { w: (* w 2) } }
+  - { name: high, preconditions: [ (< (+ hour w) n), (= done 0) ], effects: { w: (* w 2), fuel: (+ fuel w), hour: (+ hour w) } }
+  - { name: leave, preconditions: [ (>= w n), (= done 0) ], effects: { done: 1 }, cost: (+ cost 1) }
+base_cases: [ [ (= done 1) ] ]
 """
-RESOURCES_TARGET = "place: 0, fuel: 0, hour: 0"
 
 # A chain: each layer has one state.
 CHAIN = """domain: chain
@@ -102,12 +104,11 @@ def sets(n):
 
 
 def falling(n):
-    texts = problem(FALLING, "place: 0", object_numbers=f"o: {n}", table_values=f"n: {n}")
-    return *texts, certificate("off", 2, n)
+    return *problem(FALLING, "w: 1, done: 0", table_values=f"n: {n}"), certificate("off", n)
 
 
 def resources(n):
-    return *problem(RESOURCES, RESOURCES_TARGET, object_numbers=f"o: {n}"), certificate("on", 2, n)
+    return *problem(RESOURCES, "w: 1, done: 0, fuel: 0, hour: 0", table_values=f"n: {n}"), certificate("on", n)
 
 
 def chain(n):
@@ -119,10 +120,16 @@ def wide(n):
     return *problem(WIDE, "k: 0, total: 0", object_numbers=f"o: {n}", table_values=f"least: 1010, weight: {{ {weights} }}"), ""
 
 
-def certificate(prune, cost, n):
-    """Each of n steps leads from the target to a node of the next layer, and from there one step leads out."""
-    nodes = "".join(f"node 0 open go {p}\n" for p in range(n))
-    return f"certificate 1\nkeep layer\nprune {prune}\nclaim optimal {cost}\nsteps 2\ngo {n - 1}\nleave\nlayer 0 1\nnode - open\nlayer 1 {n}\n{nodes}end 2\n"
+def certificate(prune, n):
+    """A node for each sum of steps below n, the greatest first: behind k steps those below 2 to the k."""
+    depth = (n - 1).bit_length()
+    plan = depth * "low\n" + "leave\n"
+    lines = [f"certificate 1\nkeep layer\nprune {prune}\nclaim optimal 1\nsteps {depth + 1}\n{plan}layer 0 1\nnode - open\n"]
+    for k in range(1, depth + 1):
+        count, before = min(n, 1 << k), 1 << k - 1
+        lines.append(f"layer {k} {count}\n")
+        lines += (f"node {before - 1 - number % before} open {'high' if number >= before else 'low'}\n" for number in range(count - 1, -1, -1))
+    return "".join(lines) + f"end {depth + 1}\n"
 
 
 def optimal(cost_of):
@@ -142,11 +149,11 @@ SHAPES = {
     "round, keep all": Shape(6000, rounds, "solve d p --keep all --prune off --budget N", of("verdict stopped ")),
     "set tables": Shape(400, sets, "solve d p", optimal(lambda n: 60)),
     "set tables, 64 workers": Shape(400, sets, "solve d p --workers 64", optimal(lambda n: 60)),
-    "falling costs": Shape(6000, falling, "solve d p", optimal(lambda n: 2)),
-    "falling costs, check": Shape(6000, falling, "check d p l", of("verdict certified optimal 2 ")),
-    "two resources": Shape(2000, resources, "solve d p", optimal(lambda n: 2)),
-    "two resources, best": Shape(2000, resources, "solve d p --engine best", optimal(lambda n: 2)),
-    "two resources, check": Shape(2000, resources, "check d p l", of("verdict certified optimal 2 ")),
+    "falling costs": Shape(6400, falling, "solve d p", optimal(lambda n: 1)),
+    "falling costs, check": Shape(6400, falling, "check d p l", of("verdict certified optimal 1 ")),
+    "two resources": Shape(1600, resources, "solve d p", optimal(lambda n: 1)),
+    "two resources, best": Shape(1600, resources, "solve d p --engine best", optimal(lambda n: 1)),
+    "two resources, check": Shape(1600, resources, "check d p l", of("verdict certified optimal 1 ")),
     "chain, 64 workers": Shape(100, chain, "solve d p --workers 64", optimal(lambda n: n)),
-    "many successors, best": Shape(400, wide, "solve d p --engine best", optimal(lambda n: 5050)),
+    "many successors, best": Shape(40, wide, "solve d p --engine best", optimal(lambda n: 5050)),
 }
