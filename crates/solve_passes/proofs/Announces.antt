@@ -1,5 +1,5 @@
 -- What the passes of a run announce, with one pass more.
-use Rattle.std.proofs.Common.{◌≡◌, ℕ, ◌+◌, ◌<◌, ◌≤◌, ◌⊎◌, inl, inr, zero, suc, Bool, true, false, List, [], ◌∷◌, ◌++◌, length, slice_get, Option, Some, None, is_some, ℤ, pos, refl, sym, ap, subst, ◌∙◌, arith, length-append}
+use Rattle.std.proofs.Common.{◌≡◌, ℕ, ◌+◌, ◌^◌, ◌<◌, ◌≤◌, ◌⊎◌, inl, inr, zero, suc, Bool, true, false, List, [], ◌∷◌, ◌++◌, length, slice_get, Option, Some, None, is_some, ℤ, pos, refl, sym, ap, subst, ◌∙◌, arith, length-append}
 use Rattle.std.specs.Prelude.{IfSome, option_map}
 use Rattle.std.proofs.lemmas.Grind.{flat_map-append}
 use Rattle.std.proofs.lemmas.Int.{ints}
@@ -192,11 +192,11 @@ clash : true ≡ false → ⊥
 clash e = cc
 
 -- it announced
-pub made_aloud : (m : Model) (printing : Printing) (last : Option ℤ) (word word_after : ℕ) (before after : Option (List ℕ)) (faults faults_after : ℕ) (r : AnnouncedEnd) → announces printing ≡ true → HasAnnounced m last before after faults faults_after r → HasLast m word word_after last r
+pub made_aloud : (m : Model) (printing : Printing) (last : Option ℤ) (word word_after : ℕ) (before after : Option (List ℕ)) (faults faults_after : ℕ) (r : AnnouncedEnd) → announces printing ≡ true → r.refused < 2 ^ 64 → HasAnnounced m last before after faults faults_after r → HasLast m word word_after last r
     → IsMade m printing last word word_after before after faults faults_after (record { end = r.end; counts = Some (record { announced = r.announced; refused = r.refused }); failed = r.failed })
-made_aloud m printing last word word_after before after faults faults_after r on h best = record {
+made_aloud m printing last word word_after before after faults faults_after r on few h best = record {
   announced = Some (record { costs = h.costs; refused = r.refused });
-  may = record { on = sym on; legal = h.legal; improving = h.improving };
+  may = record { on = sym on; legal = h.legal; improving = h.improving; few_refused = few };
   written = λ fine. ((h.written fine).0, ap (λ (n : ℕ). Some (record { announced = n; refused = r.refused })) (h.written fine).1);
   stopped = h.stopped;
   count = h.count;
@@ -207,7 +207,7 @@ made_aloud m printing last word word_after before after faults faults_after r on
 pub made_quiet : (m : Model) (printing : Printing) (last : Option ℤ) (word word_after : ℕ) (told : Option (List ℕ)) (faults : ℕ) (end : PassEnd) → announces printing ≡ false → IsMade m printing last word word_after told told faults faults (record { end = end; counts = None; failed = false })
 made_quiet m printing last word word_after told faults end off = record {
   announced = None;
-  may = record { on = sym off; legal = λ c has. absurd (has_none c has); improving = tt };
+  may = record { on = sym off; legal = λ c has. absurd (has_none c has); improving = tt; few_refused = tt };
   written = λ _. (Takes-nothing told, refl);
   stopped = λ stop. absurd (clash (sym stop));
   count = omega arith;

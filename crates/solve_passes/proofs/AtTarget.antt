@@ -20,6 +20,7 @@ use Rattle.run_ends.specs.Claims.{claim_with, solved_by}
 use Rattle.pass_run.proofs.Places.{none_there}
 use Rattle.solve_passes.proofs.Announces.{nothing_announced}
 use Rattle.solve_passes.proofs.Concluding.{claimed, unclaimed}
+use Rattle.solve_passes.proofs.Counted.{none_counted}
 use Rattle.solve_passes.specs.Ongoing.{Concluded, IsTold}
 use Rattle.solve_passes.specs.Records.{Record, Ending, Ended, OutOfMemory, KeepsWord, RightBound, RightEnding, claim_of, ending_status, ending_text, found_text, record_text}
 use Rattle.solve_passes.specs.declared.progress.Printing.{Printing}
@@ -133,6 +134,7 @@ module _ (m : Model) (options : Options) (gap : Bool) (printing : Printing) (bef
       bound = no_bound m options gap (Some found) end;
       ending = right;
     };
+    counted = none_counted m options (Some found) end;
     word = word;
     printed = subst (λ (t : List ℕ). ((status ≡ ending_status end) × Takes before after t × (claim_with status last ≡ claim_of (run_of end))) ⊎ ((status ≡ statuses.WriteFault) × TakesFront before after t × (claim_with status last ≡ None)))
         (sym (text_at_target printing m found end)) printed;
@@ -177,6 +179,7 @@ module _ (m : Model) (options : Options) (gap : Bool) (printing : Printing) (bef
     run = bare_run end;
     announcing = λ k p at. absurd (none_there k p at);
     right = record { numbered = tt; dropping = tt; within_budget = omega arith; reached = tt; legal = tt; improving = tt; announced = nothing_announced m end; base_target = tt; bound = no_bound m options gap None end; ending = right };
+    counted = none_counted m options None end;
     word = word;
     printed = subst (λ (t : List ℕ). ((status ≡ ending_status end) × Takes before after t × (claim_with status None ≡ claim_of (bare_run end))) ⊎ ((status ≡ statuses.WriteFault) × TakesFront before after t × (claim_with status None ≡ None)))
         (sym (bare_text printing m end))

@@ -1,7 +1,8 @@
 -- What a run came to after a pass, by what was printed.
 use Rattle.std.proofs.Common.{◌≡◌, ℕ, ◌+◌, ◌^◌, ◌<◌, ◌≤◌, true, false, Result, Ok, Err, Bool, List, [], ◌∷◌, ◌++◌, refl, sym, ap, ◌∙◌, subst, slice_get, ℤ, Option, Some, None, is_some, ◌⊎◌, inl, inr, arith}
-use Rattle.std.specs.Prelude.{OnErr, OnOk}
+use Rattle.std.specs.Prelude.{IfSome, OnErr, OnOk}
 use Rattle.std.specs.Result.{is_err}
+use Rattle.cost_laws.specs.Orders.{InWideRange}
 use Rattle.dp_claims.specs.Enough.{IsAtMostReached}
 use Rattle.dp_model.specs.declared.answers.Found.{Found}
 use Rattle.dp_model.specs.declared.answers.Options.{Options}
@@ -14,7 +15,9 @@ use Rattle.solve_passes.proofs.Passing.{IsNew, dropping_more, last_but_dropped, 
 use Rattle.run_ends.specs.Claims.{claim_with, solved_by}
 use Rattle.run_ends.specs.declared.solved.Solved.{Solved}
 use Rattle.solve_passes.proofs.Announces.{announced_more, each_announces, right_more}
+use Rattle.solve_passes.proofs.Counted.{closed_more, counted_more}
 use Rattle.solve_passes.specs.Announcing.{MayAnnounce}
+use Rattle.solve_passes.specs.Counted.{Closes, CountsClosed, CountsHalted, Halts, HasWords}
 use Rattle.solve_passes.specs.Ongoing.{Passes, History, HistoryOf, Concluded, IsBoundOf, IsTold, announces, held_after, held_cost, lines_of, pass_of, solutions_of}
 use Rattle.pass_over.specs.Announcements.{last_or}
 use Rattle.solve_passes.specs.Records.{Announced, Pass, Ending, Ended, OutOfMemory, Record, KeepsWord, RightAnnounced, RightBound, RightEnding, TellsBest, costs_in, bound_text, claim_after, claim_of, ending_status, ending_text, passes_text}
@@ -111,11 +114,12 @@ module _ (m : Model) (options : Options) (gap : Bool) (printing : Printing) (bef
   announcing = each_announces m printing progress.held h.passes this h.announced may
 
   -- a write of the pass failed
-  pub failed_pass : (after : Option (List ℕ)) (status : Status) (last : Option Found) → status ≡ statuses.WriteFault → TakesFront old after (lines_of printing m progress announced tally found) → Concluded m options gap printing before after (solved_by status last)
-  failed_pass after status last fault front = record {
+  pub failed_pass : (after : Option (List ℕ)) (status : Status) (last : Option Found) → HasWords this → status ≡ statuses.WriteFault → TakesFront old after (lines_of printing m progress announced tally found) → Concluded m options gap printing before after (solved_by status last)
+  failed_pass after status last words fault front = record {
     run = record { at_target = None; passes = run; bound = None; ending = OutOfMemory };
     announcing = announcing;
     right = right_record m options gap (held_after progress.held found) (progress.passes + 1) (progress.visited + tally.visited) run None OutOfMemory grown (last_but_dropped h.passes this h.dropping) within (announced_by OutOfMemory (λ other. absurd (other refl))) (no_bound_before_memory m options gap None run) tt;
+    counted = counted_more m options h.passes this h.counts None OutOfMemory (λ closes. absurd closes) (λ halts. absurd halts) words tt;
     word = tt;
     printed = inr (
       fault,
@@ -127,11 +131,13 @@ module _ (m : Model) (options : Options) (gap : Bool) (printing : Printing) (bef
   -- the run is over, with a right ending
   pub over : (mid after : Option (List ℕ)) (status : Status) (bound : Option ℤ) (ending : Ending) (last : Option Found) → Takes old mid (lines_of printing m progress announced tally found) →
       RightBound m options gap (run_of bound ending) bound → RightEnding m options gap (run_of bound ending) ending → KeepsWord m options bound ending →
-      IsTold printing m mid after status bound ending → last ≡ held_after progress.held found → ((ending ≡ OutOfMemory → ⊥) → TellsBest this) → Concluded m options gap printing before after (solved_by status last)
-  over mid after status bound ending last told bounded right word printed is_last best = record {
+      IsTold printing m mid after status bound ending → last ≡ held_after progress.held found → ((ending ≡ OutOfMemory → ⊥) → TellsBest this) →
+      (Closes ending → CountsClosed m options this) → (Halts ending → CountsHalted m options this) → HasWords this → IfSome bound InWideRange → Concluded m options gap printing before after (solved_by status last)
+  over mid after status bound ending last told bounded right word printed is_last best closed halted words wide = record {
     run = run_of bound ending;
     announcing = announcing;
     right = right_record m options gap (held_after progress.held found) (progress.passes + 1) (progress.visited + tally.visited) run bound ending grown (last_but_dropped h.passes this h.dropping) within (announced_by ending best) bounded right;
+    counted = counted_more m options h.passes this h.counts bound ending closed halted words wide;
     word = word;
     printed = subst (λ (t : List ℕ). ((status ≡ ending_status ending) × Takes before after t × (claim_with status last ≡ claim_of (run_of bound ending))) ⊎ ((status ≡ statuses.WriteFault) × TakesFront before after t × (claim_with status last ≡ None)))
         (sym (text_of_record printing m run bound ending))
@@ -147,6 +153,6 @@ module _ (m : Model) (options : Options) (gap : Bool) (printing : Printing) (bef
 
   -- nodes were dropped, and the run goes on
   pub went_on : (mid : Option (List ℕ)) (bound : Option ℤ) → Takes old mid (lines_of printing m progress announced tally found) → 0 < tally.dropped → IsBoundOf m options gap (progress.passes + 1) (solutions_of run) bound → TellsBest this →
-      (announces printing ≡ true → last_or (held_cost progress.held) (costs_in announced) ≡ held_cost (held_after progress.held found)) →
+      (announces printing ≡ true → last_or (held_cost progress.held) (costs_in announced) ≡ held_cost (held_after progress.held found)) → CountsClosed m options this → HasWords this →
       History m options gap printing before mid (held_after progress.held found) (progress.passes + 1) (progress.visited + tally.visited) bound
-  went_on mid bound told some proved best last = record { passes = run; told = told_on mid told; known = grown; dropping = dropping_more h.passes this some h.dropping; proved = proved; announced = announced_more m printing progress.held h.passes this h.announced may (held_after progress.held found) best last }
+  went_on mid bound told some proved best last closed words = record { passes = run; told = told_on mid told; known = grown; dropping = dropping_more h.passes this some h.dropping; proved = proved; announced = announced_more m printing progress.held h.passes this h.announced may (held_after progress.held found) best last; counts = closed_more m options h.passes this h.counts closed words }

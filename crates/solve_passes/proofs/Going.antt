@@ -32,12 +32,14 @@ use Rattle.solve_passes.proofs.AfterPass.{led}
 use Rattle.solve_passes.proofs.Announces.{last_held, tells_best}
 use Rattle.solve_passes.proofs.Concluding.{all, failed_pass, grown, no_bound_before_memory, over, went_on}
 use Rattle.run_ends.specs.Claims.{solved_by}
-use Rattle.solve_passes.proofs.Counting.{below_enough, more_drawn, pow_less, pow_next, pow_some, reached_less}
+use Rattle.solve_passes.proofs.Counted.{had_memory, no_close, no_halt, wide_printed}
+use Rattle.solve_passes.proofs.Counting.{below_enough, more_drawn, pow_less, pow_next, pow_small, pow_some, reached_less}
 use Rattle.solve_passes.proofs.Drops.{drops_none}
 use Rattle.solve_passes.proofs.Gaps.{bound_more, costs_more, held_has, legal_word, met_floor, no_bound_before_verdict, proved_right, proved_word, stopped_bound, stopped_word, wide_after, wide_floor, wide_floor_for, wide_held, word_held, word_is}
 use Rattle.solve_passes.proofs.Passing.{IsNew, front_of_pass, last_kept_all, nothing_last, some_pass, text_of_pass}
 use Rattle.solve_passes.proofs.Words.{keeps_word, word_after}
 use Rattle.solve_passes.specs.Announcing.{MayAnnounce, TellsLast, counts_of}
+use Rattle.solve_passes.specs.Counted.{Closes, CountsClosed, CountsHalted, Halts, HasWords, IsWord}
 use Rattle.solve_passes.specs.Ongoing.{Concluded, HasWord, HistoryOf, announces, rest_text, IsBoundOf, IsFollowed, IsImproved, IsLast, IsOngoing, IsWordOf, GoesOn, LosesNothing, Passes, floor_for, going_on, halt_ending, halt_in, held_after, held_cost, lines_of, pass_of, printed_bound, progress_after, solutions_of, tally_in, verdict_of}
 use Rattle.solve_passes.specs.Records.{Announced, Pass, Ending, Ended, OutOfMemory, Record, TellsBest, announced_lines, costs_in, KeepsWord, LastDroppedNone, RightBound, RightEnding, RightVerdict}
 use Rattle.solve_passes.specs.declared.progress.Counts.{Counts}
@@ -154,7 +156,7 @@ module _ (m : Model) (options : Options) (gap : Bool) (board : BoardFacts) (prog
 
   -- what was printed and kept after a pass
   abbrev pub Follows : Printing → (old out : Option (List ℕ)) → (new : Progress) → Tally → (halt : Option Cause) → Option Status → Type 0
-  Follows printing old out new tally halt result = (found : Option Found) × IsImproved m progress.held tally.best found × IsFollowed (lines_of printing m progress announced tally found) printing m old out progress new tally halt found result
+  Follows printing old out new tally halt result = (found : Option Found) × IsImproved m progress.held tally.best found × IsFollowed (lines_of printing m progress announced tally found) printing m old out progress new tally halt found result × IsWord tally.dropped
 
   follows : (printing : Printing) (old out : Option (List ℕ)) (new : Progress) (end : PassEnd) (tally : Tally) (halt : Option Cause) (result : Option Status) → tally ≡ tally_in gap end → halt ≡ halt_in end → Follows printing old out new tally halt result → Follows printing old out new (tally_in gap end) (halt_in end) result
   follows printing old out new end tally halt result same_tally same_halt h =
@@ -231,6 +233,37 @@ module _ (m : Model) (options : Options) (gap : Bool) (board : BoardFacts) (prog
   fits ps (ends.Halted cause visited dropped best) found ending made improved proved known last =
       subst (λ (e : Ending). Fits (passes ps (ends.Halted cause visited dropped best) found) (printed_bound (Some cause) progress.bound) e) (sym last) (fits_halted ps cause visited dropped best found made proved known)
 
+  -- ---- what it counts
+
+  -- a closed pass
+  closed_counts : (visited dropped : ℕ) (floor : Option ℤ) (best found : Option Found) → Made (ends.Closed visited dropped floor best) → CountsClosed m options (pass_of progress announced found visited dropped)
+  closed_counts visited dropped floor best found made =
+      let is = made.2 in
+      record { some = some; records = is.records; opening = best_known seat.view; best = best_known after.view; ledger = is.ledger; closed = is.closed; visits = is.visits; drops = is.drops }
+
+  -- one that was halted while memory lasted
+  halted_counts : (cause : Cause) (visited dropped : ℕ) (best found : Option Found) → Made (ends.Halted cause visited dropped best) → (cause ≡ causes.Memory → ⊥) → CountsHalted m options (pass_of progress announced found visited dropped)
+  halted_counts cause visited dropped best found made fine =
+      let left = made.3 fine in
+      record { some = some; records = left.records; long = left.long; together = left.together; drops = left.drops }
+
+  counts_on_close : (end : PassEnd) (found : Option Found) (ending : Ending) → Made end → IsLast m (tally_in gap end) (halt_in end) (progress_after progress found (tally_in gap end).visited) ending → Closes ending
+      → CountsClosed m options (pass_of progress announced found (tally_in gap end).visited (tally_in gap end).dropped)
+  counts_on_close (ends.Closed visited dropped floor best) found ending made last closes = closed_counts visited dropped floor best found made
+  counts_on_close (ends.Halted cause visited dropped best) found ending made last closes = absurd (no_close (progress.visited + visited) cause (subst Closes last closes))
+
+  counts_on_halt : (end : PassEnd) (found : Option Found) (ending : Ending) → Made end → IsLast m (tally_in gap end) (halt_in end) (progress_after progress found (tally_in gap end).visited) ending → Halts ending
+      → CountsHalted m options (pass_of progress announced found (tally_in gap end).visited (tally_in gap end).dropped)
+  counts_on_halt (ends.Closed visited dropped floor best) found ending made last halts = absurd (no_halt (held_after progress.held found) (subst Halts last.1 halts))
+  counts_on_halt (ends.Halted cause visited dropped best) found ending made last halts = halted_counts cause visited dropped best found made (had_memory (progress.visited + visited) cause (subst Halts last halts))
+
+  -- its numbers have 64 bits
+  words_of : (printing : Printing) (found : Option Found) (visited dropped : ℕ) → MayAnnounce m printing (held_cost progress.held) announced → IsWord dropped → HasWords (pass_of progress announced found visited dropped)
+  words_of printing found visited dropped may few =
+      let number : progress.passes + 1 ≤ 57 = omega (arith, ongoing.few_passes) in
+      let share : progress.schedule.share ≤ 2 ^ 56 = omega (arith, ongoing.share, pow_small progress.passes ongoing.few_passes) in
+      record { number = number; share = share; dropped = few; refused = may.few_refused }
+
   -- ---- what it announces
 
   -- what the pass may announce; where memory sufficed, the last cost has the best word
@@ -268,35 +301,41 @@ module _ (m : Model) (options : Options) (gap : Bool) (board : BoardFacts) (prog
   new_of end found made improved = is_new m progress.held (tally_in gap end).best found (legal_in gap run seat.view after.view end made) improved
 
   ended : (printing : Printing) (old out : Option (List ℕ)) (new : Progress) (end : PassEnd) (found : Option Found) (result : Option Status) → Made end → IsImproved m progress.held (tally_in gap end).best found → Tells printing end
-      → IsFollowed (lines_of printing m progress announced (tally_in gap end) found) printing m old out progress new (tally_in gap end) (halt_in end) found result →
+      → IsFollowed (lines_of printing m progress announced (tally_in gap end) found) printing m old out progress new (tally_in gap end) (halt_in end) found result → IsWord (tally_in gap end).dropped →
       IfSome result (λ status. (before : Option (List ℕ)) → HistoryOf m options gap printing before old progress → Concluded m options gap printing before out (solved_by status new.held))
-  ended printing old out new end found None made improved tells followed = tt
-  ended printing old out new end found (Some status) made improved tells (inl told) = λ before h.
+  ended printing old out new end found None made improved tells followed few = tt
+  ended printing old out new end found (Some status) made improved tells (inl told) few = λ before h.
       let better = new_of end found made improved in
       let known = grown m options gap printing before old progress announced (tally_in gap end) found h better ongoing.share (reached end made) (within end made) tells.0 in
       let fit = fits h.passes end found told.1 made improved h.proved known told.3 in
       over m options gap printing before old progress announced (tally_in gap end) found h better ongoing.share (reached end made) (within end made) tells.0 told.0 out status (printed_bound (halt_in end) progress.bound) told.1 new.held told.2 fit.0 fit.1 fit.2 told.4 told.5
-      (λ going. told_best printing end found tells made improved (not_out end found told.1 told.3 going))
-  ended printing old out new end found (Some status) made improved tells (inr failed) = λ before h.
-      failed_pass m options gap printing before old progress announced (tally_in gap end) found h (new_of end found made improved) ongoing.share (reached end made) (within end made) tells.0 out status new.held failed.0 failed.1
+      (λ going. told_best printing end found tells made improved (not_out end found told.1 told.3 going)) (counts_on_close end found told.1 made told.3) (counts_on_halt end found told.1 made told.3)
+      (words_of printing found (tally_in gap end).visited (tally_in gap end).dropped tells.0 few)
+      (wide_printed (halt_in end) progress.bound ongoing.wide_bound)
+  ended printing old out new end found (Some status) made improved tells (inr failed) few = λ before h.
+      failed_pass m options gap printing before old progress announced (tally_in gap end) found h (new_of end found made improved) ongoing.share (reached end made) (within end made) tells.0 out status new.held
+      (words_of printing found (tally_in gap end).visited (tally_in gap end).dropped tells.0 few) failed.0 failed.1
 
-  -- a write of what it announced failed
+  -- a write of what it announced failed, before any of its counts was written
   pub fails : (printing : Printing) (old out : Option (List ℕ)) (end : PassEnd) → Made end → MayAnnounce m printing (held_cost progress.held) announced → TakesFront old out (announced_lines announced) → (before : Option (List ℕ)) → HistoryOf m options gap printing before old progress →
       Concluded m options gap printing before out (solved_by statuses.WriteFault progress.held)
   fails printing old out end made may front before h =
-      failed_pass m options gap printing before old progress announced (tally_in gap end) None h tt ongoing.share (reached end made) (within end made) may out statuses.WriteFault progress.held refl
-      (front_of_pass printing m progress announced None (tally_in gap end).visited (tally_in gap end).dropped old out may.on front)
+      let visited = (tally_in gap end).visited in
+      let none : IsWord 0 = (let less : 0 < 2 ^ 64 = omega arith in less) in
+      failed_pass m options gap printing before old progress announced (record { visited = visited; dropped = 0; least_floor = None; best = None }) None h tt ongoing.share (reached end made) (within end made) may out statuses.WriteFault progress.held
+      (words_of printing None visited 0 may none) refl (front_of_pass printing m progress announced None visited 0 old out may.on front)
 
   -- what follows a pass stands behind what it announced
   pub led_on : (printing : Printing) (counts : Option Counts) (old mid out : Option (List ℕ)) (new : Progress) (tally : Tally) (halt : Option Cause) (result : Option Status) → MayAnnounce m printing (held_cost progress.held) announced → counts ≡ counts_of announced →
       Takes old mid (announced_lines announced) →
-      (found : Option Found) × IsImproved m progress.held tally.best found × IsFollowed (rest_text printing m progress counts found tally.visited tally.dropped) printing m mid out progress new tally halt found result → Follows printing old out new tally halt result
-  led_on printing counts old mid out new tally halt result may same took f = (
+      (found : Option Found) × IsImproved m progress.held tally.best found × IsFollowed (rest_text printing m progress counts found tally.visited tally.dropped) printing m mid out progress new tally halt found result → IsWord tally.dropped → Follows printing old out new tally halt result
+  led_on printing counts old mid out new tally halt result may same took f few = (
     f.0,
     f.1,
     subst (λ (lines : List ℕ). IsFollowed lines printing m old out progress new tally halt f.0 result) (text_of_pass printing m progress announced f.0 tally.visited tally.dropped may.on)
         (led (announced_lines announced) (rest_text printing m progress (counts_of announced) f.0 tally.visited tally.dropped) printing m old mid out progress new tally halt f.0 result took
         (subst (λ (c : Option Counts). IsFollowed (rest_text printing m progress c f.0 tally.visited tally.dropped) printing m mid out progress new tally halt f.0 result) same f.2)),
+    few,
   )
 
   -- the record of a run that is over
@@ -304,7 +343,7 @@ module _ (m : Model) (options : Options) (gap : Bool) (board : BoardFacts) (prog
       IfSome result (λ status. (before : Option (List ℕ)) → HistoryOf m options gap printing before old progress → Concluded m options gap printing before out (solved_by status new.held))
   concludes printing old out new end tally halt result made tells same_tally same_halt h =
       let f = follows printing old out new end tally halt result same_tally same_halt h in
-      ended printing old out new end f.0 result made f.1 tells f.2
+      ended printing old out new end f.0 result made f.1 tells f.2 f.3
 
   -- ---- the record so far of a run that goes on
 
@@ -318,21 +357,21 @@ module _ (m : Model) (options : Options) (gap : Bool) (board : BoardFacts) (prog
       bound_more m options gap progress.schedule.share some (best_known after.view) progress.passes (solutions_of ps) (solutions_of (ps ++ this ∷ [])) progress.bound (held_cost held) floor proved (costs_more ps this)
       (held_has (solutions_of (ps ++ this ∷ [])) held known.last) (wide_held held (word_after_pass best found made.1 improved)) (word_is m (best_known after.view) held (best_after best found made.1 improved made.2.best_is)) shown
 
-  kept : (printing : Printing) (before old out : Option (List ℕ)) (end : PassEnd) (found : Option Found) → Made end → GoesOn (tally_in gap end) (halt_in end) → IsImproved m progress.held (tally_in gap end).best found → Tells printing end → Takes old out (lines_of printing m progress announced (tally_in gap end) found) → HistoryOf m options gap printing before old progress →
+  kept : (printing : Printing) (before old out : Option (List ℕ)) (end : PassEnd) (found : Option Found) → Made end → GoesOn (tally_in gap end) (halt_in end) → IsImproved m progress.held (tally_in gap end).best found → Tells printing end → Takes old out (lines_of printing m progress announced (tally_in gap end) found) → IsWord (tally_in gap end).dropped → HistoryOf m options gap printing before old progress →
       HistoryOf m options gap printing before out (Next end found)
-  kept printing before old out (ends.Closed visited dropped floor best) found made lost improved tells took h =
+  kept printing before old out (ends.Closed visited dropped floor best) found made lost improved tells took few h =
       let end = ends.Closed visited dropped floor best in
       let better = new_of end found made improved in
       let known = grown m options gap printing before old progress announced (tally_in gap end) found h better ongoing.share (reached end made) (within end made) tells.0 in
       went_on m options gap printing before old progress announced (tally_in gap end) found h better ongoing.share (reached end made) (within end made) tells.0 out (Next end found).bound took lost (proved_more h.passes visited dropped floor best found made lost improved h.proved known)
-      (told_best printing end found tells made improved (λ ran. ran)) (last_cost printing end found tells made improved (λ ran. ran))
-  kept printing before old out (ends.Halted cause visited dropped best) found made lost improved tells took h = absurd lost
+      (told_best printing end found tells made improved (λ ran. ran)) (last_cost printing end found tells made improved (λ ran. ran)) (closed_counts visited dropped floor best found made) (words_of printing found visited dropped tells.0 few)
+  kept printing before old out (ends.Halted cause visited dropped best) found made lost improved tells took few h = absurd lost
 
   grows : (printing : Printing) (old out : Option (List ℕ)) (new : Progress) (end : PassEnd) (result : Option Status) → Made end → Tells printing end → Follows printing old out new (tally_in gap end) (halt_in end) result →
       IfNone result ((before : Option (List ℕ)) → HistoryOf m options gap printing before old progress → HistoryOf m options gap printing before out new)
   grows printing old out new end (Some status) made tells f = tt
   grows printing old out new end None made tells f = λ before h.
-      subst (λ (n : Progress). HistoryOf m options gap printing before out n) (sym f.2.1) (kept printing before old out end f.0 made f.2.0 f.1 tells f.2.2 h)
+      subst (λ (n : Progress). HistoryOf m options gap printing before out n) (sym f.2.1) (kept printing before old out end f.0 made f.2.0 f.1 tells f.2.2 f.3 h)
 
   pub history : (printing : Printing) (old out : Option (List ℕ)) (new : Progress) (end : PassEnd) (tally : Tally) (halt : Option Cause) (result : Option Status) → Made end → Tells printing end → tally ≡ tally_in gap end → halt ≡ halt_in end → Follows printing old out new tally halt result →
       IfNone result ((before : Option (List ℕ)) → HistoryOf m options gap printing before old progress → HistoryOf m options gap printing before out new)

@@ -5,6 +5,7 @@ pub mod Words
 pub mod Drops
 pub mod Gaps
 pub mod AfterPass
+pub mod Counted
 pub mod Concluding
 pub mod AtTarget
 pub mod Going

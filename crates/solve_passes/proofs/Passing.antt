@@ -19,6 +19,7 @@ use Rattle.solve_passes.specs.Records.{Announced, Pass, Ending, NumberedFrom, Al
 use Rattle.solve_passes.specs.declared.progress.Printing.{Printing}
 use Rattle.solve_passes.specs.declared.progress.Printing.TheVariants.{All, VerdictAlone}
 use Rattle.solve_passes.specs.declared.progress.Progress.{Progress}
+use Rattle.pass_run.proofs.Places.{none_there}
 use Rattle.solve_passes.proofs.Announces.{none_announced}
 use Rattle.solve_passes.specs.Announcing.{counts_of}
 use Rattle.solve_report.proofs.Written.{Takes-nothing, TakesFront-longer}
@@ -123,6 +124,7 @@ begins printing m options gap before = record {
   dropping = tt;
   proved = none_proved gap;
   announced = none_announced m printing;
+  counts = λ k p at. absurd (none_there k p at);
 }
   where
     none_proved : (g : Bool) → IsBoundOf m options g 0 [] None

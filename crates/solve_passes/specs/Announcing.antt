@@ -1,5 +1,5 @@
 -- What a pass announces in a run.
-use Rattle.std.specs.Prelude.{◌≡◌, ℕ, ◌≤◌, Bool, true, false, List, [], length, Option, Some, None, is_some, ℤ, pos}
+use Rattle.std.specs.Prelude.{◌≡◌, ℕ, ◌≤◌, Bool, true, false, List, [], length, Option, Some, None, is_some, IfSome, ℤ, pos}
 use Rattle.announce_laws.specs.Last.{Improving, word_or_none}
 use Rattle.board_words.specs.Rules.{IsWhole}
 use Rattle.board_words.specs.Seats.{BoardFacts, SeatFacts, IsSeatOf}
@@ -14,6 +14,7 @@ use Rattle.pass_ends.specs.Ends.{IsPassEnd}
 use Rattle.pass_ends.specs.Passes.{AreOptions, pass_of}
 use Rattle.pass_ends.specs.declared.answers.PassEnd.{PassEnd}
 use Rattle.pass_over.specs.Announcements.{RanOut, last_or}
+use Rattle.solve_passes.specs.Counted.{IsWord}
 use Rattle.solve_passes.specs.Ongoing.{IsOngoing, announces, held_cost}
 use Rattle.solve_passes.specs.Records.{Announced, announced_lines, costs_in}
 use Rattle.solve_passes.specs.declared.made.Made.{Made}
@@ -26,11 +27,13 @@ abbrev pub counts_of : Option Announced → Option Counts
 counts_of None = None
 counts_of (Some a) = Some (record { announced = length a.costs; refused = a.refused })
 
--- what a pass may announce after this last cost: costs of legal lists, each strictly better than the one before
+-- What a pass may announce after this last cost: costs of legal lists, each strictly better than the one before. The calls that found
+-- no room are counted by a number of 64 bits.
 pub record MayAnnounce (m : Model) (printing : Printing) (last : Option ℤ) (announced : Option Announced) : Type 0 where
   pub on : is_some announced ≡ announces printing
   pub legal : (c : ℤ) → Has (costs_in announced) c → (steps : List ℕ) × Solution m steps c
   pub improving : Improving m.minimize last (costs_in announced)
+  pub few_refused : IfSome announced (λ a. IsWord a.refused)
 
 -- where the last cost had the best word before a pass for which memory sufficed, the last one after it has the best word after it
 abbrev pub TellsLast : Model → Printing → (last : Option ℤ) → (best_before best_after : ℕ) → PassEnd → Option Announced → Type 0

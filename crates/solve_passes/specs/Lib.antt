@@ -1,3 +1,4 @@
 pub mod Records
+pub mod Counted
 pub mod Ongoing
 pub mod Announcing

@@ -24,6 +24,7 @@ use Rattle.pass_ends.specs.declared.answers.PassEnd.{PassEnd}
 use Rattle.pass_ends.specs.declared.answers.PassEnd.TheVariants as ends
 use Rattle.pass_over.specs.Announcements.{last_or}
 use Rattle.solve_passes.specs.Records.{Announced, Pass, Ending, Ended, OutOfMemory, Record, NumberedFrom, Improving, Right, KeepsWord, TellsBest, announced_costs, claim_of, costs, last_solution, visits, bound_text, found_text, passes_text, ending_text, record_text, ending_status}
+use Rattle.solve_passes.specs.Counted.{CountsClosed, HasWords, IsCounted}
 use Rattle.solve_passes.specs.declared.progress.Counts.{Counts}
 use Rattle.solve_passes.specs.declared.progress.Printing.{Printing}
 use Rattle.solve_passes.specs.declared.progress.Printing.TheVariants.{All, VerdictAlone}
@@ -76,7 +77,7 @@ pub record AreAnnounced (m : Model) (printing : Printing) (held : Option Found) 
   pub improving : ImprovingCosts m.minimize None (announced_costs ps)
   pub last : announces printing ≡ true → last_or None (announced_costs ps) ≡ held_cost held
 
--- the sink took the text of the passes so far, each of which dropped a node
+-- the sink took the text of the passes so far, each of which was closed and dropped a node
 pub record History (m : Model) (options : Options) (gap : Bool) (printing : Printing) (before after : Option (List ℕ)) (held : Option Found) (count visited : ℕ) (bound : Option ℤ) : Type 0 where
   pub passes : List Pass
   pub told : Takes before after (passes_text printing m passes)
@@ -84,6 +85,7 @@ pub record History (m : Model) (options : Options) (gap : Bool) (printing : Prin
   pub dropping : AllByRecursion (λ (p : Pass). 0 < p.dropped) passes
   pub proved : IsBoundOf m options gap count (solutions_of passes) bound
   pub announced : AreAnnounced m printing held passes
+  pub counts : (k : ℕ) (p : Pass) → slice_get passes k ≡ Some p → CountsClosed m options p × HasWords p
 
 abbrev pub HistoryOf : Model → Options → (gap : Bool) → Printing → Option (List ℕ) → Option (List ℕ) → Progress → Type 0
 HistoryOf m options gap printing before after progress = History m options gap printing before after progress.held progress.passes progress.visited progress.bound
@@ -237,12 +239,13 @@ IsFollowed lines printing m before after old new tally halt found (Some status) 
 
 -- ---- the end
 
--- A record that is right was printed, whose passes announce exactly where costs are printed, and what it claims is answered; or a write failed, a front of it was printed, and nothing is
--- claimed.
+-- A record that is right was printed, whose passes announce exactly where costs are printed and count what their shards did, and what it
+-- claims is answered; or a write failed, a front of it was printed, and nothing is claimed.
 pub record Concluded (m : Model) (options : Options) (gap : Bool) (printing : Printing) (before after : Option (List ℕ)) (solved : Solved) : Type 0 where
   pub run : Record
   pub right : Right m options gap run
   pub announcing : (k : ℕ) (p : Pass) → slice_get run.passes k ≡ Some p → is_some p.announced ≡ announces printing
+  pub counted : IsCounted m options run
   pub word : KeepsWord m options run.bound run.ending
   pub printed : ((solved.status ≡ ending_status run.ending) × Takes before after (record_text printing m run) × (solved.claim ≡ claim_of run))
       ⊎ ((solved.status ≡ statuses.WriteFault) × TakesFront before after (record_text printing m run) × (solved.claim ≡ None))

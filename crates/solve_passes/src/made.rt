@@ -1,6 +1,6 @@
 //! A pass that was made.
 
-ghost use Rattle.std.specs.Prelude.{◌≡◌, Some, None, false};
+ghost use Rattle.std.specs.Prelude.{◌≡◌, ◌<◌, ◌^◌, Some, None, false};
 ghost use Rattle.solve_passes.specs.Ongoing as ongoing;
 
 use crate::progress::{Counts, Printing};
@@ -29,7 +29,8 @@ pub(crate) fn announces(printing: Printing) -> bool
 
 /// A pass that announced costs.
 pub(crate) fn made_by(ended: AnnouncedEnd) -> Made
-    ensures { result ≡ record { end = ended.end; counts = Some (record { announced = ended.announced; refused = ended.refused }); failed = ended.failed } }
+    ensures made { result ≡ record { end = ended.end; counts = Some (record { announced = ended.announced; refused = ended.refused }); failed = ended.failed } }
+    ensures words { ended.refused < 2 ^ 64 }
 {
     let AnnouncedEnd {
         end,

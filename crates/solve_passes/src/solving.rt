@@ -126,6 +126,7 @@ fn floor_for(gap: bool, least_floor: Option<i64>) -> Option<i64>
 fn parts_of(end: PassEnd, gap: bool) -> (Tally, Option<Cause>)
     ensures tally { result.0 ≡ tally_in gap end }
     ensures halt { result.1 ≡ halt_in end }
+    ensures few { result.0.dropped < 2 ^ 64 }
 {
     match end {
         PassEnd::Closed {

@@ -9,14 +9,14 @@ use Rattle.solve_passes.specs.declared.made.Made.{Made}
 
 pub returns-then-announces-clause-answer : goal.returns-then-announces-clause-answer
 returns-then-announces-clause-answer g c = λ some.
-    subst (λ (m : Made). IsPassEnd (pass_of c.args.model.now c.args.options.now c.args.share some) c.args.seat.now.view c.run_pass_alone_announced-ended.new.seat.view m.end) (sym c.made_by.ensures) (c.run_pass_alone_announced-ended.ensures.answer some)
+    subst (λ (m : Made). IsPassEnd (pass_of c.args.model.now c.args.options.now c.args.share some) c.args.seat.now.view c.run_pass_alone_announced-ended.new.seat.view m.end) (sym c.made_by.ensures.made) (c.run_pass_alone_announced-ended.ensures.answer some)
 
 pub returns-then-announces-clause-announced : goal.returns-then-announces-clause-announced
 returns-then-announces-clause-announced g c =
     let ended = c.run_pass_alone_announced-ended in
-    subst (IsMade c.args.model.now c.args.printing c.args.last (best_known c.args.seat.now.view) (best_known ended.new.seat.view) (g.S.Sink.taken c.args.out.now) (g.S.Sink.taken ended.new.out) (g.S.Sink.faults c.args.out.now) (g.S.Sink.faults ended.new.out)) (sym c.made_by.ensures)
+    subst (IsMade c.args.model.now c.args.printing c.args.last (best_known c.args.seat.now.view) (best_known ended.new.seat.view) (g.S.Sink.taken c.args.out.now) (g.S.Sink.taken ended.new.out) (g.S.Sink.faults c.args.out.now) (g.S.Sink.faults ended.new.out)) (sym c.made_by.ensures.made)
     (made_aloud c.args.model.now c.args.printing c.args.last (best_known c.args.seat.now.view) (best_known ended.new.seat.view) (g.S.Sink.taken c.args.out.now) (g.S.Sink.taken ended.new.out) (g.S.Sink.faults c.args.out.now) (g.S.Sink.faults ended.new.out) ended.result
-    (sym c.announces.ensures ∙ c.if-announces.true) ended.ensures.announced ended.ensures.last)
+    (sym c.announces.ensures ∙ c.if-announces.true) c.made_by.ensures.words ended.ensures.announced ended.ensures.last)
 
 pub returns-clause-answer : goal.returns-clause-answer
 returns-clause-answer g c = λ some.

@@ -78,7 +78,7 @@ returns-clause-goes_on g c = λ options board was now text faults n.
     let wrote = is.written c.if-failed.false in
     let may = is.may in
     let follows = led_on c.args.model.now options c.args.gap board c.args.progress.now was now n.options_fit.some_workers n.inner n.ongoing n.on_board n.whole is.announced
-    c.args.printing c.args.made.counts text (g.S.Sink.taken c.args.out.now) (g.S.Sink.taken c.after_pass.new.out) c.after_pass.new.progress c.parts_of-tally.result.0 c.parts_of-tally.result.1 c.after_pass.result may wrote.1 wrote.0 c.after_pass.ensures.followed in
+    c.args.printing c.args.made.counts text (g.S.Sink.taken c.args.out.now) (g.S.Sink.taken c.after_pass.new.out) c.after_pass.new.progress c.parts_of-tally.result.0 c.parts_of-tally.result.1 c.after_pass.result may wrote.1 wrote.0 c.after_pass.ensures.followed c.parts_of-tally.ensures.few in
     goes_on c.args.model.now options c.args.gap board c.args.progress.now was now n.options_fit.some_workers n.inner n.ongoing n.on_board
     n.whole is.announced c.args.printing text (g.S.Sink.taken c.after_pass.new.out) c.after_pass.new.progress c.args.made.end c.parts_of-tally.result.0 c.parts_of-tally.result.1 c.after_pass.result
     (n.answer n.options_fit.some_workers) c.parts_of-tally.ensures.tally c.parts_of-tally.ensures.halt follows
@@ -90,7 +90,7 @@ returns-clause-history g c = λ options board was now text faults n.
     let may = is.may in
     let last = is.last_word c.if-failed.false in
     let follows = led_on c.args.model.now options c.args.gap board c.args.progress.now was now n.options_fit.some_workers n.inner n.ongoing n.on_board n.whole is.announced
-    c.args.printing c.args.made.counts text (g.S.Sink.taken c.args.out.now) (g.S.Sink.taken c.after_pass.new.out) c.after_pass.new.progress c.parts_of-tally.result.0 c.parts_of-tally.result.1 c.after_pass.result may wrote.1 wrote.0 c.after_pass.ensures.followed in
+    c.args.printing c.args.made.counts text (g.S.Sink.taken c.args.out.now) (g.S.Sink.taken c.after_pass.new.out) c.after_pass.new.progress c.parts_of-tally.result.0 c.parts_of-tally.result.1 c.after_pass.result may wrote.1 wrote.0 c.after_pass.ensures.followed c.parts_of-tally.ensures.few in
     history c.args.model.now options c.args.gap board c.args.progress.now was now n.options_fit.some_workers n.inner n.ongoing n.on_board
     n.whole is.announced c.args.printing text (g.S.Sink.taken c.after_pass.new.out) c.after_pass.new.progress c.args.made.end c.parts_of-tally.result.0 c.parts_of-tally.result.1 c.after_pass.result
     (n.answer n.options_fit.some_workers) (may, last) c.parts_of-tally.ensures.tally c.parts_of-tally.ensures.halt follows
@@ -102,7 +102,7 @@ returns-clause-ends g c = λ options board was now text faults n.
     let may = is.may in
     let last = is.last_word c.if-failed.false in
     let follows = led_on c.args.model.now options c.args.gap board c.args.progress.now was now n.options_fit.some_workers n.inner n.ongoing n.on_board n.whole is.announced
-    c.args.printing c.args.made.counts text (g.S.Sink.taken c.args.out.now) (g.S.Sink.taken c.after_pass.new.out) c.after_pass.new.progress c.parts_of-tally.result.0 c.parts_of-tally.result.1 c.after_pass.result may wrote.1 wrote.0 c.after_pass.ensures.followed in
+    c.args.printing c.args.made.counts text (g.S.Sink.taken c.args.out.now) (g.S.Sink.taken c.after_pass.new.out) c.after_pass.new.progress c.parts_of-tally.result.0 c.parts_of-tally.result.1 c.after_pass.result may wrote.1 wrote.0 c.after_pass.ensures.followed c.parts_of-tally.ensures.few in
     concludes c.args.model.now options c.args.gap board c.args.progress.now was now n.options_fit.some_workers n.inner n.ongoing n.on_board
     n.whole is.announced c.args.printing text (g.S.Sink.taken c.after_pass.new.out) c.after_pass.new.progress c.args.made.end c.parts_of-tally.result.0 c.parts_of-tally.result.1 c.after_pass.result
     (n.answer n.options_fit.some_workers) (may, last) c.parts_of-tally.ensures.tally c.parts_of-tally.ensures.halt follows
