@@ -27,6 +27,7 @@ module _ (m : Model) (options : Options) where
       legal = is.legal;
       ending = ((found, refl, refl), λ none inner. base_not_inner m m.target found.cost is.base inner);
     },
+    λ closes. tt,
     λ trusted steps other s better. is.none_better steps other s better,
   )
 
@@ -39,6 +40,7 @@ module _ (m : Model) (options : Options) where
   infeasible : IsForbiddenTarget m → IsRight m options (bare None verdicts.Infeasible)
   infeasible is = (
     record { within_budget = tt; reached = tt; legal = tt; ending = (refl, λ none inner. forbidden_not_inner m m.target is.forbidden inner) },
+    λ closes. tt,
     λ trusted steps cost s. is.none_legal steps cost s,
   )
 
@@ -47,14 +49,14 @@ module _ (m : Model) (options : Options) where
 
   -- the target meets a fault
   faulty : (fault : FaultAt) → Meets m options.prune fault.steps fault.spot fault.kind → IsRight m options (bare None (verdicts.Fault fault))
-  faulty fault meets = (record { within_budget = tt; reached = tt; legal = tt; ending = (meets, λ none needs. needs) }, tt)
+  faulty fault meets = (record { within_budget = tt; reached = tt; legal = tt; ending = (meets, λ none needs. needs) }, λ closes. tt, tt)
 
   pub fault_target : (run : Run) (fault : FaultAt) → Meets m options.prune fault.steps fault.spot fault.kind → run ≡ bare None (verdicts.Fault fault) → IsRight m options run
   fault_target run fault meets known = subst (IsRight m options) (sym known) (faulty fault meets)
 
   -- memory ran out before a search was made
   nothing : IsRight m options (record { found = None; visited = None; ending = endings.OutOfMemory })
-  nothing = (record { within_budget = tt; reached = tt; legal = tt; ending = tt }, tt)
+  nothing = (record { within_budget = tt; reached = tt; legal = tt; ending = tt }, λ closes. tt, tt)
 
   pub no_memory : (run : Run) → run ≡ record { found = None; visited = None; ending = endings.OutOfMemory } → IsRight m options run
   no_memory run known = subst (IsRight m options) (sym known) nothing

@@ -86,7 +86,10 @@ module _ (m : Model) (options : Options) (some : 1 ≤ options.workers) (inner :
       }
 
   closed : (visited : ℕ) (best : Option Found) → IsBestEnd b before after (ends.Closed visited best) → IsRight m options (run_after (ends.Closed visited best))
-  closed visited best h = concluded_law.closed m options b (best_known after) visited best (refl, refl) inner (within visited h.0) (has_closed visited best h.1 h.2)
+  closed visited best h =
+      let ledger = has_closed visited best h.1 h.2 in
+      let law = concluded_law.closed m options b (best_known after) visited best (refl, refl) inner (within visited h.0) ledger in
+      (law.0, λ closes. (some, best_known after, ledger), law.1)
 
   -- ---- it was halted
 
@@ -102,13 +105,13 @@ module _ (m : Model) (options : Options) (some : 1 ≤ options.workers) (inner :
       let over = h.2.cause_is.1 in
       let whole = spent visited h.0 over in
       let right = concluded_law.stopped m options best h.1 (subst (IsAtMostPriced m) whole (reached visited h.0)) (one_more visited h.0 over) in
-      (subst (λ (n : ℕ). RightBest m options (laws.run_of best n (verdicts.Stopped n))) (sym whole) right, tt)
+      (subst (λ (n : ℕ). RightBest m options (laws.run_of best n (verdicts.Stopped n))) (sym whole) right, λ closes. absurd closes, tt)
 
   faulted : (visited : ℕ) (best : Option Found) (fault : FaultAt) → IsBestEnd b before after (ends.Halted (causes.Fault fault) visited best) → IsRight m options (run_after (ends.Halted (causes.Fault fault) visited best))
-  faulted visited best fault h = (concluded_law.fault m options best visited fault h.1 (within visited h.0) (reached visited h.0) h.2.cause_is.1, tt)
+  faulted visited best fault h = (concluded_law.fault m options best visited fault h.1 (within visited h.0) (reached visited h.0) h.2.cause_is.1, λ closes. absurd closes, tt)
 
   ran_out : (visited : ℕ) (best : Option Found) → IsBestEnd b before after (ends.Halted causes.Memory visited best) → IsRight m options (run_after (ends.Halted causes.Memory visited best))
-  ran_out visited best h = (record { within_budget = within visited h.0; reached = reached visited h.0; legal = h.1; ending = tt }, tt)
+  ran_out visited best h = (record { within_budget = within visited h.0; reached = reached visited h.0; legal = h.1; ending = tt }, λ closes. absurd closes, tt)
 
   -- ---- what the search ends is right
 

@@ -9,6 +9,7 @@ use Rattle.dp_model.specs.declared.answers.Cause.TheVariants as causes
 use Rattle.dp_model.specs.declared.answers.Options.{Options}
 use Rattle.dp_model.specs.declared.answers.Verdict.TheVariants as verdicts
 use Rattle.dp_model.specs.declared.whole.Model.{Model}
+use Rattle.solve_best.specs.Counted.{IsCounted}
 use Rattle.solve_best.specs.declared.runs.Ending.{Ending}
 use Rattle.solve_best.specs.declared.runs.Ending.TheVariants as endings
 use Rattle.solve_best.specs.declared.runs.Run.{Run}
@@ -20,9 +21,9 @@ ending_of endings.OutOfMemory = OutOfMemory
 abbrev pub run_of : Run → BestRun
 run_of run = record { found = run.found; visited = run.visited; ending = ending_of run.ending }
 
--- right for the model and the options, and its word is kept
+-- right for the model and the options, its visits are those of a ledger, and its word is kept
 abbrev pub IsRight : Model → Options → Run → Type 0
-IsRight m options run = RightBest m options (run_of run) × KeepsWordBest m options (ending_of run.ending)
+IsRight m options run = RightBest m options (run_of run) × IsCounted m options (run_of run) × KeepsWordBest m options (ending_of run.ending)
 
 -- how a run ends whose search was halted after so many visits
 abbrev pub ending_after : Cause → (visited : ℕ) → Ending

@@ -12,6 +12,7 @@ use Rattle.run_ends.specs.Statuses.{verdict_status}
 use Rattle.run_ends.specs.declared.solved.Solved.{Solved}
 use Rattle.run_ends.specs.declared.status.Status.{Status}
 use Rattle.run_ends.specs.declared.status.Status.TheVariants as statuses
+use Rattle.solve_best.specs.Counted.{IsCounted}
 use Rattle.solve_report.specs.Lines.{searched_line, solution_text, verdict_text}
 
 -- ---- its text
@@ -58,5 +59,6 @@ IsPrinted m run before after solved =
 pub record Concluded (m : Model) (options : Options) (before after : Option (List ℕ)) (solved : Solved) : Type 0 where
   pub run : BestRun
   pub right : RightBest m options run
+  pub counted : IsCounted m options run
   pub word : KeepsWordBest m options run.ending
   pub printed : IsPrinted m run before after solved

@@ -1,0 +1,5 @@
+use Rattle.solve_best.proofs.solving.solve_best.Goals as goal
+use Rattle.solve_best.specs.Runs.{run_of}
+
+pub returns-clause-concluded : goal.returns-clause-concluded
+returns-clause-concluded g c = record { run = run_of c.run_of-run.result; right = c.run_of-run.ensures.0; counted = c.run_of-run.ensures.1; word = c.run_of-run.ensures.2; printed = c.put_run.ensures.printed }
