@@ -218,7 +218,7 @@ module _ (m : Model) (options : Options) (gap announce : Bool) (first second : O
 
   -- the record was printed, and this behind it
   pub solves : (certificate : Bool) (third : Option (List ℕ)) (status : Status) → Follows certificate m options first third (record_text (All announce) m c.run) (claim_of c.run) (ending_status c.run.ending) status → Solves m options gap announce certificate first third status
-  solves certificate third status follows = record { run = c.run; right = c.right; announcing = c.announcing; word = c.word; follows = follows }
+  solves certificate third status follows = record { run = c.run; right = c.right; announcing = c.announcing; counted = c.counted; word = c.word; follows = follows }
 
 -- ---- a search of the best node first
 
@@ -256,7 +256,7 @@ module _ (m : Model) (options : Options) (first second : Option (List ℕ)) (sol
   best_unclaimed is = elim c.printed [ inl h ↦ absurd (no_best_write_fault c.run.ending (sym h.0 ∙ is)) | inr h ↦ h.2 ]
 
   pub solves_best : (certificate : Bool) (third : Option (List ℕ)) (status : Status) → Follows certificate m (keeping_all options) first third (bests.run_text m c.run) (bests.claim_of c.run) (bests.ending_status c.run.ending) status → SolvesBest m options certificate first third status
-  solves_best certificate third status follows = record { run = c.run; right = c.right; word = c.word; follows = follows }
+  solves_best certificate third status follows = record { run = c.run; right = c.right; counted = c.counted; word = c.word; follows = follows }
 
   not_read_fault : (e : BestEnding) → bests.ending_status e ≡ statuses.ReadFault → ⊥
   not_read_fault (best.Ended (verdicts.Optimal cost)) h = absurd cc

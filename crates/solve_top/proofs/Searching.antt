@@ -22,7 +22,8 @@ use Rattle.kept_model.specs.declared.parts.Part.{Part}
 use Rattle.run_ends.specs.declared.status.Status.{Status}
 use Rattle.run_ends.specs.declared.status.Status.TheVariants as statuses
 use Rattle.solve_best.specs.Texts.{run_text}
-use Rattle.solve_passes.specs.Records.{record_text}
+use Rattle.solve_passes.proofs.Counted.{none_counted}
+use Rattle.solve_passes.specs.Records.{OutOfMemory, record_text}
 use Rattle.solve_passes.specs.declared.progress.Printing.TheVariants.{All}
 use Rattle.solve_top.specs.Behind.{Nothing, IsAnnounced, Solves, SolvesBest, SolvesBy, behind_text}
 use Rattle.solve_top.specs.Jobs.{keeping_all}
@@ -68,6 +69,7 @@ module _ (m : Model) (search : Search) (s : Searched) (serves : ServesFor m sear
         is_searched = serves.1;
         right = solves.right;
         announcing = solves.announcing;
+        counted = solves.counted;
         word = searched_law.word m search.proved serves.0 s.model search.options search.gap solves.run serves.1 solves.right solves.word;
         stands = solves.follows.1;
       } in
@@ -88,6 +90,7 @@ module _ (m : Model) (search : Search) (s : Searched) (serves : ServesFor m sear
         engine = engine;
         is_searched = serves.1;
         right = solves.right;
+        counted = solves.counted;
         word = searched_law.word_best m search.proved serves.0 s.model search.options solves.run serves.1 solves.right solves.word;
         stands = solves.follows.1;
       } in
@@ -126,6 +129,7 @@ module _ (m : Model) (search : Search) (s : Searched) (serves : ServesFor m sear
               is_searched = serves.1;
               right = right_no_run s.model search.options search.gap;
               announcing = none_announced search.announce;
+              counted = none_counted s.model search.options None OutOfMemory;
               word = word_of_none m serves.0 search.options;
               stands = none_may s.model search.options search.certificate None refl;
             },
@@ -141,6 +145,7 @@ module _ (m : Model) (search : Search) (s : Searched) (serves : ServesFor m sear
               engine = is;
               is_searched = serves.1;
               right = right_no_best_run s.model search.options;
+              counted = λ closes. tt;
               word = word_of_no_best m serves.0 search.options;
               stands = none_may s.model (keeping_all search.options) search.certificate None refl;
             },

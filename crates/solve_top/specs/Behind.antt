@@ -23,8 +23,10 @@ use Rattle.solve_report.specs.Lines.{written_text}
 use Rattle.best_ledger.specs.Right.{BestRun, KeepsWordBest, RightBest}
 use Rattle.command_line.specs.declared.jobs.Engine.{Engine}
 use Rattle.command_line.specs.declared.jobs.Engine.TheVariants as engines
+use Rattle.solve_best.specs.Counted as bests
 use Rattle.solve_best.specs.Texts.{run_text}
 use Rattle.solve_best.specs.Texts as best
+use Rattle.solve_passes.specs.Counted.{IsCounted}
 use Rattle.solve_passes.specs.Records.{Pass, Record, Right, KeepsWord, claim_of, ending_status, record_text}
 use Rattle.solve_passes.specs.declared.progress.Printing.TheVariants.{All}
 use Rattle.solve_top.specs.Jobs.{keeping_all}
@@ -104,19 +106,22 @@ WritesBehind m options claim status before after result = (behind : Behind) × R
 abbrev pub IsAnnounced : (announce : Bool) → Record → Type 0
 IsAnnounced announce run = (k : ℕ) (p : Pass) → slice_get run.passes k ≡ Some p → is_some p.announced ≡ announce
 
--- A right record of passes that keeps its word was printed, and behind it what may stand there; or a write failed, after a front of
--- both.
+-- A right record of passes that keeps its word, and counts what their shards did, was printed, and behind it what may stand there; or a
+-- write failed, after a front of both.
 pub record Solves (m : Model) (options : Options) (gap announce certificate : Bool) (before after : Option (List ℕ)) (status : Status) : Type 0 where
   pub run : Record
   pub right : Right m options gap run
   pub announcing : IsAnnounced announce run
+  pub counted : IsCounted m options run
   pub word : KeepsWord m options run.bound run.ending
   pub follows : Follows certificate m options before after (record_text (All announce) m run) (claim_of run) (ending_status run.ending) status
 
--- The same of a search of the best node first. Its certificate is written as if nodes kept in earlier layers covered.
+-- The same of a search of the best node first, whose visits are those of a ledger. Its certificate is written as if nodes kept in
+-- earlier layers covered.
 pub record SolvesBest (m : Model) (options : Options) (certificate : Bool) (before after : Option (List ℕ)) (status : Status) : Type 0 where
   pub run : BestRun
   pub right : RightBest m options run
+  pub counted : bests.IsCounted m options run
   pub word : KeepsWordBest m options run.ending
   pub follows : Follows certificate m (keeping_all options) before after (run_text m run) (best.claim_of run) (best.ending_status run.ending) status
 

@@ -4,6 +4,7 @@ use Rattle.dp_outside.specs.Outside.{Takes, TakesFront}
 use Rattle.dp_model.specs.declared.answers.Options.{Options}
 use Rattle.dp_model.specs.declared.whole.Model.{Model}
 use Rattle.run_ends.specs.Statuses.{verdict_status}
+use Rattle.solve_passes.specs.Counted.{IsCounted}
 use Rattle.solve_passes.specs.Records.{Record, Right, KeepsWord, claim_of, record_text, ending_status}
 use Rattle.kept_claims.specs.Searched.{IsSearched, WordOf, WordOfBest}
 use Rattle.kept_model.specs.declared.kept.Kept.{Kept}
@@ -19,6 +20,7 @@ use Rattle.dp_model.specs.declared.answers.Verdict.{Verdict}
 use Rattle.dp_model.specs.declared.answers.Verdict.TheVariants as verdicts
 use Rattle.dypdl_nodes.specs.Reads.{Refusal}
 use Rattle.best_ledger.specs.Right.{BestRun, RightBest}
+use Rattle.solve_best.specs.Counted as bests
 use Rattle.solve_best.specs.Texts.{run_text}
 use Rattle.solve_best.specs.Texts as best
 use Rattle.command_line.specs.declared.jobs.Engine.TheVariants as engines
@@ -158,20 +160,22 @@ IsRefusedOf kind size seed None = Unit {0}
 IsRefusedOf kind size seed (Some r) = IsRefused (domain_text kind) (problem_text kind size seed) r
 
 -- A search layer by layer of a model, or of what is proved of it, with what stands behind its verdict: its record is right for what
--- was searched, and says so much of all legal lists of the model.
+-- was searched, counts what the shards did, and says so much of all legal lists of the model.
 pub record IsSearch (m : Model) (proved : Option Kept) (searched : Model) (search : Search) (run : Record) (behind : Behind) : Type 0 where
   pub engine : search.engine ≡ engines.Beam
   pub is_searched : IsSearched m search.proved proved searched
   pub right : Right searched search.options search.gap run
   pub announcing : IsAnnounced search.announce run
+  pub counted : IsCounted searched search.options run
   pub word : WordOf m proved search.options run
   pub stands : IsBehind search.certificate searched search.options (claim_of run) behind
 
--- the same with the best node first
+-- the same with the best node first, whose visits are those of a ledger
 pub record IsBestSearch (m : Model) (proved : Option Kept) (searched : Model) (search : Search) (run : BestRun) (behind : Behind) : Type 0 where
   pub engine : search.engine ≡ engines.Best
   pub is_searched : IsSearched m search.proved proved searched
   pub right : RightBest searched search.options run
+  pub counted : bests.IsCounted searched search.options run
   pub word : WordOfBest m proved search.options run
   pub stands : IsBehind search.certificate searched (keeping_all search.options) (best.claim_of run) behind
 
