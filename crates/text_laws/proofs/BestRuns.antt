@@ -1,5 +1,5 @@
 -- A run of the best node first is read back from its text, which tells the run.
-use Rattle.std.proofs.Common.{◌≡◌, ℕ, Bool, true, List, [], ◌∷◌, ◌++◌, codes, decimal, length, Option, Some, None, refl, sym, ap, ◌∙◌, subst, append_assoc}
+use Rattle.std.proofs.Common.{◌≡◌, ℕ, ◌^◌, ◌<◌, ◌≤◌, arith, Bool, true, List, [], ◌∷◌, ◌++◌, codes, decimal, length, Option, Some, None, refl, sym, ap, ◌∙◌, subst, append_assoc}
 use Rattle.std.specs.Prelude.{IfSome}
 use Rattle.std.specs.Fmt.{signed_decimal}
 use Rattle.std.specs.List.{AllByRecursion}
@@ -8,6 +8,7 @@ use Rattle.std.specs.Str.Lines.{lines}
 use Rattle.std.proofs.lemmas.List.{append-nil}
 use Rattle.best_ledger.specs.Right.{BestEnding, BestRun, Ended, OutOfMemory, RightBest, RightEnding}
 use Rattle.dp_base.specs.Bytes.{line}
+use Rattle.dp_model.specs.Costs.{InRange}
 use Rattle.dp_model.specs.declared.answers.FaultAt.{FaultAt}
 use Rattle.dp_model.specs.declared.answers.Found.{Found}
 use Rattle.dp_model.specs.declared.answers.Options.{Options}
@@ -18,14 +19,15 @@ use Rattle.solve_report.specs.Lines.{spot_text, step_lines}
 use Rattle.cert_text.specs.ReadBack.{HasStepTexts, is_line}
 use Rattle.cert_text.proofs.ReadBack.{lines_back}
 use Rattle.solve_best.specs.Texts.{ending_text, found_text, run_text, searched_text}
-use Rattle.text_laws.specs.BestRuns.{EndAlike, LawReadRun, LawRunsToldApart, ending_entries, entries_of, searched_entries}
-use Rattle.text_laws.specs.Entries.{Entry, Head, FaultLine, InfeasibleLine, MemoryLine, OptimalLine, StoppedLine, entries_in}
+use Rattle.text_laws.specs.BestRuns.{EndAlike, IsRunOf, LawReadRun, LawRunsToldApart, ending_entries, entries_of, searched_entries}
+use Rattle.text_laws.specs.Entries.{Entry, Head, FaultLine, HasWords, InfeasibleLine, MemoryLine, OptimalLine, StoppedLine, entries_in}
 use Rattle.text_laws.specs.Records.{HasLineNames, found_entries}
-use Rattle.text_laws.proofs.Fitting.{all_both, meets_steps, spot_line, target_fits}
+use Rattle.text_laws.proofs.Fitting.{all_both, all_parts, meets_steps, spot_line, target_fits}
 use Rattle.text_laws.proofs.Heads.{head_line}
 use Rattle.text_laws.proofs.Reading.{Fits, all_are_lines, all_lines, entries_back}
 use Rattle.text_laws.proofs.Telling.{FaultTold, Told, fault_in, one_told, not_told, told_by, told_fault, told_of}
 use Rattle.text_laws.proofs.Texts.{entry_more, fault_is, found_more, text_of_entries}
+use Rattle.text_laws.proofs.Words.{AreShort, HaveWords, all_short, cost_word, found_words, lines_long}
 
 -- ---- its text
 
@@ -101,13 +103,48 @@ met_line m options r has names right f is =
     let ends : RightEnding m options r (Ended (verdicts.Fault f)) = subst (RightEnding m options r) is right.ending in
     spot_line m ends.0.1 ends.0.0 f.spot f.kind has names ends.0.3.1
 
+-- ---- its numbers have 64 bits
+
+run_words : (m : Model) (r : BestRun) → IsRunOf m r → HaveWords (entries_of m r)
+run_words m r is =
+    let es = entries_of m r in
+    let most = length (all_lines m es) in
+    let rest = searched_entries r.visited ++ ending_entries m r.ending in
+    let text : length (run_text m r) ≡ length (text_of_entries m es) = ap length (run_is m is.options r is.right) in
+    let small : most < 2 ^ 64 = omega (arith, lines_long (all_lines m es), is.short, text) in
+    let short : AreShort most es = all_short m most es (omega arith) in
+    let first = all_parts (λ (e : Entry). length e.steps ≤ most) (found_entries r.found) rest short in
+    let second = all_parts (λ (e : Entry). length e.steps ≤ most) (searched_entries r.visited) (ending_entries m r.ending) first.1 in
+    all_both (λ (e : Entry). HasWords e.head) (found_entries r.found) rest (found_words m most small r.found (found_legal m r.found is.right.legal) first.0)
+    (all_both (λ (e : Entry). HasWords e.head) (searched_entries r.visited) (ending_entries m r.ending) (searched_words r.visited is.right.within_budget)
+    (ending_words most small is.right.legal r.ending is.right.ending second.1))
+  where
+    searched_words : (o : Option ℕ) → IfSome o (λ v. v ≤ is.options.budget) → HaveWords (searched_entries o)
+    searched_words None within = tt
+    searched_words (Some v) within = (omega (arith, within, is.fit.small_budget), tt)
+
+    found_cost : (o : Option Found) (s : Found) → IfSome o (λ f. Solution m f.steps f.cost) → o ≡ Some s → InRange s.cost
+    found_cost None s legal e = let clash : None ≡ Some s = e in absurd (cc)
+    found_cost (Some f) s legal e = let same : Some f ≡ Some s = e in let one : f ≡ s = cc in subst (λ (x : Found). InRange x.cost) one legal.in_range
+
+    ending_words : (most : ℕ) → most < 2 ^ 64 → IfSome r.found (λ f. Solution m f.steps f.cost) → (e : BestEnding) → RightEnding m is.options r e → AreShort most (ending_entries m e) → HaveWords (ending_entries m e)
+    ending_words most small legal (Ended (verdicts.Optimal cost)) h short = (cost_word cost (subst InRange h.0.2 (found_cost r.found h.0.0 legal h.0.1)), tt)
+    ending_words most small legal (Ended verdicts.Infeasible) h short = (tt, tt)
+    ending_words most small legal (Ended (verdicts.Stopped visits)) h short = (omega (arith, h.0.0, is.fit.small_budget), tt)
+    ending_words most small legal (Ended (verdicts.Fault f)) h short = (omega (arith, small, short.0), tt)
+    ending_words most small legal (Ended (verdicts.Legal cost)) h short = tt
+    ending_words most small legal (Ended (verdicts.Illegal done reason)) h short = tt
+    ending_words most small legal OutOfMemory h short = (tt, tt)
+
 pub read_run : LawReadRun
-read_run m has names options r right words =
+read_run m has names r is =
+    let options = is.options in
+    let right = is.right in
     let fit = run_fits is_line m options r (met_line m options r has names right) right in
     let es = entries_of m r in
     ap (λ (text : List ℕ). entries_in m (lines text)) (run_is m options r right)
     ∙ ap (entries_in m) (lines_back (all_lines m es) (all_are_lines m es has fit))
-    ∙ entries_back is_line m es has words fit
+    ∙ entries_back is_line m es has (run_words m r is) fit
 
 -- ---- what they tell
 
@@ -172,13 +209,13 @@ end_alike m (Ended (verdicts.Illegal done reason)) f ends h = absurd ends
 end_alike m OutOfMemory f ends h = ending_back m OutOfMemory f (sym (ap ending_of h))
 
 pub runs_told_apart : LawRunsToldApart
-runs_told_apart m has names options options' a b right right' words words' same =
+runs_told_apart m has names a b is is' same =
     let one : entries_of m a ≡ entries_of m b = one_told (entries_of m a) (entries_of m b)
-    (sym (read_run m has names options a right words) ∙ ap (λ (text : List ℕ). entries_in m (lines text)) same ∙ read_run m has names options' b right' words') in
+    (sym (read_run m has names a is) ∙ ap (λ (text : List ℕ). entries_in m (lines text)) same ∙ read_run m has names b is') in
     let told : record (told_of a.found [] None (ending_entries m a.ending)) { visited = a.visited } ≡ record (told_of b.found [] None (ending_entries m b.ending)) { visited = b.visited } =
     sym (run_told m a.found a.visited a.ending) ∙ ap (λ (es : List Entry). told_by es (told_of None [] None [])) one ∙ run_told m b.found b.visited b.ending in
     record {
       found = ap (λ (t : Told). t.found) told;
       visited = ap (λ (t : Told). t.visited) told;
-      ending = end_alike m a.ending b.ending (ends_search m options a a.ending right.ending) (ap (λ (t : Told). t.ending) told);
+      ending = end_alike m a.ending b.ending (ends_search m is.options a a.ending is.right.ending) (ap (λ (t : Told). t.ending) told);
     }

@@ -4,9 +4,11 @@ pub mod Heads
 pub mod Reading
 pub mod Texts
 pub mod Fitting
+pub mod Words
 pub mod Telling
 pub mod Again
 pub mod Certificates
 pub mod BestRuns
 pub mod LineNames
 pub mod CertifiedBack
+pub mod RecordsOf

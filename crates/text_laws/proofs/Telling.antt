@@ -19,20 +19,21 @@ use Rattle.cert_text.proofs.ReadBack.{lines_back}
 use Rattle.solve_passes.specs.Records.{Announced, Ended, Ending, IsBaseTarget, OutOfMemory, Pass, Record, Right, record_text}
 use Rattle.solve_passes.specs.declared.progress.Printing.TheVariants.{All}
 use Rattle.text_laws.specs.Entries.{Entry, Head, AnnounceLine, SolutionLine, AnnouncedLine, PassLine, SearchLine, BoundLine, OptimalLine, InfeasibleLine, StoppedLine, FaultLine, MemoryLine, entries_in}
-use Rattle.text_laws.specs.Records.{AreAlike, EndAlike, EndsInFault, HasLineNames, HaveWords, LawReadRecord, LawToldApart, alone, bound_entries, ending_entries, entries_of, found_entries, pass_entries}
+use Rattle.text_laws.specs.Records.{AreAlike, EndAlike, EndsInFault, HasLineNames, IsRecordOf, LawReadRecord, LawToldApart, alone, bound_entries, ending_entries, entries_of, found_entries, pass_entries}
 use Rattle.text_laws.proofs.Fitting.{all_fit, ends_search, met_line}
 use Rattle.text_laws.proofs.Reading.{all_are_lines, all_lines, entries_back}
 use Rattle.text_laws.proofs.Texts.{EndsSearch, record_is}
+use Rattle.text_laws.proofs.Words.{record_words}
 
 -- ---- a record is read back
 
 pub read_record : LawReadRecord
-read_record m has names options gap announce r right words =
-    let fit = all_fit is_line m options gap r (met_line m options gap r has names right) right in
+read_record m has names announce r is =
+    let fit = all_fit is_line m is.options is.gap r (met_line m is.options is.gap r has names is.right) is.right in
     let es = entries_of m r in
-    ap (λ (text : List ℕ). entries_in m (lines text)) (record_is m announce r (ends_search m options gap r r.ending right.ending))
+    ap (λ (text : List ℕ). entries_in m (lines text)) (record_is m announce r (ends_search m is.options is.gap r r.ending is.right.ending))
     ∙ ap (entries_in m) (lines_back (all_lines m es) (all_are_lines m es has fit))
-    ∙ entries_back is_line m es has words fit
+    ∙ entries_back is_line m es has (record_words m announce r is) fit
 
 -- ---- what entries tell of a record
 
@@ -208,18 +209,17 @@ end_same m OutOfMemory f ends none h = h
 
 -- ---- records with one text
 
-alike : (m : Model) → HasStepTexts m → HasLineNames m → (options options' : Options) (gap gap' announce announce' : Bool) (a b : Record) → Right m options gap a → Right m options' gap' b
-    → HaveWords (entries_of m a) → HaveWords (entries_of m b) → record_text (All announce) m a ≡ record_text (All announce') m b → AreAlike m a b
-alike m has names options options' gap gap' announce announce' a b right right' words words' same =
+alike : (m : Model) → HasStepTexts m → HasLineNames m → (announce announce' : Bool) (a b : Record) → IsRecordOf m announce a → IsRecordOf m announce' b → record_text (All announce) m a ≡ record_text (All announce') m b → AreAlike m a b
+alike m has names announce announce' a b is is' same =
     let one : entries_of m a ≡ entries_of m b = one_told (entries_of m a) (entries_of m b)
-    (sym (read_record m has names options gap announce a right words) ∙ ap (λ (text : List ℕ). entries_in m (lines text)) same ∙ read_record m has names options' gap' announce' b right' words') in
+    (sym (read_record m has names announce a is) ∙ ap (λ (text : List ℕ). entries_in m (lines text)) same ∙ read_record m has names announce' b is') in
     let told : told_of a.at_target a.passes a.bound (ending_entries m a.ending) ≡ told_of b.at_target b.passes b.bound (ending_entries m b.ending) =
-    sym (entries_told m options gap a right) ∙ ap (λ (es : List Entry). told_by es (told_of None [] None [])) one ∙ entries_told m options' gap' b right' in
+    sym (entries_told m is.options is.gap a is.right) ∙ ap (λ (es : List Entry). told_by es (told_of None [] None [])) one ∙ entries_told m is'.options is'.gap b is'.right in
     record {
       at_target = ap (λ (t : Told). t.found) told;
       passes = ap (λ (t : Told). t.passes) told;
       bound = ap (λ (t : Told). t.bound) told;
-      ending = end_alike m a.ending b.ending (ends_search m options gap a a.ending right.ending) (ap (λ (t : Told). t.ending) told);
+      ending = end_alike m a.ending b.ending (ends_search m is.options is.gap a a.ending is.right.ending) (ap (λ (t : Told). t.ending) told);
     }
 
 same_record : (at_target at_target' : Option Found) (passes passes' : List Pass) (bound bound' : Option ℤ) (e e' : Ending) → at_target ≡ at_target' → passes ≡ passes' → bound ≡ bound' → e ≡ e'
@@ -237,8 +237,8 @@ pub told_apart : LawToldApart
 told_apart =
     record {
       alike = alike;
-      same = λ m has names options options' gap gap' announce announce' a b right right' words words' one none.
-          let h = alike m has names options options' gap gap' announce announce' a b right right' words words' one in
-          same_record a.at_target b.at_target a.passes b.passes a.bound b.bound a.ending b.ending h.at_target h.passes h.bound (end_same m a.ending b.ending (ends_search m options gap a a.ending right.ending) none h.ending);
+      same = λ m has names announce announce' a b is is' one none.
+          let h = alike m has names announce announce' a b is is' one in
+          same_record a.at_target b.at_target a.passes b.passes a.bound b.bound a.ending b.ending h.at_target h.passes h.bound (end_same m a.ending b.ending (ends_search m is.options is.gap a a.ending is.right.ending) none h.ending);
       one_text = one_text;
     }

@@ -45,7 +45,7 @@ abbrev pub IsSignedWord : ℤ → Type 0
 IsSignedWord (pos n) = n < 2 ^ 63
 IsSignedWord (negsuc n) = n < 2 ^ 63
 
--- the numbers of a line have 64 bits, as all numbers that the program prints
+-- the numbers of a line have 64 bits
 abbrev pub HasWords : Head → Type 0
 HasWords (AnnounceLine cost) = IsSignedWord cost
 HasWords (SolutionLine cost steps) = IsSignedWord cost × IsWord steps
