@@ -37,7 +37,7 @@ use Rattle.best_shard.specs.contracts.shard.BestShard as Shard
 use Rattle.shard_mail.proofs.ends.Poster.TheSendSync as poster
 use Rattle.shard_mail.proofs.ends.Taker.TheSendSync as taker
 use Rattle.best_turns.proofs.envelope.BestEnvelope.TheSendSync as envelope
-use Rattle.best_turns.proofs.turner.BestEnded.TheSendSync as ended
+use Rattle.best_seats.proofs.ended.BestEnded.TheSendSync as ended
 use Rattle.best_turns.specs.contracts.turner.BestTurner as BestTurner
 use Rattle.state_layout.proofs.layout.Layout.TheSendSync as layout
 use Rattle.state_layout.proofs.node.Node.TheSendSync as node

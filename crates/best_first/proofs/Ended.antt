@@ -7,11 +7,12 @@ use Rattle.std.proofs.lemmas.Option.{slice_get_within}
 use mathlib.Core.List as lists
 use Rattle.best_first.specs.Alone.{AreResting, CanGoOn, HasOneStopped, HasStopped}
 use Rattle.best_first.specs.Crews.{KeepAll, seats_of}
-use Rattle.best_first.specs.Lefts.{HaveClosed, HaveHalted, HaveLeft}
+use Rattle.best_over.specs.Lefts.{HaveClosed, HaveHalted, HaveLeft}
 use Rattle.best_first.specs.Mails.{Posters}
 use Rattle.best_first.specs.Rooms.{AreAllTaken, AreApart, AreBegun, AreFull, AreOfBoxes, IsRoomFor}
 use Rattle.best_first.specs.declared.room.Room.{Room}
-use Rattle.best_first.proofs.Places.{at_mapped, map_at, same_at, there}
+use Rattle.best_first.proofs.Places.{at_mapped, map_at, same_at}
+use Rattle.best_over.proofs.Places.{there}
 use Rattle.best_ledger.specs.Histories.{came_from, to, visits_in}
 use Rattle.best_ledger.specs.Records.{Done, IsPrefix, Own, blank, record_of}
 use Rattle.best_ledger.specs.declared.letters.BestLetter.{BestLetter}
@@ -19,10 +20,11 @@ use Rattle.best_ledger.specs.declared.records.BestRecord.{BestRecord}
 use Rattle.best_shard.specs.Calls.{IsEnd}
 use Rattle.best_shard.specs.Stands.{EndsAs, Stands}
 use Rattle.best_turns.specs.Envelopes.{letters_in, sender_of, taken_from}
-use Rattle.best_turns.specs.Turners.{Acts, IsTakerFor, ArePostersFor, KeepsAs, Leaves, HasAllMail, HasSomeMail, Sat}
+use Rattle.best_seats.specs.Seats.{Sat}
+use Rattle.best_turns.specs.Turners.{Acts, IsTakerFor, ArePostersFor, KeepsAs, Leaves, HasAllMail, HasSomeMail}
 use Rattle.best_turns.specs.declared.envelope.BestEnvelope.{BestEnvelope}
-use Rattle.best_turns.specs.declared.turner.BestEnded.{BestEnded}
-use Rattle.best_turns.specs.declared.turner.BestEnded.TheVariants as endings
+use Rattle.best_seats.specs.declared.ended.BestEnded.{BestEnded}
+use Rattle.best_seats.specs.declared.ended.BestEnded.TheVariants as endings
 use Rattle.best_turns.specs.declared.turner.BestTurner.{BestTurner}
 use Rattle.best_turns.proofs.Mail.{some_mail}
 use Rattle.board_words.specs.Causes.{halt_number}

@@ -1,66 +1,29 @@
 -- The shards of a search before their first turn.
 use Rattle.std.proofs.Common.{◌≡◌, ℕ, ◌+◌, ◌<◌, ◌≤◌, zero, suc, List, [], ◌∷◌, ◌++◌, slice_get, replicate, Option, Some, None, refl, sym, ap, subst, ◌∙◌, arith}
-use Rattle.std.specs.Prelude.{ℤ, ◌^◌}
+use Rattle.std.specs.Prelude.{◌^◌}
 use Rattle.std.proofs.lemmas.Option.{slice_get_within}
 use Rattle.board_words.specs.Seats.{BoardFacts, SeatFacts}
 use Rattle.board_words.specs.Steps.{split_view}
 use Rattle.board_words.specs.declared.seat.View.{View}
-use Rattle.dp_model.specs.declared.answers.Options.{Options}
-use Rattle.dp_model.specs.declared.parts.PlainState.{PlainState}
-use Rattle.dp_model.specs.declared.whole.Model.{Model}
-use Rattle.dp_steps.specs.Bounds.{IsFloor}
-use Rattle.dp_steps.specs.States.{Inner}
-use Rattle.state_layout.specs.Signatures.{owner_of}
-use Rattle.state_layout.specs.Slots.{slots_of}
 use Rattle.state_layout.specs.declared.node.Node.{Node}
 use Rattle.best_ledger.specs.Events.{fresh}
 use Rattle.best_ledger.specs.Histories.{to}
-use Rattle.pass_ledger.specs.Passes.{Pass, IsStart}
-use Rattle.pass_ledger.specs.Records.{Starts}
-use Rattle.pass_ledger.proofs.Lists.{has_none}
+use Rattle.pass_ledger.specs.Passes.{Pass}
+use Rattle.best_seats.specs.declared.ended.BestEnded.{BestEnded}
+use Rattle.best_seats.proofs.Sitting.{sits_fresh}
 use Rattle.best_shard.specs.Stands.{Stands}
 use Rattle.shard_mail.specs.Ends.{MailboxFacts, PosterFacts, TakerFacts, IsPosterOf}
 use Rattle.shard_threads.specs.Seats.{AreSeated}
 use Rattle.shard_threads.specs.declared.seated.Seated.{Seated}
 use Rattle.best_turns.specs.Envelopes.{letters_in, taken_from, terms_of}
-use Rattle.best_turns.specs.Turners.{Acts, KeepsAs, IsTakerFor, ArePostersFor, Sits}
+use Rattle.best_turns.specs.Turners.{Acts, KeepsAs, IsTakerFor, ArePostersFor}
 use Rattle.best_turns.specs.declared.envelope.BestEnvelope.{BestEnvelope}
-use Rattle.best_turns.specs.declared.turner.BestEnded.{BestEnded}
 use Rattle.best_turns.specs.declared.turner.BestTurner.{BestTurner}
-use Rattle.visit_laws.proofs.Starts.{start_open}
-use Rattle.best_ledger.specs.Searches.{pass_of, search_of}
 use Rattle.best_first.specs.Crews.{IsFresh, AreFresh, AreBoxes, KeepAll}
 use Rattle.best_first.specs.Mails.{AreMails}
-use Rattle.solve_start.specs.Targets.{IsTarget}
 use Rattle.best_first.specs.declared.mails.Mails.{Mails}
-use Rattle.solve_start.specs.declared.starts.Target.{Target}
-use Rattle.best_first.proofs.Places.{each_more, long_more, there}
-
--- ---- the target's node
-
-pub target_inner : (m : Model) (options : Options) (t : Target) → IsTarget m options t → Inner m m.target
-target_inner m options t is = ((start_open m options.prune t.node).0 is.start).0
-
-module _ (m : Model) (options : Options) (some : 1 ≤ options.workers) (t : Target) (is : IsTarget m options t) where
-  is_start : IsStart (pass_of (search_of m options some)) t.node
-  is_start =
-      let h = ((start_open m options.prune t.node).0 is.start).1 in
-      record {
-        state = h.state;
-        cost = h.cost;
-        floor = subst (λ (s : PlainState). IsFloor m options.prune s t.node.cost t.node.floor) (sym h.state) (subst (λ (c : Option ℤ). IsFloor m options.prune m.target c t.node.floor) (sym h.cost) h.floor);
-        parent = h.parent;
-      }
-
-  owned_by : owner_of (slots_of m.objects m.variables) m.target options.workers ≡ t.owner
-  owned_by = ap (λ (s : PlainState). owner_of (slots_of m.objects m.variables) s options.workers) (sym is_start.state) ∙ sym is.owner
-
-  -- the owner starts with it, and the others with nothing
-  pub starts_owner : (shard : ℕ) (start : Option Node) → shard ≡ t.owner → start ≡ Some t.node → Starts (pass_of (search_of m options some)) shard start
-  starts_owner shard start owns e = subst (Starts (pass_of (search_of m options some)) shard) (sym e) (is_start, owned_by ∙ sym owns)
-
-  pub starts_other : (shard : ℕ) (start : Option Node) → (shard ≡ t.owner → ⊥) → start ≡ None → Starts (pass_of (search_of m options some)) shard start
-  starts_other shard start other e = subst (Starts (pass_of (search_of m options some)) shard) (sym e) (λ owns. other (sym owns ∙ owned_by))
+use Rattle.best_first.proofs.Places.{each_more, long_more}
+use Rattle.best_over.proofs.Places.{there}
 
 -- ---- a shard with its ends of the mailboxes
 
@@ -113,27 +76,13 @@ none_of (suc n) zero = refl
 none_of (suc n) (suc j) = none_of n j
 
 module _ {A B : Type 0} (p : Pass) (board : BoardFacts) (boxes : List MailboxFacts) (budget : ℕ) (v : View) (are : AreBoxes p.shards boxes) (limit : board.limit ≡ budget) (small : budget ≤ 2 ^ 40) (seen : v.limit ≡ board.limit) where
-  sits : (i : ℕ) (t : BestTurner A B) (s : SeatFacts) (start : Option Node) → s.view ≡ split_view v → t.budget ≡ budget → Sits p t.budget s.view (fresh p.shards start)
-  sits i t s start e b = record {
-    part = ap (λ (x : View). x.part) e;
-    limit = ap (λ (x : View). x.limit) e ∙ (seen ∙ (limit ∙ sym b));
-    offered = ap (λ (x : View). x.offered) e;
-    seen = λ q h. absurd (has_none _ h);
-    drawn = ap (λ (x : View). x.drawn) e;
-    drawn_below = (let a = ap (λ (x : View). x.drawn) e in omega (arith, a));
-    top = (let a = ap (λ (x : View). x.top) e in omega (arith, a));
-    late = ap (λ (x : View). x.late) e;
-    raised = ap (λ (x : View). x.raised) e;
-    met = ap (λ (x : View). x.met) e;
-  }
-
   acts : (i : ℕ) (t : BestTurner A B) (s : SeatFacts) → IsFresh p budget boxes i t → s.view ≡ split_view v → (s.board ≡ board.id) × (s.view.opening ≡ board.opening) × (s.view.limit ≡ board.limit) → Acts p board boxes t s
   acts i t s h e on = record {
     shard_record = fresh p.shards h.start;
     shared = record { long = are.long; senders = are.senders; limit = omega (arith, limit, small) };
     stands = h.stands;
     on_board = on;
-    sits = sits i t s h.start e h.budget_is;
+    sits = sits_fresh p t.budget v s.view h.start e (seen ∙ (limit ∙ sym h.budget_is));
     taker = subst (λ (n : ℕ). IsTakerFor p boxes n t.taker) (sym h.me) h.taker;
     posters = subst (λ (n : ℕ). ArePostersFor p boxes n t.posters.items) (sym h.me) h.posters;
     mail = record {

@@ -6,7 +6,8 @@ use Rattle.std.proofs.lemmas.Option.{slice_get_read, slice_get_within}
 use Rattle.shard_mail.specs.Ends.{PosterFacts}
 use Rattle.best_turns.specs.declared.envelope.BestEnvelope.{BestEnvelope}
 use Rattle.best_first.specs.Mails.{Posters, IsWith, AreHandedOut, HaveRoom}
-use Rattle.best_first.proofs.Places.{Begins, begins_less, begins_last, long_more, same_at, set_same, set_off, there}
+use Rattle.best_first.proofs.Places.{Begins, begins_less, begins_last, long_more, same_at, set_same, set_off}
+use Rattle.best_over.proofs.Places.{there}
 
 -- the first ones are left, and the others were handed out
 pub record IsHanded (posters left : List (PosterFacts BestEnvelope)) (old new : List Posters) : Type 0 where

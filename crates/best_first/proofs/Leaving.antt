@@ -17,7 +17,8 @@ use Rattle.best_first.specs.Mails.{Posters, AreHandedOut}
 use Rattle.best_first.specs.Rooms.{IsRoomFor, HandsBack, AreApart, IsAllTaken}
 use Rattle.best_first.specs.declared.room.Room.{Room}
 use Rattle.best_first.proofs.Hands.{handed_list, room_more}
-use Rattle.best_first.proofs.Places.{Begins, begins_last, at_last, at_left, each_more, long_more, same_at, there}
+use Rattle.best_first.proofs.Places.{Begins, begins_last, at_last, at_left, each_more, long_more, same_at}
+use Rattle.best_over.proofs.Places.{there}
 
 module _ (most held : ℕ) (old new : Room) (e : BestShardEnd) (log : Log) (taker : TakerFacts BestEnvelope) (seat : SeatFacts) (posters : List (PosterFacts BestEnvelope)) (h : IsRoomFor most held old) (all : length posters ≡ most)
     (ends : new.ends.items ≡ old.ends.items ++ e ∷ []) (logs : new.logs.items ≡ old.logs.items ++ log ∷ []) (takers : new.takers.items ≡ old.takers.items ++ taker ∷ []) (seats : new.seats.items ≡ old.seats.items ++ seat ∷ []) (handed : AreHandedOut posters old.posters.items new.posters.items) where

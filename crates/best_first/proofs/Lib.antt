@@ -6,6 +6,5 @@ mod Playing
 mod Resting
 mod Leaving
 mod Ended
-mod Telling
 mod Running
 mod Crosses

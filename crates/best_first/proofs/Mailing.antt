@@ -7,7 +7,8 @@ use Rattle.best_turns.specs.declared.envelope.BestEnvelope.{BestEnvelope}
 use Rattle.best_first.specs.Mails.{Posters, AreHandedOut, AreMails}
 use Rattle.best_first.specs.declared.mails.Mails.{Mails}
 use Rattle.best_first.proofs.Hands.{handed_list, room_more}
-use Rattle.best_first.proofs.Places.{at_last, at_left, each_more, long_more, same_at, there}
+use Rattle.best_first.proofs.Places.{at_last, at_left, each_more, long_more, same_at}
+use Rattle.best_over.proofs.Places.{there}
 
 module _ (shards : ℕ) (terms : List ℕ) (count : ℕ) (old new : Mails) (box : MailboxFacts) (posters : List (PosterFacts BestEnvelope)) (taker : TakerFacts BestEnvelope)
     (h : AreMails shards terms count old) (below : count < shards) (senders : box.senders ≡ shards) (firsts : AreNewPosters box terms posters) (is_new : taker ≡ new_taker box terms)

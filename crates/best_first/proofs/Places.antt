@@ -4,12 +4,6 @@ use Rattle.std.proofs.lemmas.List.{append_assoc, length_push}
 use Rattle.pass_ledger.proofs.Lists.{get_left}
 use Rattle.shard_mail.proofs.Letters.{last_or}
 
--- below the length there is an element
-pub there : {A : Type 0} (xs : List A) (i : ℕ) → i < length xs → (x : A) × (slice_get xs i ≡ Some x)
-there [] i lt = absurd (omega arith)
-there (x ∷ xs) zero lt = (x, refl)
-there (x ∷ xs) (suc i) lt = there xs i (omega arith)
-
 -- one place has one element
 pub same_at : {A : Type 0} (xs : List A) (i : ℕ) (x y : A) → slice_get xs i ≡ Some x → slice_get xs i ≡ Some y → x ≡ y
 same_at xs i x y a b = cc

@@ -4,8 +4,8 @@ use Rattle.std.proofs.lemmas.Bool.{cases_eq, cases_lt}
 use Rattle.std.proofs.lemmas.Option.{slice_get_read, slice_get_within}
 use Rattle.best_first.specs.Alone.{CanGoOn}
 use Rattle.best_turns.specs.Turners.{Acts, KeepsAs}
-use Rattle.best_turns.specs.declared.turner.BestEnded.{BestEnded}
-use Rattle.best_turns.specs.declared.turner.BestEnded.TheVariants as ends
+use Rattle.best_seats.specs.declared.ended.BestEnded.{BestEnded}
+use Rattle.best_seats.specs.declared.ended.BestEnded.TheVariants as ends
 use Rattle.best_turns.specs.declared.turner.BestTurner.{BestTurner}
 use Rattle.board_words.specs.Seats.{BoardFacts, SeatFacts}
 use Rattle.pass_ledger.specs.Passes.{Pass}

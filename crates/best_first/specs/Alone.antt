@@ -2,8 +2,8 @@
 use Rattle.std.specs.Prelude.{◌≡◌, ℕ, List, [], slice_get, Option, Some, None}
 use Rattle.best_ledger.specs.declared.records.BestRecord.{BestRecord}
 use Rattle.best_shard.specs.Stands.{Stands}
-use Rattle.best_turns.specs.declared.turner.BestEnded.{BestEnded}
-use Rattle.best_turns.specs.declared.turner.BestEnded.TheVariants as ends
+use Rattle.best_seats.specs.declared.ended.BestEnded.{BestEnded}
+use Rattle.best_seats.specs.declared.ended.BestEnded.TheVariants as ends
 use Rattle.best_turns.specs.declared.turner.BestTurner.{BestTurner}
 use Rattle.pass_ledger.specs.Passes.{Pass}
 use Rattle.shard_threads.specs.declared.seated.Seated.{Seated}

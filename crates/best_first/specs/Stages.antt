@@ -8,8 +8,8 @@ use Rattle.joined_seats.specs.Joined.{with_less}
 use Rattle.shard_threads.specs.declared.seated.Seated.{Seated}
 use Rattle.best_turns.specs.declared.turner.BestTurner.{BestTurner}
 use Rattle.best_first.specs.Crews.{KeepAll}
-use Rattle.best_first.specs.Lefts.{IsBefore}
 use Rattle.best_first.specs.Rooms.{IsRoomFor}
+use Rattle.best_over.specs.Lefts.{IsBefore}
 use Rattle.best_first.specs.declared.room.Room.{Room}
 
 -- The shards go on at their seats, which were split off the whole seat, or have ended. There is room for what they leave.

@@ -5,7 +5,8 @@ ghost use Rattle.best_first.specs.Alone.{AreResting, CanGoOn, HasOneStopped, Has
 ghost use Rattle.best_turns.specs.Plays.{plays_by};
 ghost use Rattle.shard_threads.specs.Players.{AllStay, AreHeld, IsHeld, Stays};
 
-use best_turns::{BestBoxes, BestEnded, BestTurner};
+use best_seats::BestEnded;
+use best_turns::{BestBoxes, BestTurner};
 use cost_laws::CostLaw;
 use dom_store::Covers;
 use dp_outside::Gate;

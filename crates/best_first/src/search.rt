@@ -3,8 +3,8 @@
 ghost use Rattle.std.specs.Prelude.{◌≡◌, ◌≤◌, ◌^◌, true, false};
 ghost use Rattle.best_ends.specs.Ends.{IsBestEnd};
 ghost use Rattle.best_first.specs.Alone.{AreResting, HasOneStopped};
-ghost use Rattle.best_first.specs.Searches.{MaySearch};
 ghost use Rattle.best_ledger.specs.Searches.{search_of};
+ghost use Rattle.best_over.specs.Searches.{MaySearch};
 ghost use Rattle.best_turns.specs.Plays.{plays_by};
 ghost use Rattle.board_words.specs.Rules.{IsWhole};
 ghost use Rattle.board_words.specs.Seats.{IsSeatOf};

@@ -3,18 +3,19 @@
 ghost use Rattle.std.specs.Prelude.{◌≡◌, ◌≤◌, true, false, IfErr, IfOk};
 ghost use Rattle.best_ends.specs.Ends.{IsBestEnd};
 ghost use Rattle.best_first.specs.Alone.{AreResting, HasOneStopped};
-ghost use Rattle.best_first.specs.Searches.{MaySearch};
 ghost use Rattle.best_first.specs.Stages.{IsBegun};
 ghost use Rattle.best_ledger.specs.Searches.{BestSearch, pass_of, search_of};
+ghost use Rattle.best_over.specs.Searches.{MaySearch};
 ghost use Rattle.board_words.specs.Rules.{IsWhole};
 ghost use Rattle.board_words.specs.Seats.{IsSeatOf};
 ghost use Rattle.board_words.specs.declared.seat.View.{View};
 ghost use Rattle.cost_laws.specs.Orders.{IsLawOf};
 
 use crate::crew::{Crew, make_crew};
-use crate::ending::{gather, tell, visits_so_far};
+use crate::ending::{Left, gather};
 use crate::room::Room;
 use best_ends::{BestEnd, out_of_memory};
+use best_over::{tell, visits_so_far};
 use best_turns::{BestBoxes, BestTurner};
 use board_words::{Board, BoardSeat};
 use cost_laws::CostLaw;
@@ -96,6 +97,6 @@ pub(crate) fn end_search<'m, L: CostLaw, K: Covers, R: Wait>(
     } = begun;
     let BestBoxes { boxes, work } = boxes;
     drop(work);
-    let left = gather(rt, board, seat, boxes, room, shards, resting);
-    tell::<L>(alloc, options, board, seat, left, before)
+    let Left { ends, logs, lost } = gather(rt, board, seat, boxes, room, shards, resting);
+    tell::<L>(alloc, options, board, seat, ends, logs, lost, before)
 }

@@ -7,7 +7,7 @@ use Rattle.std.specs.Vec.{with_item}
 use Rattle.board_words.specs.Causes.{halt_number}
 use Rattle.board_words.specs.Rules.{no_word}
 use Rattle.board_words.specs.Seats.{BoardFacts, SeatFacts, IsSeatOf}
-use Rattle.board_words.specs.Steps.{after_look, after_offer, after_draw, after_halt, after_halted, IsBestFor, IsCountFor}
+use Rattle.board_words.specs.Steps.{after_look, after_offer, after_halt, after_halted, IsBestFor}
 use Rattle.board_words.specs.declared.halt.HaltCause.{HaltCause}
 use Rattle.board_words.specs.declared.halt.HaltCause.TheVariants as causes
 use Rattle.board_words.specs.declared.seat.View.{View}
@@ -18,43 +18,26 @@ use Rattle.best_ledger.specs.Records.{Own}
 use Rattle.best_ledger.specs.declared.records.BestRecord.{BestRecord}
 use Rattle.best_ledger.specs.declared.records.Moment.{Moment}
 use Rattle.best_ledger.specs.declared.records.ToPost.{ToPost}
+use Rattle.best_seats.specs.Seats.{Sits, Sat}
+use Rattle.best_seats.specs.declared.ended.BestEnded.{BestEnded}
+use Rattle.best_seats.specs.declared.ended.BestEnded.TheVariants as ends
+use Rattle.best_seats.proofs.Letters.{came_pruned, came_visited}
 use Rattle.best_shard.specs.Calls.{MayCome, IsTaking, IsPruning, IsVisit, IsFaulted, IsPosting}
 use Rattle.best_shard.specs.Stands.{Stands, Holds, EndsAs}
 use Rattle.best_shard.specs.declared.shard.BestShard.{BestShard}
 use Rattle.shard_mail.specs.Ends.{MailboxFacts, PosterFacts, TakerFacts, IsPosterOf, IsNextFor, posted_by, taken_by}
 use Rattle.shard_mail.specs.Mails.{LawfulUnder}
 use Rattle.shard_seats.specs.Seats.{IsOfferOf}
-use Rattle.shard_seats.proofs.Sitting.{offered_after, offered_news}
+use Rattle.shard_seats.proofs.Sitting.{Drew, drawn_at, offered_after, offered_news}
 use Rattle.best_turns.specs.Envelopes.{sender_of, are_lawful}
-use Rattle.best_turns.specs.Turners.{Sits, Sat, IsTakerFor, ArePostersFor, HasAllMail, HasSomeMail, Acts, Leaves, EndsBy}
+use Rattle.best_turns.specs.Turners.{IsTakerFor, ArePostersFor, HasAllMail, HasSomeMail, Acts, Leaves, EndsBy}
 use Rattle.best_turns.specs.Works.{HasTaken, HasHandled, HasPostedNext}
 use Rattle.best_turns.specs.declared.envelope.BestEnvelope.{BestEnvelope}
-use Rattle.best_turns.specs.declared.turner.BestEnded.{BestEnded}
-use Rattle.best_turns.specs.declared.turner.BestEnded.TheVariants as ends
 use Rattle.best_turns.specs.declared.turner.BestTurner.{BestTurner}
-use Rattle.best_turns.proofs.Mail.{enclosed, may_come, takes_mail, some_mail, vain_mail, posters_with, may_post, posts_mail, kept_mail, posted_this, came_pruned, came_visited}
-use Rattle.best_turns.proofs.Sitting.{drawn_at, some_open, sits_took, sits_posted, sits_pruned, sits_visited, sat_met, sat_memory, sat_budget, sat_drawn, sat_fault}
+use Rattle.best_turns.proofs.Mail.{enclosed, may_come, takes_mail, some_mail, vain_mail, posters_with, may_post, posts_mail, kept_mail, posted_this}
+use Rattle.best_seats.proofs.Sitting.{Halts, some_open, sits_took, sits_posted, sits_pruned, sits_visited, sat_met, sat_memory, sat_budget, sat_drawn, sat_fault}
 use Rattle.spot_eval.specs.declared.ends.SpotFault.{SpotFault}
 use Rattle.state_layout.specs.declared.node.Node.{Node}
-
--- ---- the seat
-
--- the seat looked at the best word, and drew a number
-pub record Drew (board : BoardFacts) (old : SeatFacts) (best number : ℕ) (new : SeatFacts) : Type 0 where
-  pub on_board : IsSeatOf board new
-  pub view : new.view ≡ drawn_at old.view best number
-  pub least : IsBestFor old.view best
-  pub count : IsCountFor (after_look old.view best) number
-
-pub drew : (board : BoardFacts) (old looked new : SeatFacts) (best number : ℕ) → looked.view ≡ after_look old.view best → IsBestFor old.view best → IsSeatOf board new → new.view ≡ after_draw looked.view number → IsCountFor looked.view number → Drew board old best number new
-drew board old looked new best number look least on view count =
-    record { on_board = on; view = view ∙ ap (λ (v : View). after_draw v number) look; least = least; count = subst (λ (v : View). IsCountFor v number) look count }
-
--- the seat raised the halt of a cause, and the shard has ended by it
-pub record Halts (board : BoardFacts) (old : SeatFacts) (cause : HaltCause) (end : BestEnded) (new : SeatFacts) : Type 0 where
-  pub ended : end ≡ ends.Halted cause
-  pub on_board : IsSeatOf board new
-  pub view : new.view ≡ after_halt old.view (halt_number cause)
 
 -- ---- histories that grow
 

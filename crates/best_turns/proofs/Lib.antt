@@ -1,4 +1,3 @@
 pub mod Mail
-mod Sitting
 mod Acting
 mod Working

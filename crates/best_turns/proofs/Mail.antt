@@ -1,21 +1,20 @@
 -- Letters that a shard takes and posts.
 use Rattle.std.proofs.Common.{◌≡◌, ◌≢◌, ℕ, ◌<◌, ◌⊎◌, inl, inr, zero, suc, Bool, true, false, if◌then◌else◌, nat_eq, List, [], ◌∷◌, ◌++◌, length, map, slice_get, slice_set, Some, refl, sym, ap, subst, ◌∙◌}
-use Rattle.std.proofs.lemmas.List.{append-nil, length-set, map-append, get_or-set_same, get_or-set_other}
+use Rattle.std.proofs.lemmas.List.{append-nil, length-set, map-append, get_or-set_other}
 use Rattle.std.proofs.lemmas.Option.{none-some, same_Some}
 use Rattle.dp_claims.specs.Enough.{Has}
 use Rattle.dp_model.specs.contracts.whole.Model as models
 use Rattle.state_layout.specs.declared.node.Node.{Node}
 use Rattle.pass_ledger.specs.Passes.{Pass}
-use Rattle.pass_ledger.specs.declared.records.PrunedAt.{PrunedAt}
 use Rattle.pass_ledger.proofs.Lists.{has_last}
-use Rattle.best_ledger.specs.Events.{take_letter, append_at, moments_of, post}
+use Rattle.best_ledger.specs.Events.{take_letter, append_at, post}
 use Rattle.best_ledger.specs.Histories.{to, AreInOrder, came_from}
 use Rattle.best_ledger.specs.Records.{to_post}
 use Rattle.best_ledger.specs.declared.letters.BestLetter.{BestLetter}
 use Rattle.best_ledger.specs.declared.records.BestRecord.{BestRecord}
-use Rattle.best_ledger.specs.declared.records.Moment.{Moment}
-use Rattle.best_ledger.specs.declared.records.Moment.TheVariants.{Came, Visited, Pruned}
+use Rattle.best_ledger.specs.declared.records.Moment.TheVariants.{Came}
 use Rattle.best_ledger.specs.declared.records.ToPost.{ToPost}
+use Rattle.best_seats.proofs.Letters.{came_append, append_same}
 use Rattle.best_shard.specs.Calls.{MayCome}
 use Rattle.shard_mail.specs.Ends.{MailboxFacts, PosterFacts, TakerFacts, IsPosterOf, IsNextFor, posted_by}
 use Rattle.shard_mail.specs.Mails.{letters_of, LawfulUnder}
@@ -38,32 +37,6 @@ from_append j taken more = ap letters_in (of_append sender_of j taken more) ∙ 
 -- one more letter is its sender's, and no other's
 from_sender : (taken : List BestEnvelope) (x : BestEnvelope) → taken_from (sender_of x) (taken ++ x ∷ []) ≡ taken_from (sender_of x) taken ++ x.letter ∷ []
 from_sender taken x = from_append (sender_of x) taken (x ∷ []) ∙ ap (λ (e : List BestEnvelope). taken_from (sender_of x) taken ++ letters_in e) (of_own sender_of (sender_of x) x refl)
-
--- ---- letters in a history
-
-came_append : (j : ℕ) (a b : List Moment) → came_from j (a ++ b) ≡ came_from j a ++ came_from j b
-came_append j [] b = refl
-came_append j (Came x ∷ a) b = by (nat_eq x.from j) (came_append j a b)
-  where
-    by : (t : Bool) → came_from j (a ++ b) ≡ came_from j a ++ came_from j b → (if t then x ∷ came_from j (a ++ b) else came_from j (a ++ b)) ≡ (if t then x ∷ came_from j a else came_from j a) ++ came_from j b
-    by true e = ap (λ (xs : List BestLetter). x ∷ xs) e
-    by false e = e
-came_append j (Visited v ∷ a) b = came_append j a b
-came_append j (Pruned q ∷ a) b = came_append j a b
-
-none_pruned : (j : ℕ) (prunes : List PrunedAt) → came_from j (map (λ (q : PrunedAt). Pruned q) prunes) ≡ []
-none_pruned j [] = refl
-none_pruned j (q ∷ prunes) = none_pruned j prunes
-
--- what came is as before where no letter did
-came_still : (j : ℕ) (history more : List Moment) → came_from j more ≡ [] → came_from j (history ++ more) ≡ came_from j history
-came_still j history more none = came_append j history more ∙ (ap (λ (xs : List BestLetter). came_from j history ++ xs) none ∙ append-nil (came_from j history))
-
-pub came_pruned : (j : ℕ) (history : List Moment) (q : PrunedAt) → came_from j (history ++ Pruned q ∷ []) ≡ came_from j history
-came_pruned j history q = came_still j history (Pruned q ∷ []) refl
-
-pub came_visited : (j : ℕ) (history : List Moment) (stamp : ℕ) (n : Node) (prunes : List PrunedAt) → came_from j (history ++ moments_of stamp n prunes) ≡ came_from j history
-came_visited j history stamp n prunes = came_still j history (moments_of stamp n prunes) (none_pruned j prunes)
 
 -- the same letters of a sender, in envelopes and in a history
 one_came : (j : ℕ) (x : BestEnvelope) → came_from j (Came x.letter ∷ []) ≡ taken_from j (x ∷ [])
@@ -125,9 +98,6 @@ set_cases (x ∷ xs) (suc i) y (suc k) z e = elim (set_cases xs i y k z e) [ inl
     less k i s = cc
 
 -- ---- what is posted
-
-append_same : (posted : List (List BestLetter)) (j : ℕ) (x : BestLetter) → j < length posted → to (append_at posted j x) j ≡ to posted j ++ x ∷ []
-append_same posted j x lt = get_or-set_same posted j (to posted j ++ x ∷ []) [] lt
 
 append_other : (posted : List (List BestLetter)) (j : ℕ) (x : BestLetter) (k : ℕ) → k ≢ j → to (append_at posted j x) k ≡ to posted k
 append_other posted j x k ne = get_or-set_other posted j k (to posted j ++ x ∷ []) [] ne

@@ -8,5 +8,5 @@ mod turner;
 mod work;
 
 pub use envelope::BestEnvelope;
-pub use turner::{BestEnded, BestTurner};
+pub use turner::BestTurner;
 pub use work::{BestBoxes, OpenWork};

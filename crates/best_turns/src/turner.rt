@@ -3,14 +3,12 @@
 ghost use Rattle.std.specs.Prelude.{◌≡◌, [], None, IfErr, IfOk, OnOk};
 ghost use Rattle.best_turns.specs.Turners.{Acts, EndsBy, Keeps};
 ghost use Rattle.best_turns.specs.Works.{HasWorked, HasTaken, HasHandled, HasPosted, HasPostedNext};
-ghost use Rattle.board_words.specs.Causes.{halt_number};
-ghost use Rattle.board_words.specs.Seats.{IsSeatOf};
-ghost use Rattle.board_words.specs.Steps.{after_halt};
 ghost use Rattle.pass_ledger.specs.Passes.{Pass};
 ghost use Rattle.shard_core.specs.Stands.{Suited};
 
 use crate::envelope::BestEnvelope;
 use crate::work::{BestBoxes, OpenWork};
+use best_seats::{BestEnded, MOST_LETTERS, halt};
 use best_shard::BestShard;
 use board_words::{Board, BoardSeat, HaltCause};
 use cost_laws::CostLaw;
@@ -18,20 +16,6 @@ use dom_store::Covers;
 use shard_core::Visited;
 use shard_mail::{Mailbox, Poster, Taker};
 use std::sync::Wait;
-
-/// A shard takes at most so many letters in a turn, so that it visits a node soon, and looks for a halt.
-const LETTERS: u32 = 64;
-
-/// Why a shard takes no more turns.
-#[derive(Clone, Copy, Debug, PartialEq, Eq)]
-pub enum BestEnded {
-    /// It had no work, and saw none in other shards. It is as one that goes on: letters may still wait for it.
-    Idle,
-    /// Another shard halted the search.
-    Met,
-    /// It halted the search.
-    Halted(HaltCause),
-}
 
 /// A shard, its taker of the mailbox that has its number, and its poster of each mailbox.
 #[derive(Drop)]
@@ -139,7 +123,7 @@ impl<'m, L: CostLaw, K: Covers> BestTurner<'m, L, K> {
         ensures same { self.new.ended ≡ self.old.ended }
         ensures me { self.new.shard.me ≡ self.old.shard.me }
     {
-        for _ in 0..LETTERS {
+        for _ in 0..MOST_LETTERS {
             if !self.take_next(rt, board, boxes, seat)? {
                 return Ok(());
             }
@@ -278,15 +262,4 @@ impl<'m, L: CostLaw, K: Covers> BestTurner<'m, L, K> {
             .len()
             .saturating_add(self.shard.letters.len() as u64)
     }
-}
-
-/// Halts the search, and answers why a shard has ended.
-fn halt(board: &Board, seat: &mut BoardSeat, cause: HaltCause) -> BestEnded
-    requires { IsSeatOf board.now seat.old }
-    ensures ended { result ≡ BestEnded.Halted cause }
-    ensures seat { IsSeatOf board.now seat.new }
-    ensures view { seat.new.view ≡ after_halt seat.old.view (halt_number cause) }
-{
-    board.halt(seat, cause);
-    BestEnded::Halted(cause)
 }

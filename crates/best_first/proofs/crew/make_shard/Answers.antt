@@ -6,7 +6,7 @@ use Rattle.best_shard.specs.Stands.{Stands}
 use Rattle.state_layout.specs.declared.node.Node.{Node}
 use Rattle.std.specs.Prelude.{Option}
 use Rattle.best_ledger.specs.Searches.{pass_of, search_of}
-use Rattle.best_first.proofs.Fresh.{starts_other, starts_owner, target_inner}
+use Rattle.best_over.proofs.Starting.{starts_other, starts_owner, target_inner}
 use Rattle.best_first.proofs.crew.make_shard.Goals as goal
 use Rattle.best_first.proofs.crew.make_shard.Goals.{then-shard-target+in_ok-copy, else-shard-target}
 

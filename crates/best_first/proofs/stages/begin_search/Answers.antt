@@ -4,7 +4,7 @@ use Rattle.shard_threads.specs.Seats.{AreSeated}
 use Rattle.joined_seats.specs.Joined.{with_less}
 use Rattle.best_ledger.specs.Searches.{pass_of, search_of}
 use Rattle.best_first.proofs.Fresh.{all_begin}
-use Rattle.best_first.proofs.Running.{is_before, no_memory}
+use Rattle.best_over.proofs.Running.{is_before, no_memory}
 use Rattle.best_first.proofs.stages.begin_search.Goals as goal
 
 pub seat_all-requires-clause-parts : goal.seat_all-requires-clause-parts

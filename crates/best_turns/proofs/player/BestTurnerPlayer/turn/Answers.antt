@@ -1,6 +1,6 @@
 use Rattle.std.proofs.Common.{◌≡◌, Option, Some, None, is_some, true, false, refl, subst, ◌∙◌}
 use Rattle.best_turns.specs.Turners.{KeepsAs}
-use Rattle.best_turns.specs.declared.turner.BestEnded.{BestEnded}
+use Rattle.best_seats.specs.declared.ended.BestEnded.{BestEnded}
 use Rattle.best_turns.proofs.player.BestTurnerPlayer.turn.Goals as goal
 
 is_off : (o : Option BestEnded) → is_some o ≡ false → o ≡ None

@@ -1,7 +1,8 @@
 use Rattle.std.proofs.Common.{ℕ, ◌≤◌, Option, refl, subst, ◌∙◌, rules, Fits, w64, arith}
 use Rattle.board_words.specs.Rules.{no_word}
 use Rattle.best_shard.specs.Calls.{IsVisit}
-use Rattle.best_turns.proofs.Acting.{none_picked, prunes, visits, visits_news, spends, loses, faults, drew}
+use Rattle.shard_seats.proofs.Sitting.{drew}
+use Rattle.best_turns.proofs.Acting.{none_picked, prunes, visits, visits_news, spends, loses, faults}
 use Rattle.best_turns.proofs.turner.BestTurner.handle.Goals as goal
 
 pub prunes-requires : goal.prunes-requires

@@ -2,7 +2,7 @@ use Rattle.std.proofs.Common.{Option, Some, sym, subst, ◌∙◌}
 use Rattle.std.proofs.lemmas.Option.{none-some}
 use Rattle.best_turns.proofs.Acting.{turned, ends_ended}
 use Rattle.best_turns.specs.Turners.{KeepsAs}
-use Rattle.best_turns.specs.declared.turner.BestEnded.{BestEnded}
+use Rattle.best_seats.specs.declared.ended.BestEnded.{BestEnded}
 use Rattle.best_turns.proofs.turner.BestTurner.take_turn.Goals as goal
 
 pub returns-in-Err-clause-keeps : goal.returns-in-Err-clause-keeps

@@ -1,10 +1,11 @@
--- How the seat of a shard changes in its turn.
+-- How the seat of a shard changes.
 use Rattle.std.proofs.Common.{◌≡◌, ℕ, ◌+◌, ◌*◌, ◌^◌, ◌≤◌, ◌<◌, max, nat_lt, if◌then◌else◌, inl, inr, List, [], ◌∷◌, ◌++◌, length, map, Option, Some, None, refl, sym, ap, subst, ◌∙◌, arith, length-append}
 use Rattle.std.proofs.lemmas.Bool.Decides.{nat_tests}
 use Rattle.std.proofs.lemmas.List.{length_push}
 use Rattle.board_words.specs.Causes.{halt_number}
 use Rattle.board_words.specs.Rules.{draws_each, MayDraw}
-use Rattle.board_words.specs.Steps.{after_look, after_draw, after_halt, after_halted, IsBestFor, IsCountFor}
+use Rattle.board_words.specs.Seats.{BoardFacts, SeatFacts, IsSeatOf}
+use Rattle.board_words.specs.Steps.{after_look, after_halt, after_halted, split_view, IsBestFor, IsCountFor}
 use Rattle.board_words.specs.declared.halt.HaltCause.{HaltCause}
 use Rattle.board_words.specs.declared.halt.HaltCause.TheVariants as causes
 use Rattle.board_words.specs.declared.seat.View.{View}
@@ -14,7 +15,7 @@ use Rattle.pass_ledger.specs.declared.records.FaultHere.{FaultHere}
 use Rattle.pass_ledger.specs.declared.records.Held.{Held}
 use Rattle.pass_ledger.specs.declared.records.PrunedAt.{PrunedAt}
 use Rattle.pass_ledger.proofs.Lists.{has_none, has_head, has_cases, has_map}
-use Rattle.best_ledger.specs.Events.{take_letter, prune, visit_node, post, moments_of, IsWithout}
+use Rattle.best_ledger.specs.Events.{fresh, take_letter, prune, visit_node, post, moments_of, IsWithout}
 use Rattle.best_ledger.specs.Histories.{visit, visits_in}
 use Rattle.best_ledger.specs.declared.letters.BestLetter.{BestLetter}
 use Rattle.best_ledger.specs.declared.records.BestRecord.{BestRecord}
@@ -24,9 +25,11 @@ use Rattle.best_ledger.specs.declared.records.Moment.TheVariants.{Came, Visited,
 use Rattle.best_ledger.specs.declared.records.ToPost.{ToPost}
 use Rattle.best_ledger.proofs.Moments.{visits_append, no_visits_in}
 use Rattle.best_ledger.proofs.Steps.{pruned_same}
-use Rattle.best_turns.specs.Turners.{HasSeen, Sits, HasCause, Sat}
-use Rattle.best_turns.specs.declared.turner.BestEnded.TheVariants as ends
 use Rattle.shard_seats.specs.Seats.{IsOfferOf}
+use Rattle.shard_seats.proofs.Sitting.{drawn_at}
+use Rattle.best_seats.specs.Seats.{HasSeen, Sits, HasCause, Sat}
+use Rattle.best_seats.specs.declared.ended.BestEnded.{BestEnded}
+use Rattle.best_seats.specs.declared.ended.BestEnded.TheVariants as ends
 use Rattle.state_layout.specs.declared.node.Node.{Node}
 
 -- ---- the best word
@@ -91,6 +94,21 @@ may_draw p budget limit v r small same s = few v.drawn v.top budget limit v.limi
 
 -- ---- a shard that goes on
 
+-- one that has done nothing, with a seat that was split off
+pub sits_fresh : (p : Pass) (budget : ℕ) (v w : View) (start : Option Node) → w ≡ split_view v → v.limit ≡ budget → Sits p budget w (fresh p.shards start)
+sits_fresh p budget v w start e limit = record {
+  part = ap (λ (x : View). x.part) e;
+  limit = ap (λ (x : View). x.limit) e ∙ limit;
+  offered = ap (λ (x : View). x.offered) e;
+  seen = λ q h. absurd (has_none (Pruned q) h);
+  drawn = ap (λ (x : View). x.drawn) e;
+  drawn_below = (let a = ap (λ (x : View). x.drawn) e in omega (arith, a));
+  top = (let a = ap (λ (x : View). x.top) e in omega (arith, a));
+  late = ap (λ (x : View). x.late) e;
+  raised = ap (λ (x : View). x.raised) e;
+  met = ap (λ (x : View). x.met) e;
+}
+
 pub sits_took : (p : Pass) (budget : ℕ) (v : View) (r : BestRecord) (x : BestLetter) (rest : List Node) → Sits p budget v r → Sits p budget v (take_letter r x rest)
 sits_took p budget v r x rest s =
     record {
@@ -124,10 +142,6 @@ sits_pruned p budget v r n rest best s b =
       raised = s.raised;
       met = s.met;
     }
-
--- the view after the best word was looked at and a number drawn
-abbrev pub drawn_at : View → (best number : ℕ) → View
-drawn_at v best number = after_draw (after_look v best) number
 
 one_up : (a b c : ℕ) → a ≡ b → c ≡ b + 1 → a + 1 ≡ c
 one_up a b c e f = omega arith
@@ -191,6 +205,10 @@ module _ (p : Pass) (budget : ℕ) (v : View) (r : BestRecord) (s : Sits p budge
   few : v.drawn ≤ length (visits_in r.history) + length r.waiting
   few = few_more v.drawn (length (visits_in r.history)) (length r.waiting) s.drawn
 
+  -- it has no work
+  pub sat_idle : Sat p ends.Idle v r
+  sat_idle = record { part = s.part; offered = s.offered; seen = s.seen; few_drawn = few; cause = (s.raised, s.late) }
+
   -- it met the halt of another
   pub sat_met : (word : ℕ) → 0 < word → Sat p ends.Met (after_halted v word) r
   sat_met word some = record { part = s.part; offered = s.offered; seen = s.seen; few_drawn = few; cause = (s.raised, s.late, some) }
@@ -219,3 +237,11 @@ module _ (p : Pass) (budget : ℕ) (v : View) (r : BestRecord) (s : Sits p budge
         (seen_more (after_look v best) r.history (moments_of stamp n []) (seen_lower v r.history best s.seen b) (by_visit stamp n [] best (λ q h. absurd (has_none q h))))
         (few_up v.drawn (length (visits_in r.history)) (length rest) (length (visits_in (r.history ++ moments_of stamp n []))) s.drawn (one_visit r.history stamp n [])) s.raised
         (in_time v.late number v.limit budget s.late s.limit lt, met, refl)
+
+-- ---- calls of the board
+
+-- the seat raised the halt of a cause, and the shard has ended by it
+pub record Halts (board : BoardFacts) (old : SeatFacts) (cause : HaltCause) (end : BestEnded) (new : SeatFacts) : Type 0 where
+  pub ended : end ≡ ends.Halted cause
+  pub on_board : IsSeatOf board new
+  pub view : new.view ≡ after_halt old.view (halt_number cause)

@@ -1,4 +1,4 @@
--- What the shards of a search left when no thread turned them any more, and what was known of the whole seat before the search.
+-- What the shards of a search left when it had ended, and what was known of the whole seat before the search.
 use Rattle.std.specs.Prelude.{◌≡◌, ℕ, ◌+◌, ◌-◌, ◌<◌, ◌≤◌, ◌⊎◌, min, Bool, false, List, length, slice_get, Some}
 use Rattle.best_ledger.specs.Histories.{visits_in}
 use Rattle.best_ledger.specs.Laws.{AllDone}
@@ -6,8 +6,8 @@ use Rattle.best_ledger.specs.Records.{record_of, Together, HasArrived}
 use Rattle.best_ledger.specs.Searches.{BestSearch, pass_of}
 use Rattle.best_ledger.specs.declared.records.BestRecord.{BestRecord}
 use Rattle.best_shard.specs.declared.shard.BestShardEnd.{BestShardEnd}
-use Rattle.best_turns.specs.Turners.{Sat}
-use Rattle.best_turns.specs.declared.turner.BestEnded.{BestEnded}
+use Rattle.best_seats.specs.Seats.{Sat}
+use Rattle.best_seats.specs.declared.ended.BestEnded.{BestEnded}
 use Rattle.best_ends.specs.Left.{AreEnds}
 use Rattle.board_words.specs.Rules.{no_word, IsWhole}
 use Rattle.board_words.specs.Seats.{SeatFacts}

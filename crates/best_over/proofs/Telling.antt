@@ -10,8 +10,8 @@ use Rattle.best_ends.specs.Left.{AreEnds, AreLeft, HasFault}
 use Rattle.best_ends.specs.declared.answers.BestEnd.{BestEnd}
 use Rattle.best_ends.specs.declared.answers.BestEnd.TheVariants as answers
 use Rattle.best_ends.specs.declared.tally.BestTally.{BestTally}
-use Rattle.best_first.specs.Lefts.{HaveClosed, HaveHalted, IsOver}
-use Rattle.best_first.proofs.Places.{there}
+use Rattle.best_over.specs.Lefts.{HaveClosed, HaveHalted, IsOver}
+use Rattle.best_over.proofs.Places.{there}
 use Rattle.best_ledger.specs.Histories.{visits_in}
 use Rattle.best_ledger.specs.Laws.{AllDone, PrunesAbove, known_pairs, pair_of, priced, visits_of}
 use Rattle.best_ledger.specs.Ledgers.{IsBest}
@@ -20,9 +20,9 @@ use Rattle.best_ledger.specs.Searches.{BestSearch, pass_of}
 use Rattle.best_ledger.specs.declared.records.BestRecord.{BestRecord}
 use Rattle.best_ledger.proofs.Pairs.{counted_law}
 use Rattle.best_shard.specs.declared.shard.BestShardEnd.{BestShardEnd}
-use Rattle.best_turns.specs.Turners.{HasEnded, Sat}
-use Rattle.best_turns.specs.declared.turner.BestEnded.{BestEnded}
-use Rattle.best_turns.specs.declared.turner.BestEnded.TheVariants as endings
+use Rattle.best_seats.specs.Seats.{HasEnded, Sat}
+use Rattle.best_seats.specs.declared.ended.BestEnded.{BestEnded}
+use Rattle.best_seats.specs.declared.ended.BestEnded.TheVariants as endings
 use Rattle.board_words.specs.Rules.{no_word, IsWhole}
 use Rattle.board_words.specs.Seats.{SeatFacts}
 use Rattle.board_words.specs.Steps.{best_known, IsBestFor, IsCountFor, IsCauseFor}

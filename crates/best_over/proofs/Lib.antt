@@ -1,0 +1,4 @@
+pub mod Places
+pub mod Telling
+pub mod Starting
+pub mod Running
