@@ -2,9 +2,11 @@
 //! is known of all lists.
 #![tactic(auto)]
 
+mod alone;
 mod printing;
 mod runs;
 mod solving;
 
+pub use alone::solve_best_alone;
 pub use run_ends::{Solved, Status};
 pub use solving::solve_best;
