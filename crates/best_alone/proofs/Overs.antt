@@ -115,7 +115,7 @@ module _ {A B : Type 0} (p : Pass) (board : BoardFacts) (end : BestEnded) (s : B
     sat = λ i x at.
         let z = one_at seat x i at in
         (end, subst (λ (k : ℕ). Sat p end x.view (record_of (r ∷ []) k)) (sym z.0) (subst (λ (y : SeatFacts). Sat p end y.view r) z.1 l.sat));
-    fate = λ _. elim l.fate [ | inl lt ↦ inl (have_halted lt) | inr c ↦ inr (have_closed c) ];
+    fate = λ _. elim l.fate [ inl lt ↦ inl (have_halted lt) | inr c ↦ inr (have_closed c) ];
   }
 
 -- ---- the seat is joined again
