@@ -1,4 +1,4 @@
-use Rattle.std.proofs.Common.{rules, ◌∙◌}
+use Rattle.std.proofs.Common.{rules}
 use Rattle.solve_best.proofs.AtTarget.{no_memory}
 use Rattle.solve_best.proofs.Searched.{searched}
 use Rattle.solve_best.proofs.alone.search_alone.Goals as goal
