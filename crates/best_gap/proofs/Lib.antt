@@ -1,0 +1,4 @@
+pub mod Frontier
+pub mod Backwards
+pub mod Bounds
+pub mod Worked

@@ -1,0 +1,3 @@
+pub mod Frontiers
+pub mod Laws
+pub mod Worked
