@@ -2,7 +2,7 @@
 
 ghost use Rattle.std.specs.Prelude.{None};
 
-use crate::texts::{TOUR, TOUR_FOUND, TOUR_OF_FOUR, TOUR_SHOWN, TOUR_STEPS};
+use crate::texts::{CLIMB, FROM_BELOW, TOUR, TOUR_FOUND, TOUR_OF_FOUR, TOUR_SHOWN, TOUR_STEPS};
 use dp_outside::{Failed, MemShelf, OpenGate, Sink};
 use solve_top::run;
 use std::alloc::{AllocError, Global};
@@ -30,7 +30,7 @@ static UNREAD: [&str; 6] = [
 ];
 
 /// Each of them ends with status 0.
-static ROWS: [Row; 6] = [
+static ROWS: [Row; 7] = [
     Row {
         words: "solve d p --prune off",
         texts: [TWO_WAYS, FROM_ZERO, ""],
@@ -46,6 +46,15 @@ static ROWS: [Row; 6] = [
         printed: concat!(
             "announce 11\nsolution 11 2\np\ne\nannounced 1 refused 0\npass 1 share 1 visited 2 dropped 1\n",
             "announce 3\nsolution 3 2\nq\nd\nannounced 1 refused 0\npass 2 share 2 visited 3 dropped 0\nverdict optimal 3\n",
+        ),
+        reads: 4,
+    },
+    Row {
+        words: "solve d p --prune off --announce on",
+        texts: [CLIMB, FROM_BELOW, ""],
+        printed: concat!(
+            "announce 7\nannounce 6\nsolution 6 3\ninc\ninc\ninc\nannounced 2 refused 0\n",
+            "pass 1 share 1 visited 3 dropped 0\nverdict optimal 6\n",
         ),
         reads: 4,
     },

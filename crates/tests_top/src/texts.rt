@@ -1,4 +1,4 @@
-//! Texts of a tour with time windows, and what runs print.
+//! Texts of a tour with time windows and of a climb, and what runs print.
 
 /// A tour through customers, each of whom is to be visited within a time.
 pub(crate) const TOUR: &str = concat!(
@@ -34,6 +34,17 @@ pub(crate) const TOUR_FOUND: &str = concat!(
     "solution 16 4\nvisit 1\nvisit 2\nvisit 3\nreturn\npass 1 share 1 visited 4 dropped 1\nsolution 14 4\nvisit 2\n",
     "visit 3\nvisit 1\nreturn\npass 2 share 2 visited 6 dropped 1\npass 3 share 4 visited 4 dropped 0\nverdict optimal 14\n",
 );
+
+/// A jump, and a climb of three steps that costs less and is found later.
+pub(crate) const CLIMB: &str = concat!(
+    "domain: a\nstate_variables:\n  - name: x\n    type: integer\ntransitions:\n",
+    "  - name: inc\n    preconditions:\n      - (< x 3)\n    effects:\n      x: (+ x 1)\n    cost: (+ cost 2)\n",
+    "  - name: jump\n    preconditions:\n      - (= x 0)\n    effects:\n      x: 3\n    cost: (+ cost 7)\n",
+    "base_cases:\n  - - (= x 3)\n",
+);
+
+/// The problem that starts below.
+pub(crate) const FROM_BELOW: &str = "domain: a\nproblem: one\ntarget:\n  x: 0\n";
 
 /// What is shown of the tour.
 pub(crate) const TOUR_SHOWN: &str = concat!(

@@ -3,7 +3,7 @@
 ghost use Rattle.std.specs.Prelude.{None};
 
 use crate::gates::WaitingGate;
-use dp_outside::{MemShelf, MemSink};
+use dp_outside::{FineShelf, FineSink};
 use solve_top::run;
 use std::alloc::{AllocError, Global};
 use std::sync::Wait;
@@ -25,8 +25,8 @@ fn words_of(alloc: Global, text: &str) -> Result<Vec<String>, AllocError> {
     Ok(words)
 }
 
-fn shelf_of(alloc: Global, texts: &Texts) -> Result<MemShelf, AllocError> {
-    let mut shelf = MemShelf::new(alloc);
+fn shelf_of(alloc: Global, texts: &Texts) -> Result<FineShelf, AllocError> {
+    let mut shelf = FineShelf::new(alloc);
     shelf.put("d", &texts.domain)?;
     shelf.put("p", &texts.problem)?;
     Ok(shelf)
@@ -52,7 +52,7 @@ pub(crate) fn search<R: Threads + Wait + Sync>(
 ) -> Result<String, AllocError> {
     let words = words_of(alloc, words)?;
     let mut shelf = shelf_of(alloc, texts)?;
-    let mut sink = MemSink::new(alloc);
+    let mut sink = FineSink::new(alloc);
     run(rt, alloc, &words, &mut shelf, &mut sink, gate);
     match str::from_utf8(sink.bytes().unwrap_or(b"nothing told\n")) {
         Ok(text) => String::from_str(alloc, verdict_in(text)),
