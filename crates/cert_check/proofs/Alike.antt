@@ -22,10 +22,13 @@ use Rattle.spot_eval.specs.declared.looks.Look.{Look}
 use Rattle.spot_eval.specs.declared.looks.Look.TheVariants as looks
 use Rattle.cert_types.specs.declared.cert.Cert.{Cert}
 use Rattle.cert_types.specs.declared.nodes.CertNode.{CertNode}
-use Rattle.cert_laws.specs.Checks.{covering, cut_fails, first_of, if_stands, is_covered, is_high, looked_fails, moved, must, node_fails, node_fails_at, step_fails, step_fails_if, successor_fails, taken_fails, unless_fault}
+use Rattle.cert_laws.specs.Checks.{covering, cut_fails, first_of, if_stands, is_covered, is_high, looked_fails, moved, must, step_fails, step_fails_if, successor_fails, taken_fails, unless_fault}
 use Rattle.cert_laws.specs.declared.answers.CertReason.{CertReason}
 use Rattle.cert_laws.specs.declared.answers.CertReason.TheVariants as reasons
-use Rattle.cert_check.specs.Looked.{AreFound, CoverAlike, found, kept_before, pasts, with_new}
+use Rattle.cert_laws.specs.PartChecks.{node_fails_in, part_fails_at}
+use Rattle.cert_types.specs.Places.{nodes_before}
+use Rattle.cert_check.specs.Looked.{AreFound, CoverAlike, found, has_in_layer, kept_before, pasts, with_new}
+use Rattle.cert_check.specs.declared.shares.Share.{Share}
 use Rattle.cert_check.specs.declared.standings.Standing.{Standing}
 use Rattle.cert_check.proofs.Rows.{fails_at}
 use Rattle.std.specs.Prelude.{slice_get}
@@ -152,15 +155,15 @@ module _ (m : Model) (cert : Cert) (past nodes : List PastNode) (alike : CoverAl
   first_alike f g [] h = refl
   first_alike f g (x ∷ xs) h = rw (h x, first_alike f g xs h) refl
 
-  node_alike : (n : CertNode) (r : Result Reached CertReason) → node_fails_at m cert past n r ≡ node_fails_at m cert nodes n r
-  node_alike n (Err reason) = refl
-  node_alike n (Ok here) =
-      ap (λ (steps : Option CertReason). if n.cut then cut_fails m cert here else steps)
+  part_alike : (looked : Bool) (n : CertNode) (r : Result Reached CertReason) → part_fails_at m cert past looked n r ≡ part_fails_at m cert nodes looked n r
+  part_alike looked n (Err reason) = refl
+  part_alike looked n (Ok here) =
+      ap (λ (steps : Option CertReason). if n.cut then cut_fails m cert here else (if looked then steps else None))
       (first_alike (step_fails m cert past here) (step_fails m cert nodes here) _ (λ g. step_if_alike here g (may_step_at m here.state g)))
 
--- the clauses at the line of a node, by nodes that cover alike
-pub fails_alike : (m : Model) (cert : Cert) (prune : Bool) (l : ℕ) (here : List Standing) (past : List PastNode) (p : ℕ) (n : CertNode) (s : Standing) → prune ≡ cert.prune → AreFound m cert l here → CoverAlike m prune past (covering m cert cert.keep (l + 1)) → slice_get here p ≡ Some s
-    → node_fails_at m cert past n (found s) ≡ node_fails m cert l p n
-fails_alike m cert prune l here past p n s on e alike at =
-    node_alike m cert past (covering m cert cert.keep (l + 1)) (alike_by m prune cert.prune past (covering m cert cert.keep (l + 1)) on alike) n (found s)
-    ∙ fails_at m cert l here (covering m cert cert.keep (l + 1)) p n s e refl at
+-- the clauses at the line of a node in a part, by nodes that cover alike
+pub fails_alike : (m : Model) (cert : Cert) (prune : Bool) (share : Share) (l : ℕ) (here : List Standing) (past : List PastNode) (p : ℕ) (n : CertNode) (s : Standing) → prune ≡ cert.prune → AreFound m cert l here → share.before ≡ nodes_before cert.layers l
+    → CoverAlike m prune past (covering m cert cert.keep (l + 1)) → slice_get here p ≡ Some s → part_fails_at m cert past (has_in_layer share p) n (found s) ≡ node_fails_in share.part m cert l p n
+fails_alike m cert prune share l here past p n s on e before alike at =
+    part_alike m cert past (covering m cert cert.keep (l + 1)) (alike_by m prune cert.prune past (covering m cert cert.keep (l + 1)) on alike) (has_in_layer share p) n (found s)
+    ∙ fails_at m cert share l here p n s e before at

@@ -16,13 +16,17 @@ use Rattle.dp_model.specs.declared.whole.Model.{Model}
 use Rattle.dom_store.specs.declared.past_node.PastNode.{PastNode}
 use Rattle.replay_list.specs.declared.replayed.Reached.{Reached}
 use Rattle.cert_types.specs.Lines.{line_of_end, line_of_layer, lines_of_layer, lines_of_list, line_of_node}
+use Rattle.cert_types.specs.Places.{IsPart, has_place, nodes_before}
 use Rattle.cert_types.specs.Parents.{are_made, has_parent, have_parents_from, is_made, is_start}
 use Rattle.cert_types.specs.declared.cert.Cert.{Cert}
 use Rattle.cert_types.specs.declared.nodes.CertNode.{CertNode}
 use Rattle.cert_types.specs.declared.nodes.CertStep.{CertStep}
+use Rattle.cert_types.specs.declared.parts.CheckPart.{CheckPart}
 use Rattle.cert_laws.specs.Shown.{layer_of, list_by, list_of, made_at}
-use Rattle.cert_laws.specs.Checks.{covering, if_stands, layer_told, layers_told, node_at, node_fails, node_fails_at, standing, standing_up_to, start, stepped, then_told, walked}
-use Rattle.cert_check.specs.Looked.{AllFit, AreFound, StandingFits, found, found_in, kept_before, pasts, stood}
+use Rattle.cert_laws.specs.Checks.{covering, if_stands, node_at, standing, standing_up_to, start, stepped, then_told, walked}
+use Rattle.cert_laws.specs.PartChecks.{layer_told_in, layers_told_in, node_fails_in, part_fails_at}
+use Rattle.cert_check.specs.Looked.{AllFit, AreFound, IsShareOf, StandingFits, found, found_in, has_in_layer, kept_before, pasts, stood}
+use Rattle.cert_check.specs.declared.shares.Share.{Share}
 use Rattle.cert_laws.specs.declared.answers.CertReason.{CertReason}
 use Rattle.cert_laws.specs.declared.answers.CertReason.TheVariants as reasons
 use Rattle.cert_laws.specs.declared.answers.Checked.TheVariants.{Yes, No}
@@ -166,9 +170,11 @@ standing_at m cert l here p s e at =
     sym (ap found (get_or_from_slice_get here p s (Fails reasons.Node) at)) ∙ found_at m cert l here p e lt
 
 -- so the clauses at its line are looked at there
-pub fails_at : (m : Model) (cert : Cert) (l : ℕ) (here : List Standing) (past : List PastNode) (p : ℕ) (n : CertNode) (s : Standing) → AreFound m cert l here → past ≡ covering m cert cert.keep (l + 1) → slice_get here p ≡ Some s
-    → node_fails_at m cert past n (found s) ≡ node_fails m cert l p n
-fails_at m cert l here past p n s e f at = ap (λ (nodes : List PastNode). node_fails_at m cert nodes n (found s)) f ∙ ap (node_fails_at m cert (covering m cert cert.keep (l + 1)) n) (standing_at m cert l here p s e at)
+pub fails_at : (m : Model) (cert : Cert) (share : Share) (l : ℕ) (here : List Standing) (p : ℕ) (n : CertNode) (s : Standing) → AreFound m cert l here → share.before ≡ nodes_before cert.layers l → slice_get here p ≡ Some s
+    → part_fails_at m cert (covering m cert cert.keep (l + 1)) (has_in_layer share p) n (found s) ≡ node_fails_in share.part m cert l p n
+fails_at m cert share l here p n s e before at =
+    ap (part_fails_at m cert (covering m cert cert.keep (l + 1)) (has_in_layer share p) n) (standing_at m cert l here p s e at)
+    ∙ ap (λ (k : ℕ). part_fails_at m cert (covering m cert cert.keep (l + 1)) (has_place share.part (k + p)) n (node_at m cert l p)) before
 
 -- where the nodes of the next layer stand, by those of this one
 pub stood_next : (m : Model) (cert : Cert) (l next : ℕ) (here : List Standing) → next ≡ suc l → AreFound m cert l here → map (λ (n : CertNode). stood m here n.made) (layer_of cert.layers next) ≡ found_in m cert next
@@ -289,22 +295,22 @@ first_line cert =
 
 -- ---- what is told
 
-abbrev Fine : Model → Cert → (l : ℕ) → ℕ → CertNode → Type 0
-Fine m cert l place n = node_fails m cert l place n ≡ None
+abbrev Fine : CheckPart → Model → Cert → (l : ℕ) → ℕ → CertNode → Type 0
+Fine part m cert l place n = node_fails_in part m cert l place n ≡ None
 
-told_from : (m : Model) (cert : Cert) (l place i : ℕ) (n : CertNode) (reason : CertReason) (ns : List CertNode) → ((k : ℕ) (x : CertNode) → k < i → slice_get ns k ≡ Some x → Fine m cert l (place + k) x)
-    → slice_get ns i ≡ Some n → node_fails m cert l (place + i) n ≡ Some reason → layer_told m cert l place ns ≡ No (line_of_node cert.first cert.claim cert.layers l (place + i)) reason
-told_from m cert l place i n reason [] fine at fails = let no : None ≡ Some n = at in absurd (cc)
-told_from m cert l place zero n reason (x ∷ ns) fine at fails =
+told_from : (part : CheckPart) (m : Model) (cert : Cert) (l place i : ℕ) (n : CertNode) (reason : CertReason) (ns : List CertNode) → ((k : ℕ) (x : CertNode) → k < i → slice_get ns k ≡ Some x → Fine part m cert l (place + k) x)
+    → slice_get ns i ≡ Some n → node_fails_in part m cert l (place + i) n ≡ Some reason → layer_told_in part m cert l place ns ≡ No (line_of_node cert.first cert.claim cert.layers l (place + i)) reason
+told_from part m cert l place i n reason [] fine at fails = let no : None ≡ Some n = at in absurd (cc)
+told_from part m cert l place zero n reason (x ∷ ns) fine at fails =
     let same : x ≡ n = cc in
     let zero_more : place ≡ place + 0 = omega arith in
-    let here : node_fails m cert l place x ≡ Some reason = subst (λ (y : CertNode). node_fails m cert l place y ≡ Some reason) (sym same) (subst (λ (k : ℕ). node_fails m cert l k n ≡ Some reason) (sym zero_more) fails) in
+    let here : node_fails_in part m cert l place x ≡ Some reason = subst (λ (y : CertNode). node_fails_in part m cert l place y ≡ Some reason) (sym same) (subst (λ (k : ℕ). node_fails_in part m cert l k n ≡ Some reason) (sym zero_more) fails) in
     rw here (ap (λ (k : ℕ). No (line_of_node cert.first cert.claim cert.layers l k) reason) zero_more)
-told_from m cert l place (suc i) n reason (x ∷ ns) fine at fails =
+told_from part m cert l place (suc i) n reason (x ∷ ns) fine at fails =
     let zero_more : place + 0 ≡ place = omega arith in
-    let here : node_fails m cert l place x ≡ None = subst (λ (k : ℕ). Fine m cert l k x) zero_more (fine 0 x (positive i) refl) in
+    let here : node_fails_in part m cert l place x ≡ None = subst (λ (k : ℕ). Fine part m cert l k x) zero_more (fine 0 x (positive i) refl) in
     let e : place + 1 + i ≡ place + suc i = omega arith in
-    let rest = told_from m cert l (place + 1) i n reason ns (λ k y lt at'. subst (λ (j : ℕ). Fine m cert l j y) (shift place k) (fine (suc k) y (more k i lt) at')) at (subst (λ (j : ℕ). node_fails m cert l j n ≡ Some reason) (sym e) fails) in
+    let rest = told_from part m cert l (place + 1) i n reason ns (λ k y lt at'. subst (λ (j : ℕ). Fine part m cert l j y) (shift place k) (fine (suc k) y (more k i lt) at')) at (subst (λ (j : ℕ). node_fails_in part m cert l j n ≡ Some reason) (sym e) fails) in
     rw here (rest ∙ ap (λ (k : ℕ). No (line_of_node cert.first cert.claim cert.layers l k) reason) e)
   where
     positive : (i : ℕ) → 0 < suc i
@@ -317,25 +323,25 @@ told_from m cert l place (suc i) n reason (x ∷ ns) fine at fails =
     more k i lt = omega arith
 
 -- the first node whose line is rejected
-pub layer_no : (m : Model) (cert : Cert) (l i : ℕ) (n : CertNode) (reason : CertReason) (ns : List CertNode) → ((k : ℕ) (x : CertNode) → k < i → slice_get ns k ≡ Some x → Fine m cert l k x)
-    → slice_get ns i ≡ Some n → node_fails m cert l i n ≡ Some reason → layer_told m cert l 0 ns ≡ No (line_of_node cert.first cert.claim cert.layers l i) reason
-layer_no m cert l i n reason ns fine at fails =
+pub layer_no : (part : CheckPart) (m : Model) (cert : Cert) (l i : ℕ) (n : CertNode) (reason : CertReason) (ns : List CertNode) → ((k : ℕ) (x : CertNode) → k < i → slice_get ns k ≡ Some x → Fine part m cert l k x)
+    → slice_get ns i ≡ Some n → node_fails_in part m cert l i n ≡ Some reason → layer_told_in part m cert l 0 ns ≡ No (line_of_node cert.first cert.claim cert.layers l i) reason
+layer_no part m cert l i n reason ns fine at fails =
     let e : 0 + i ≡ i = omega arith in
-    told_from m cert l 0 i n reason ns (λ k x lt at'. subst (λ (j : ℕ). Fine m cert l j x) (zero_plus k) (fine k x lt at')) at (subst (λ (j : ℕ). node_fails m cert l j n ≡ Some reason) (sym e) fails)
+    told_from part m cert l 0 i n reason ns (λ k x lt at'. subst (λ (j : ℕ). Fine part m cert l j x) (zero_plus k) (fine k x lt at')) at (subst (λ (j : ℕ). node_fails_in part m cert l j n ≡ Some reason) (sym e) fails)
     ∙ ap (λ (k : ℕ). No (line_of_node cert.first cert.claim cert.layers l k) reason) e
   where
     zero_plus : (k : ℕ) → k ≡ 0 + k
     zero_plus k = omega arith
 
 -- the lines so far and this one are not rejected
-pub fine_more : (m : Model) (cert : Cert) (l place : ℕ) (ns : List CertNode) (n : CertNode) → ((k : ℕ) (x : CertNode) → k < place → slice_get ns k ≡ Some x → Fine m cert l k x) → slice_get ns place ≡ Some n → node_fails m cert l place n ≡ None
-    → (k : ℕ) (x : CertNode) → k < place + 1 → slice_get ns k ≡ Some x → Fine m cert l k x
-fine_more m cert l place ns n fine at none k x lt at' =
+pub fine_more : (part : CheckPart) (m : Model) (cert : Cert) (l place : ℕ) (ns : List CertNode) (n : CertNode) → ((k : ℕ) (x : CertNode) → k < place → slice_get ns k ≡ Some x → Fine part m cert l k x) → slice_get ns place ≡ Some n → node_fails_in part m cert l place n ≡ None
+    → (k : ℕ) (x : CertNode) → k < place + 1 → slice_get ns k ≡ Some x → Fine part m cert l k x
+fine_more part m cert l place ns n fine at none k x lt at' =
     elim (below_or k place lt) [
       | inl less ↦ fine k x less at'
       | inr e ↦ (
           let there : slice_get ns place ≡ Some x = subst (λ (j : ℕ). slice_get ns j ≡ Some x) e at' in
-          subst (λ (j : ℕ). node_fails m cert l j x ≡ None) (sym e) (subst (λ (y : CertNode). node_fails m cert l place y ≡ None) (same_one n x (sym at ∙ there)) none))
+          subst (λ (j : ℕ). node_fails_in part m cert l j x ≡ None) (sym e) (subst (λ (y : CertNode). node_fails_in part m cert l place y ≡ None) (same_one n x (sym at ∙ there)) none))
     ]
   where
     below_or : (k i : ℕ) → k < i + 1 → (k < i) ⊎ (k ≡ i)
@@ -344,19 +350,19 @@ fine_more m cert l place ns n fine at none k x lt at' =
     same_one : (n x : CertNode) → Some n ≡ Some x → n ≡ x
     same_one n x e = cc
 
-yes_from : (m : Model) (cert : Cert) (l place : ℕ) (ns : List CertNode) → ((k : ℕ) (x : CertNode) → slice_get ns k ≡ Some x → Fine m cert l (place + k) x) → layer_told m cert l place ns ≡ Yes
-yes_from m cert l place [] fine = refl
-yes_from m cert l place (x ∷ ns) fine =
+yes_from : (part : CheckPart) (m : Model) (cert : Cert) (l place : ℕ) (ns : List CertNode) → ((k : ℕ) (x : CertNode) → slice_get ns k ≡ Some x → Fine part m cert l (place + k) x) → layer_told_in part m cert l place ns ≡ Yes
+yes_from part m cert l place [] fine = refl
+yes_from part m cert l place (x ∷ ns) fine =
     let zero_more : place + 0 ≡ place = omega arith in
-    let here : node_fails m cert l place x ≡ None = subst (λ (k : ℕ). Fine m cert l k x) zero_more (fine 0 x refl) in
-    rw here (yes_from m cert l (place + 1) ns (λ k y at. subst (λ (j : ℕ). Fine m cert l j y) (shift place k) (fine (suc k) y at)))
+    let here : node_fails_in part m cert l place x ≡ None = subst (λ (k : ℕ). Fine part m cert l k x) zero_more (fine 0 x refl) in
+    rw here (yes_from part m cert l (place + 1) ns (λ k y at. subst (λ (j : ℕ). Fine part m cert l j y) (shift place k) (fine (suc k) y at)))
   where
     shift : (place k : ℕ) → place + suc k ≡ place + 1 + k
     shift place k = omega arith
 
 -- no node's line is rejected
-pub layer_yes : (m : Model) (cert : Cert) (l n : ℕ) (ns : List CertNode) → ((k : ℕ) (x : CertNode) → k < n → slice_get ns k ≡ Some x → Fine m cert l k x) → length ns ≤ n → Yes ≡ layer_told m cert l 0 ns
-layer_yes m cert l n ns fine le = sym (yes_from m cert l 0 ns (λ k x at. subst (λ (j : ℕ). Fine m cert l j x) (zero_plus k) (fine k x (within k x at) at)))
+pub layer_yes : (part : CheckPart) (m : Model) (cert : Cert) (l n : ℕ) (ns : List CertNode) → ((k : ℕ) (x : CertNode) → k < n → slice_get ns k ≡ Some x → Fine part m cert l k x) → length ns ≤ n → Yes ≡ layer_told_in part m cert l 0 ns
+layer_yes part m cert l n ns fine le = sym (yes_from part m cert l 0 ns (λ k x at. subst (λ (j : ℕ). Fine part m cert l j x) (zero_plus k) (fine k x (within k x at) at)))
   where
     zero_plus : (k : ℕ) → k ≡ 0 + k
     zero_plus k = omega arith
@@ -369,8 +375,24 @@ pub line_fits : (cert : Cert) (l line place : ℕ) → l < length cert.layers �
 line_fits cert l line place lt e within = let next = (next_line cert l line lt e).1 in omega (arith, next, within)
 
 -- the layers that are left, from one on
-pub layers_step : (m : Model) (cert : Cert) (l : ℕ) (layers : List (List CertNode)) → l < length layers → layers_told m cert l (drop l layers) ≡ then_told (layer_told m cert l 0 (layer_of layers l)) (layers_told m cert (l + 1) (drop (l + 1) layers))
-layers_step m cert l layers lt = ap (layers_told m cert l) (drop-cons layers l [] lt ∙ ap (λ (k : ℕ). layer_of layers l ∷ drop k layers) (suc_is l))
+pub layers_step : (part : CheckPart) (m : Model) (cert : Cert) (l : ℕ) (layers : List (List CertNode)) → l < length layers → layers_told_in part m cert l (drop l layers) ≡ then_told (layer_told_in part m cert l 0 (layer_of layers l)) (layers_told_in part m cert (l + 1) (drop (l + 1) layers))
+layers_step part m cert l layers lt = ap (layers_told_in part m cert l) (drop-cons layers l [] lt ∙ ap (λ (k : ℕ). layer_of layers l ∷ drop k layers) (suc_is l))
   where
     suc_is : (l : ℕ) → suc l ≡ l + 1
     suc_is l = omega arith
+
+-- ---- the nodes before a layer
+
+pub none_before : (cert : Cert) → 0 ≡ nodes_before cert.layers 0
+none_before cert = refl
+
+-- one layer more
+pub before_more : (cert : Cert) (l before : ℕ) → l < length cert.layers → before ≡ nodes_before cert.layers l → before + length (layer_of cert.layers l) ≡ nodes_before cert.layers (l + 1)
+before_more cert l before lt e = let more = sum_by_more (λ (nodes : List CertNode). length nodes) cert.layers l [] lt in omega (arith, more, e)
+
+-- the nodes before a layer are fewer than the lines before it, so the places of its nodes stay below 2^32
+pub before_fits : (cert : Cert) (l line before : ℕ) → l < length cert.layers → line ≡ line_of_layer cert.first cert.claim cert.layers l → before ≤ line → (before + length (layer_of cert.layers l) ≤ line + (1 + length (layer_of cert.layers l))) × (before + length (layer_of cert.layers l) < 2 ^ 32)
+before_fits cert l line before lt e le = let next = (next_line cert l line lt e).1 in (omega (arith, le), omega (arith, le, next))
+
+pub is_share : (cert : Cert) (part : CheckPart) (l line before : ℕ) → IsPart part → l < length cert.layers → line ≡ line_of_layer cert.first cert.claim cert.layers l → before ≤ line → IsShareOf (record { part = part; before = before }) (layer_of cert.layers l)
+is_share cert part l line before is lt e le = (is, (before_fits cert l line before lt e le).1)

@@ -1,5 +1,5 @@
 -- What a looker is of, and what nodes stand for.
-use Rattle.std.specs.Prelude.{◌<◌, ◌++◌, ◌∷◌, if◌then◌else◌, Bool, true, false, ℤ, int_le, ◌≡◌, ℕ, List, [], length, map, get_or, slice_get, Option, Some, None, Result, Ok, Err}
+use Rattle.std.specs.Prelude.{◌+◌, ◌<◌, ◌^◌, ◌++◌, ◌∷◌, if◌then◌else◌, Bool, true, false, ℤ, int_le, ◌≡◌, ℕ, List, [], length, map, get_or, slice_get, Option, Some, None, Result, Ok, Err}
 use Rattle.std.specs.List.{flat_map, range_with_len}
 use Rattle.dp_base.specs.Results.{◌>>=◌}
 use Rattle.dp_model.specs.declared.parts.PlainState.{PlainState}
@@ -13,10 +13,12 @@ use Rattle.dp_model.specs.declared.answers.Keep.TheVariants.{Layer, All}
 use Rattle.cert_types.specs.declared.cert.Cert.{Cert}
 use Rattle.cert_types.specs.declared.nodes.CertNode.{CertNode}
 use Rattle.cert_types.specs.declared.nodes.CertStep.{CertStep}
+use Rattle.cert_types.specs.Places.{IsPart, has_place}
 use Rattle.cert_laws.specs.Shown.{layer_of}
 use Rattle.cert_laws.specs.Checks.{if_stands, is_covered, node_at, start, step_fails, stepped}
 use Rattle.cert_laws.specs.declared.answers.CertReason.{CertReason}
 use Rattle.cert_laws.specs.declared.answers.CertReason.TheVariants as reasons
+use Rattle.cert_check.specs.declared.shares.Share.{Share}
 use Rattle.cert_check.specs.declared.standings.Standing.{Standing}
 use Rattle.cert_check.specs.declared.standings.Standing.TheVariants.{Stands, Fails}
 
@@ -73,8 +75,16 @@ abbrev pub pick_fails : Model → Cert → List PastNode → Reached → Option 
 pick_fails m cert past here None = None
 pick_fails m cert past here (Some g) = step_fails m cert past here g
 
--- the node at a place is open, and stands for the same state at the same cost so far as an open one before it
-pub record IsCopy (nodes : List CertNode) (standings : List Standing) (place : ℕ) : Type 0 where
+-- the part has the node at this place of the layer
+abbrev pub has_in_layer : Share → (place : ℕ) → Bool
+has_in_layer share place = has_place share.part (share.before + place)
+
+-- the share is that of a part, and the places of these nodes in the text stay below 2^32
+abbrev pub IsShareOf : Share → List CertNode → Type 0
+IsShareOf share nodes = IsPart share.part × (share.before + length nodes < 2 ^ 32)
+
+-- the node at a place is open, and stands for the same state at the same cost so far as an open one of the part before it
+pub record IsCopy (share : Share) (nodes : List CertNode) (standings : List Standing) (place : ℕ) : Type 0 where
   pub earlier : ℕ
   pub first : CertNode
   pub copy : CertNode
@@ -88,6 +98,7 @@ pub record IsCopy (nodes : List CertNode) (standings : List Standing) (place : �
   pub open_first : first.cut ≡ false
   pub open_copy : copy.cut ≡ false
   pub same : found found_first ≡ found found_copy
+  pub looked : has_in_layer share earlier ≡ true
 
 -- these cover the same states, at the same costs so far, as those
 abbrev pub CoverAlike : Model → (prune : Bool) → List PastNode → List PastNode → Type 0

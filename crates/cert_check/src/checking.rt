@@ -6,13 +6,15 @@ ghost use Rattle.cost_laws.specs.Orders.{IsLawOf};
 ghost use Rattle.dp_model.specs.declared.whole.Model.{Model as DpModel};
 ghost use Rattle.spot_eval.specs.Ranges.{LookFits};
 ghost use Rattle.cert_types.specs.Lines.{lines_of_list};
+ghost use Rattle.cert_types.specs.Places.{IsPart};
 ghost use Rattle.cert_laws.specs.Checks.{checked, claim_fails, is_alone, list_fails, target_fails, target_fails_by};
+ghost use Rattle.cert_laws.specs.PartChecks.{checked_in};
 
 use crate::clauses::{is_high, must};
 use crate::layers::layers_told;
 use crate::looker::{Looker, stack_for};
 use cert_laws::{CertReason, Checked};
-use cert_types::Cert;
+use cert_types::{Cert, CheckPart};
 use cost_laws::{CostLaw, MaxLeast, MaxMost, MaxPlus, MinLeast, MinMost, MinPlus};
 use dom_store::{Covers, Dominating, Exact};
 use dp_model::{Claim, JoinOp, Model};
@@ -97,16 +99,18 @@ fn claim_fails(
     }
 }
 
-/// The check of a certificate by a law of costs and by what covers.
+/// The check of a part of a certificate by a law of costs and by what covers.
 fn check_by<L: CostLaw, K: Covers>(
     alloc: Global,
     model: &Model,
     cert: &Cert,
+    part: CheckPart,
 ) -> Result<Checked, AllocError>
     requires law { IsLawOf model.now L.minimize L.operator }
     requires covering { IsLawOf model.now K.minimize K.operator }
     requires prune { K.prune ≡ cert.now.prune }
-    ensures { IfOk result (λ told. told ≡ checked model.now cert.now) }
+    requires part { IsPart part }
+    ensures { IfOk result (λ told. told ≡ checked_in part model.now cert.now) }
 {
     let looker = Looker::new(alloc, model)?;
     let mut stack = stack_for(alloc, model)?;
@@ -118,18 +122,45 @@ fn check_by<L: CostLaw, K: Covers>(
         let line = cert.first + 3;
         return Ok(Checked::No { line, reason });
     }
-    layers_told::<L, K>(&looker, alloc, cert, &mut stack)
+    layers_told::<L, K>(&looker, alloc, cert, part, &mut stack)
 }
 
-/// The check of a certificate by a law of costs.
-fn check_under<L: CostLaw>(alloc: Global, model: &Model, cert: &Cert) -> Result<Checked, AllocError>
-    requires { IsLawOf model.now L.minimize L.operator }
-    ensures { IfOk result (λ told. told ≡ checked model.now cert.now) }
+/// The check of a part of a certificate by a law of costs.
+fn check_under<L: CostLaw>(
+    alloc: Global,
+    model: &Model,
+    cert: &Cert,
+    part: CheckPart,
+) -> Result<Checked, AllocError>
+    requires law { IsLawOf model.now L.minimize L.operator }
+    requires part { IsPart part }
+    ensures { IfOk result (λ told. told ≡ checked_in part model.now cert.now) }
 {
     if cert.prune {
-        check_by::<L, Dominating<L>>(alloc, model, cert)
+        check_by::<L, Dominating<L>>(alloc, model, cert, part)
     } else {
-        check_by::<L, Exact<L>>(alloc, model, cert)
+        check_by::<L, Exact<L>>(alloc, model, cert, part)
+    }
+}
+
+/// Checks a part of a certificate: yes exactly where it shows its claim in the part, and else the first line of the file at which it fails
+/// there, in the order of the text, and why.
+pub fn check_part(
+    alloc: Global,
+    model: &Model,
+    cert: &Cert,
+    part: CheckPart,
+) -> Result<Checked, AllocError>
+    requires { IsPart part }
+    ensures { IfOk result (λ told. told ≡ checked_in part model.now cert.now) }
+{
+    match (model.minimize(), model.join()) {
+        (true, JoinOp::Plus) => check_under::<MinPlus>(alloc, model, cert, part),
+        (true, JoinOp::Most) => check_under::<MinMost>(alloc, model, cert, part),
+        (true, JoinOp::Least) => check_under::<MinLeast>(alloc, model, cert, part),
+        (false, JoinOp::Plus) => check_under::<MaxPlus>(alloc, model, cert, part),
+        (false, JoinOp::Most) => check_under::<MaxMost>(alloc, model, cert, part),
+        (false, JoinOp::Least) => check_under::<MaxLeast>(alloc, model, cert, part),
     }
 }
 
@@ -138,12 +169,5 @@ fn check_under<L: CostLaw>(alloc: Global, model: &Model, cert: &Cert) -> Result<
 pub fn check(alloc: Global, model: &Model, cert: &Cert) -> Result<Checked, AllocError>
     ensures { IfOk result (λ told. told ≡ checked model.now cert.now) }
 {
-    match (model.minimize(), model.join()) {
-        (true, JoinOp::Plus) => check_under::<MinPlus>(alloc, model, cert),
-        (true, JoinOp::Most) => check_under::<MinMost>(alloc, model, cert),
-        (true, JoinOp::Least) => check_under::<MinLeast>(alloc, model, cert),
-        (false, JoinOp::Plus) => check_under::<MaxPlus>(alloc, model, cert),
-        (false, JoinOp::Most) => check_under::<MaxMost>(alloc, model, cert),
-        (false, JoinOp::Least) => check_under::<MaxLeast>(alloc, model, cert),
-    }
+    check_part(alloc, model, cert, CheckPart::whole())
 }

@@ -9,7 +9,8 @@ ghost use Rattle.cost_laws.specs.Orders.{InWideRange, IsLawOf};
 ghost use Rattle.state_layout.specs.Conditions.{IsLayoutOf, IsNodeOf};
 ghost use Rattle.spot_eval.specs.Moves.{first_enabled, forced_of, is_forced};
 ghost use Rattle.spot_eval.specs.declared.looks.Look.TheVariants as looks;
-ghost use Rattle.cert_laws.specs.Checks.{base_fails, cut_fails, is_high, looked_fails, must, node_fails_at, step_fails, steps_fail, successor_fails, taken_fails};
+ghost use Rattle.cert_laws.specs.Checks.{base_fails, cut_fails, is_high, looked_fails, must, step_fails, steps_fail, successor_fails, taken_fails};
+ghost use Rattle.cert_laws.specs.PartChecks.{part_fails_at};
 ghost use Rattle.cert_check.specs.Looked.{StandingFits, found, is_no_better, pick_fails, reached_by};
 
 use crate::looker::Looker;
@@ -305,13 +306,14 @@ fn steps_fail<L: CostLaw, K: Covers>(
     }
 }
 
-/// Why the line of a node is rejected, if it is.
+/// Why the line of a node is rejected, if it is. The steps from it, if it is open, are looked at or are not.
 pub(crate) fn node_fails<L: CostLaw, K: Covers>(
     looker: &Looker<'_>,
     alloc: Global,
     cert: &Cert,
     past: &PastStore<K>,
     n: CertNode,
+    looked: bool,
     standing: &Standing,
     stack: &mut [u64],
 ) -> Result<Option<CertReason>, AllocError>
@@ -321,15 +323,17 @@ pub(crate) fn node_fails<L: CostLaw, K: Covers>(
     requires layout { IsLayoutOf looker.now past.now.layout }
     requires fits { StandingFits looker.now standing.now }
     requires room { ServesModel looker.now (length stack.old) }
-    ensures { IfOk result (λ fails. fails ≡ node_fails_at looker.now cert.now past.now.nodes n (found standing.now)) }
+    ensures { IfOk result (λ fails. fails ≡ part_fails_at looker.now cert.now past.now.nodes looked n (found standing.now)) }
 {
     match standing {
         Standing::Fails(reason) => Ok(Some(*reason)),
         Standing::Stands(here) => {
             if n.cut {
                 Ok(cut_fails::<L>(looker, cert, here, stack))
-            } else {
+            } else if looked {
                 steps_fail::<L, K>(looker, alloc, cert, past, here, stack)
+            } else {
+                Ok(None)
             }
         }
     }

@@ -1,14 +1,15 @@
-//! Open nodes of a layer that are copies of earlier ones: of the same state, at the same cost so far. The clauses at the line of such a
-//! node hold where they hold at the earlier one's, so that it needs no look.
+//! Open nodes of a layer that are copies of earlier ones of the same part: of the same state, at the same cost so far. The clauses at the
+//! line of such a node hold where they hold at the earlier one's, so that it needs no look.
 
 ghost use Rattle.std.specs.Prelude.{◌≡◌, ℕ, ◌<◌, true, false, Some, Ok, IfOk, length, slice_get};
 ghost use Rattle.cost_laws.specs.Orders.{IsLawOf};
 ghost use Rattle.state_layout.specs.Conditions.{IsNodeOf};
 ghost use Rattle.cert_types.specs.declared.nodes.CertNode.{CertNode as TheNode};
-ghost use Rattle.cert_check.specs.Looked.{AllFit, IsCopy, StandingFits, found, reached_by};
+ghost use Rattle.cert_check.specs.Looked.{AllFit, IsCopy, IsShareOf, StandingFits, found, has_in_layer, reached_by};
 ghost use Rattle.cert_check.specs.declared.standings.Standing.{Standing as TheStanding};
 
 use crate::looker::Looker;
+use crate::shares::Share;
 use crate::standings::Standing;
 use cert_types::CertNode;
 use cost_laws::CostLaw;
@@ -48,11 +49,12 @@ impl Seen {
     }
 }
 
-/// Whether the node at a place is open and a copy of one before it. One that is open and no copy is looked at from now on.
+/// Whether the node at a place is one of the part, open and a copy of one before it. One that is open and no copy is looked at from now on.
 pub(crate) fn is_copy<L: CostLaw>(
     looker: &Looker<'_>,
     nodes: &[CertNode],
     standings: &[Standing],
+    share: Share,
     seen: &mut Seen,
     place: usize,
 ) -> Result<bool, AllocError>
@@ -60,13 +62,19 @@ pub(crate) fn is_copy<L: CostLaw>(
     requires fits { AllFit looker.now standings.now }
     requires within { place < length nodes.now }
     requires level { length standings.now ≡ length nodes.now }
-    ensures { IfOk result (λ copied. copied ≡ true → IsCopy nodes.now standings.now place) }
+    requires share { IsShareOf share nodes.now }
+    ensures { IfOk result (λ copied. copied ≡ true → IsCopy share nodes.now standings.now place) }
 {
     if nodes[place].cut {
         return Ok(false);
     }
+    if !share.has(place) {
+        return Ok(false);
+    }
     match &standings[place] {
-        Standing::Stands(here) => { is_seen::<L>(looker, nodes, standings, seen, place, here) }
+        Standing::Stands(here) => {
+            is_seen::<L>(looker, nodes, standings, share, seen, place, here)
+        }
         Standing::Fails(_) => Ok(false),
     }
 }
@@ -76,6 +84,7 @@ fn is_seen<L: CostLaw>(
     looker: &Looker<'_>,
     nodes: &[CertNode],
     standings: &[Standing],
+    share: Share,
     seen: &mut Seen,
     place: usize,
     here: &Node,
@@ -83,14 +92,18 @@ fn is_seen<L: CostLaw>(
     requires law { IsLawOf looker.now L.minimize L.operator }
     requires fits { AllFit looker.now standings.now }
     requires here { IsNodeOf looker.now here.now }
-    ensures { IfOk result (λ copied. copied ≡ true → (earlier : ℕ) × (n : TheNode) × (s : TheStanding) × (earlier < place) × (slice_get nodes.now earlier ≡ Some n) × (slice_get standings.now earlier ≡ Some s) × (n.cut ≡ false) × (found s ≡ Ok (reached_by here.now))) }
+    requires within { place < length nodes.now }
+    requires share { IsShareOf share nodes.now }
+    ensures { IfOk result (λ copied. copied ≡ true → (earlier : ℕ) × (n : TheNode) × (s : TheStanding) × (earlier < place) × (slice_get nodes.now earlier ≡ Some n) × (slice_get standings.now earlier ≡ Some s) × (n.cut ≡ false) × (found s ≡ Ok (reached_by here.now)) × (has_in_layer share earlier ≡ true)) }
 {
     let words = words_of::<L>(looker, here);
     let Some(earlier) = seen.place(words) else {
         seen.note(words, place)?;
         return Ok(false);
     };
-    Ok(is_same_at(looker, nodes, standings, earlier, place, here))
+    Ok(is_same_at(
+        looker, nodes, standings, share, earlier, place, here,
+    ))
 }
 
 // the key of a node's state, and the order word of its cost so far
@@ -102,20 +115,26 @@ fn words_of<L: CostLaw>(looker: &Looker<'_>, node: &Node) -> (u64, u64)
     (looker.layout().state_key(&node.state), L::word(node.cost))
 }
 
-// whether an open node stands at an earlier place than this one, for the same state at the same cost so far as this node
+// whether an open node of the part stands at an earlier place than this one, for the same state at the same cost so far as this node
 fn is_same_at(
     looker: &Looker<'_>,
     nodes: &[CertNode],
     standings: &[Standing],
+    share: Share,
     earlier: usize,
     place: usize,
     here: &Node,
 ) -> bool
     requires fits { AllFit looker.now standings.now }
     requires here { IsNodeOf looker.now here.now }
-    ensures { result ≡ true → (n : TheNode) × (s : TheStanding) × (earlier < place) × (slice_get nodes.now earlier ≡ Some n) × (slice_get standings.now earlier ≡ Some s) × (n.cut ≡ false) × (found s ≡ Ok (reached_by here.now)) }
+    requires within { place < length nodes.now }
+    requires share { IsShareOf share nodes.now }
+    ensures { result ≡ true → (n : TheNode) × (s : TheStanding) × (earlier < place) × (slice_get nodes.now earlier ≡ Some n) × (slice_get standings.now earlier ≡ Some s) × (n.cut ≡ false) × (found s ≡ Ok (reached_by here.now)) × (has_in_layer share earlier ≡ true) }
 {
     if earlier >= place {
+        return false;
+    }
+    if !share.has(earlier) {
         return false;
     }
     let Some(n) = nodes.get(earlier) else {

@@ -7,8 +7,9 @@ mod clauses;
 mod copies;
 mod layers;
 mod looker;
+mod shares;
 mod standings;
 mod wants;
 
-pub use cert_laws::{CertReason, Checked, law_checked, law_shown};
-pub use checking::check;
+pub use cert_laws::{CertReason, Checked, law_checked, law_checked_in_part, law_parts, law_shown};
+pub use checking::{check, check_part};

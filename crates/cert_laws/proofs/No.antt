@@ -27,7 +27,7 @@ use Rattle.cert_types.specs.declared.cert.Cert.{Cert}
 use Rattle.cert_types.specs.declared.nodes.CertNode.{CertNode}
 use Rattle.cert_laws.specs.Shown.{layer_of, list_of, ClaimHolds, CutHolds, IsAt, NodeHolds, Stands, StepsHold, TargetHolds}
 use Rattle.cert_laws.specs.Checks.{base_fails, is_high, claim_fails, covering, cut_fails, entered, entered_as, first_of, is_alone, layer_told, layers_told, led, led_if, list_fails, looked_fails, moved, must, node_at, node_fails, node_fails_at, or_fault, start, step_fails, step_fails_if, stepped, steps_fail, successor_fails, taken_fails, target_fails, target_fails_by, then_told, told_at, unless_fault, walked}
-use Rattle.cert_laws.specs.Told.{IsBefore, IsOneOf, IsWrong, LineShows, NodeFails, NoFails}
+use Rattle.cert_laws.specs.Told.{ClaimFails, FirstFails, IsBefore, IsOneOf, IsWrong, LineShows, NodeFails, NoFails}
 use Rattle.cert_laws.specs.declared.answers.CertReason.{CertReason}
 use Rattle.cert_laws.specs.declared.answers.CertReason.TheVariants as reasons
 use Rattle.cert_laws.specs.declared.answers.Checked.{Checked}
@@ -376,12 +376,21 @@ claim_only : (m : Model) (claim : Claim) → Only reasons.Claim (claim_fails m c
 claim_only m (Optimal found) = list_only found.cost (replayed m found.steps)
 claim_only m Infeasible = none_only reasons.Claim
 
+-- the clause of the target fails
+pub target_fails_for : (m : Model) (cert : Cert) (line : ℕ) (reason : CertReason) → target_fails m cert ≡ Some reason → line ≡ cert.first → FirstFails m cert line reason
+target_fails_for m cert line reason fails is = (is, λ holds. some_none reason (target_fails m cert) fails (yes_target m cert holds), target_only m cert reason fails)
+
+-- it holds, and that of the claim fails
+pub claim_fails_for : (m : Model) (cert : Cert) (line : ℕ) (reason : CertReason) → target_fails m cert ≡ None → claim_fails m cert.claim ≡ Some reason → line ≡ line_of_claim cert.first → ClaimFails m cert line reason
+claim_fails_for m cert line reason target fails is =
+    (is, target_yes m cert target, λ holds. some_none reason (claim_fails m cert.claim) fails (yes_claim m cert.claim holds), claim_only m cert.claim reason fails)
+
 pub no_law : NoFails
 no_law m cert line reason h =
     elim (told_no cert.first line (target_fails m cert) reason (told_at (line_of_claim cert.first) (claim_fails m cert.claim) (layers_told m cert 0 cert.layers)) h) [
-      | inl first ↦ inl (first.1, λ holds. some_none reason (target_fails m cert) first.0 (yes_target m cert holds), target_only m cert reason first.0)
+      | inl first ↦ inl (target_fails_for m cert line reason first.0 first.1)
       | inr more ↦ elim (told_no (line_of_claim cert.first) line (claim_fails m cert.claim) reason (layers_told m cert 0 cert.layers) more.1) [
-        | inl claim ↦ inr (inl (claim.1, target_yes m cert more.0, λ holds. some_none reason (claim_fails m cert.claim) claim.0 (yes_claim m cert.claim holds), claim_only m cert.claim reason claim.0))
+        | inl claim ↦ inr (inl (claim_fails_for m cert line reason more.0 claim.0 claim.1))
         | inr lines ↦ inr (inr (node_fails_there m cert line reason (target_yes m cert more.0) (claim_yes m cert.claim lines.0) (layers_reject m cert 0 cert.layers line reason lines.1)))
       ]
     ]

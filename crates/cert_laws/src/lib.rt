@@ -5,4 +5,4 @@ mod answers;
 mod laws;
 
 pub use answers::{CertReason, Checked};
-pub use laws::{law_checked, law_shown};
+pub use laws::{law_checked, law_checked_in_part, law_parts, law_shown};

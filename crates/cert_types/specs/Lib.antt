@@ -1,3 +1,4 @@
 pub mod Lines
 pub mod Parents
 pub mod Parts
+pub mod Places

@@ -4,6 +4,8 @@
 
 mod cert;
 mod nodes;
+mod parts;
 
 pub use cert::Cert;
 pub use nodes::{CertNode, CertStep};
+pub use parts::CheckPart;

@@ -27,8 +27,8 @@ replay = with_rule (with_rule (with_rule (plain (codes "replay")) (word (codes "
 
 unfoldable pub check : App
 check =
-    with_rule (with_rule (with_rule (with_rule (plain (codes "check"))
-    (word (codes "domain"))) (word (codes "problem"))) (word (codes "cert"))) (option (codes "prune"))
+    with_rule (with_rule (with_rule (with_rule (with_rule (plain (codes "check"))
+    (word (codes "domain"))) (word (codes "problem"))) (word (codes "cert"))) (option (codes "prune"))) (option (codes "part"))
 
 unfoldable pub show : App
 show = with_rule (with_rule (plain (codes "show")) (word (codes "domain"))) (word (codes "problem"))

@@ -1,8 +1,10 @@
 -- The job that words ask for.
-use Rattle.std.specs.Prelude.{ℕ, Bool, true, false, not, ◌&&◌, ◌||◌, nat_le, nat_lt, if◌then◌else◌, List, [], ◌∷◌, length, codes, Option, Some, None, option_and_then, option_map}
+use Rattle.std.specs.Prelude.{ℕ, Bool, true, false, not, ◌&&◌, ◌||◌, ◌==◌, nat_le, nat_lt, if◌then◌else◌, List, [], ◌∷◌, length, codes, Option, Some, None, option_and_then, option_map}
+use Rattle.std.specs.List.{after_first, before_first, position_or_len}
 use Rattle.std.specs.Str.{bytes_eq, all_ascii_digits}
 use Rattle.std.specs.Str.Parse.{digits_value}
 use Rattle.clap.specs.Words.{Kinds}
+use Rattle.cert_types.specs.declared.parts.CheckPart.{CheckPart}
 use Rattle.dp_model.specs.declared.answers.Keep.{Keep}
 use Rattle.dp_model.specs.declared.answers.Keep.TheVariants as keeps
 use Rattle.dp_model.specs.declared.answers.Options.{Options}
@@ -62,6 +64,22 @@ abbrev pub proved_alone : Option (List ℕ) → Option Bool
 proved_alone None = Some false
 proved_alone (Some text) = if bytes_eq text (codes "proved") then Some true else None
 
+abbrev pub is_slash : ℕ → Bool
+is_slash byte = byte == 47
+
+-- what the first slash parts
+abbrev pub halves : List ℕ → Option (List ℕ × List ℕ)
+halves text = if nat_lt (position_or_len is_slash text) (length text) then Some (before_first is_slash text, after_first is_slash text) else None
+
+-- a part of a check, as `2/3`, of at most 4,096
+abbrev pub part_in : List ℕ → Option CheckPart
+part_in text = option_and_then (λ both. option_and_then (λ count. option_map (λ index. record { index = index; count = count }) (number_in 1 count both.0)) (number_in 1 4096 both.1)) (halves text)
+
+-- the whole is checked where no part is given
+abbrev pub part_of : Option (List ℕ) → Option (Option CheckPart)
+part_of None = Some None
+part_of (Some text) = option_map (λ part. Some part) (part_in text)
+
 abbrev pub layer_or_all : Option (List ℕ) → Option Keep
 layer_or_all None = Some keeps.Layer
 layer_or_all (Some text) = if bytes_eq text (codes "layer") then Some keeps.Layer else (if bytes_eq text (codes "all") then Some keeps.All else None)
@@ -112,11 +130,11 @@ replay_job (Some domain) (Some problem) None = None
 replay_job (Some domain) None list = None
 replay_job None problem list = None
 
-abbrev pub check_job : (domain problem cert prune : Option (List ℕ)) → Option Job
-check_job (Some domain) (Some problem) (Some cert) prune = option_map (λ proved. Check domain problem cert proved) (proved_alone prune)
-check_job (Some domain) (Some problem) None prune = None
-check_job (Some domain) None cert prune = None
-check_job None problem cert prune = None
+abbrev pub check_job : (domain problem cert prune part : Option (List ℕ)) → Option Job
+check_job (Some domain) (Some problem) (Some cert) prune part = option_and_then (λ proved. option_map (λ which. Check domain problem cert proved which) (part_of part)) (proved_alone prune)
+check_job (Some domain) (Some problem) None prune part = None
+check_job (Some domain) None cert prune part = None
+check_job None problem cert prune part = None
 
 abbrev pub show_job : (domain problem : Option (List ℕ)) → Option Job
 show_job (Some domain) (Some problem) = Some (Show domain problem)
@@ -146,7 +164,8 @@ replay_words ws =
 unfoldable pub check_words : List (List ℕ) → Option Job
 check_words ws =
     unless_fault (faults_in check ws)
-    (check_job (value_in check ws (codes "domain")) (value_in check ws (codes "problem")) (value_in check ws (codes "cert")) (value_in check ws (codes "prune")))
+    (check_job (value_in check ws (codes "domain")) (value_in check ws (codes "problem")) (value_in check ws (codes "cert")) (value_in check ws (codes "prune"))
+    (value_in check ws (codes "part")))
 
 unfoldable pub show_words : List (List ℕ) → Option Job
 show_words ws = unless_fault (faults_in show ws) (show_job (value_in show ws (codes "domain")) (value_in show ws (codes "problem")))

@@ -74,7 +74,8 @@ pub(crate) fn check<'a>(alloc: Global) -> Result<Command<'a>, AllocError>
             .arg(word(alloc, "domain"))?
             .arg(word(alloc, "problem"))?
             .arg(word(alloc, "cert"))?
-            .arg(option(alloc, "prune"))?,
+            .arg(option(alloc, "prune"))?
+            .arg(option(alloc, "part"))?,
     )
 }
 

@@ -3,6 +3,7 @@
 ghost use Rattle.std.specs.Prelude.{◌≡◌};
 ghost use Rattle.command_line.specs.declared.jobs.WordsEnd.TheVariants.{Memory};
 
+use cert_types::CheckPart;
 use dp_base::Text;
 use dp_model::Options;
 use model_gen::GenKind;
@@ -55,6 +56,8 @@ pub enum Job {
         cert: Text,
         /// Whether it is one of what is proved of the model's dual bounds and preferences alone.
         proved: bool,
+        /// The part that is checked, if it is not the whole.
+        part: Option<CheckPart>,
     },
     /// Say what was understood of a model.
     Show {

@@ -3,7 +3,13 @@
 ghost use Rattle.std.specs.Prelude.{◌≡◌, ◌<◌, ◌≤◌, ◌^◌, IsTrue, IfSome, IfNone, length, option_map};
 ghost use Rattle.std.specs.Str.{all_ascii_digits};
 ghost use Rattle.std.specs.Str.Parse.{digits_value};
-ghost use Rattle.command_line.specs.Jobs.{is_number, number_in, number_or};
+ghost use Rattle.cert_types.specs.Places.{IsPart};
+ghost use Rattle.command_line.specs.Jobs.{halves, is_number, number_in, number_or, part_in};
+
+use cert_types::CheckPart;
+
+/// The most parts of a check.
+const MOST_PARTS: u64 = 4096;
 
 fn are_digits(bytes: &[u8]) -> bool
     ensures { result ≡ all_ascii_digits bytes.now }
@@ -34,6 +40,7 @@ fn parsed(text: &str) -> Option<u64>
 pub(crate) fn number_in(least: u64, most: u64, text: &str) -> Option<u64>
     ensures number { result ≡ number_in least most text.now }
     ensures below { IfSome result (λ n. n ≤ most) }
+    ensures above { IfSome result (λ n. least ≤ n) }
 {
     if !is_number(text) {
         return None;
@@ -52,4 +59,25 @@ pub(crate) fn number_or(otherwise: u64, least: u64, most: u64, text: Option<&str
         Some(text) => number_in(least, most, text),
         None => Some(otherwise),
     }
+}
+
+/// What stands before the first slash of a text, and what stands behind it.
+fn halves(text: &str) -> Option<(&str, &str)>
+    ensures { option_map (λ pair. (pair.0.now, pair.1.now)) result ≡ halves text.now }
+{
+    text.split_once('/')
+}
+
+/// The part of a check that a text names, as `2/3` does the second of three.
+pub(crate) fn part_in(text: &str) -> Option<CheckPart>
+    ensures part { result ≡ part_in text.now }
+    ensures fits { IfSome result IsPart }
+{
+    let (index, count) = halves(text)?;
+    let count = number_in(1, MOST_PARTS, count)?;
+    let index = number_in(1, count, index)?;
+    Some(CheckPart {
+        index: index as u32,
+        count: count as u32,
+    })
 }

@@ -2,11 +2,12 @@
 
 ghost use Rattle.std.specs.Prelude.{◌≡◌, None, Some, codes, map, option_map, string_bytes, IfOk, IsErrOf};
 ghost use Rattle.clap.specs.Words.{first_value, found_of};
-ghost use Rattle.command_line.specs.Jobs.{beam_or_best, check_job, has_such, is_on, is_proved, on_or_off, layer_or_all, options_of, proved_alone, pruning_of, search_by, search_of, solve_job, solve_words, replay_words, check_words, show_words, gen_words, gen_job, by_command, job_of};
+ghost use Rattle.command_line.specs.Jobs.{beam_or_best, check_job, has_such, is_on, is_proved, on_or_off, layer_or_all, options_of, part_of, proved_alone, pruning_of, search_by, search_of, solve_job, solve_words, replay_words, check_words, show_words, gen_words, gen_job, by_command, job_of};
 
 use crate::commands::{check, found, generate, replay, show, solve};
 use crate::jobs::{Engine, Job, Search, WordsEnd};
-use crate::numbers::{number_in, number_or};
+use crate::numbers::{number_in, number_or, part_in};
+use cert_types::CheckPart;
 use clap::ArgMatches;
 use dp_base::Text;
 use dp_model::{Keep, Options};
@@ -90,6 +91,16 @@ fn proved_alone(word: Option<&str>) -> Option<bool>
         None => Some(false),
         Some("proved") => Some(true),
         Some(_) => None,
+    }
+}
+
+/// Which part of a certificate is checked: the whole, where the words say nothing of it.
+fn part_of(word: Option<&str>) -> Option<Option<CheckPart>>
+    ensures { result ≡ part_of (option_map (λ t. t.now) word.entry) }
+{
+    match word {
+        None => Some(None),
+        Some(text) => Some(Some(part_in(text)?)),
     }
 }
 
@@ -244,11 +255,15 @@ fn check_words(alloc: Global, words: &Vec<String>) -> Result<Job, WordsEnd>
     let Some(proved) = proved_alone(matches.get_str("prune")) else {
         return Err(WordsEnd::Usage);
     };
+    let Some(part) = part_of(matches.get_str("part")) else {
+        return Err(WordsEnd::Usage);
+    };
     Ok(Job::Check {
         domain: owned(alloc, domain)?,
         problem: owned(alloc, problem)?,
         cert: owned(alloc, cert)?,
         proved,
+        part,
     })
 }
 

@@ -1,13 +1,15 @@
 -- What words ask for lies in its range.
 use Rattle.std.proofs.Common.{◌≡◌, ℕ, ◌≤◌, ◌&&◌, ◌⊎◌, inl, inr, true, false, Bool, cond, List, [], ◌∷◌, Option, Some, None, refl, sym, subst, nat_le, arith}
-use Rattle.std.specs.Prelude.{codes, option_and_then, option_map}
+use Rattle.std.specs.Prelude.{codes, option_and_then, option_map, IfSome}
 use Rattle.std.specs.Str.{bytes_eq}
 use Rattle.std.specs.Str.Parse.{digits_value}
 use Rattle.std.proofs.lemmas.Bool.Decides.{nat_tests}
 use Rattle.clap.specs.Words.{Kinds}
 use Rattle.command_line.specs.Commands.{value_in, faults_in, solve, replay, check, show, generate}
 use Rattle.command_line.proofs.Searches.{is_search}
-use Rattle.command_line.specs.Jobs.{is_number, number_in, number_or, layer_or_all, options_of, proved_alone, unless_fault, solve_job, replay_job, check_job, show_job, sized_job, gen_job, solve_words, replay_words, check_words, show_words, gen_words, by_command, job_of}
+use Rattle.cert_types.specs.Places.{IsPart}
+use Rattle.cert_types.specs.declared.parts.CheckPart.{CheckPart}
+use Rattle.command_line.specs.Jobs.{halves, is_number, number_in, number_or, layer_or_all, options_of, part_in, part_of, proved_alone, unless_fault, solve_job, replay_job, check_job, show_job, sized_job, gen_job, solve_words, replay_words, check_words, show_words, gen_words, by_command, job_of}
 use Rattle.command_line.specs.declared.jobs.Job.{Job}
 use Rattle.command_line.specs.declared.jobs.Job.TheVariants as jobs
 use Rattle.dp_model.specs.declared.answers.Options.{Options}
@@ -101,11 +103,35 @@ replay_fits (Some domain) (Some problem) None job e = absurd cc
 replay_fits (Some domain) None list job e = absurd cc
 replay_fits None problem list job e = absurd cc
 
-check_fits : (domain problem cert prune : Option (List ℕ)) (job : Job) → check_job domain problem cert prune ≡ Some job → JobFits job
-check_fits (Some domain) (Some problem) (Some cert) prune job e = let proved = map_some (λ (p : Bool). jobs.Check domain problem cert p) (proved_alone prune) job e in subst JobFits proved.2 tt
-check_fits (Some domain) (Some problem) None prune job e = absurd cc
-check_fits (Some domain) None cert prune job e = absurd cc
-check_fits None problem cert prune job e = absurd cc
+part_bounds : (text : List ℕ) (part : CheckPart) → part_in text ≡ Some part → IsPart part
+part_bounds text part e =
+    let with_count : List ℕ × List ℕ → ℕ → Option CheckPart = λ (both : List ℕ × List ℕ) (count : ℕ). option_map (λ (index : ℕ). record { index = index; count = count }) (number_in 1 count both.0) in
+    let with_halves : List ℕ × List ℕ → Option CheckPart = λ (both : List ℕ × List ℕ). option_and_then (with_count both) (number_in 1 4096 both.1) in
+    let both = then_some with_halves (halves text) part e in
+    let count = then_some (with_count both.0) (number_in 1 4096 both.0.1) part both.2 in
+    let whole : ℕ → CheckPart = λ (index : ℕ). record { index = index; count = count.0 } in
+    let index = map_some whole (number_in 1 count.0 both.0.0) part count.2 in
+    let few = in_bounds 1 4096 both.0.1 count.0 count.1 in
+    let within = in_bounds 1 count.0 both.0.0 index.0 index.1 in
+    subst IsPart index.2 (within.low, within.high, few.high)
+
+part_fits : (text : Option (List ℕ)) (which : Option CheckPart) → part_of text ≡ Some which → IfSome which IsPart
+part_fits None which e = subst (λ (w : Option CheckPart). IfSome w IsPart) (some_one None which e) tt
+part_fits (Some text) which e =
+    let given : CheckPart → Option CheckPart = λ (part : CheckPart). Some part in
+    let part = map_some given (part_in text) which e in
+    subst (λ (w : Option CheckPart). IfSome w IsPart) part.2 (part_bounds text part.0 part.1)
+
+check_fits : (domain problem cert prune part : Option (List ℕ)) (job : Job) → check_job domain problem cert prune part ≡ Some job → JobFits job
+check_fits (Some domain) (Some problem) (Some cert) prune part job e =
+    let with_proved : Bool → Option Job = λ (p : Bool). option_map (λ (which : Option CheckPart). jobs.Check domain problem cert p which) (part_of part) in
+    let proved = then_some with_proved (proved_alone prune) job e in
+    let whole : Option CheckPart → Job = λ (which : Option CheckPart). jobs.Check domain problem cert proved.0 which in
+    let which = map_some whole (part_of part) job proved.2 in
+    subst JobFits which.2 (part_fits part which.0 which.1)
+check_fits (Some domain) (Some problem) None prune part job e = absurd cc
+check_fits (Some domain) None cert prune part job e = absurd cc
+check_fits None problem cert prune part job e = absurd cc
 
 show_fits : (domain problem : Option (List ℕ)) (job : Job) → show_job domain problem ≡ Some job → JobFits job
 show_fits (Some domain) (Some problem) job e = subst JobFits (some_one (jobs.Show domain problem) job e) tt
@@ -143,8 +169,8 @@ check_words_fit : (ws : List (List ℕ)) (job : Job) → check_words ws ≡ Some
 unfolding check_words
 check_words_fit ws job e =
     let value : List ℕ → Option (List ℕ) = λ (id : List ℕ). value_in check ws id in
-    check_fits (value (codes "domain")) (value (codes "problem")) (value (codes "cert")) (value (codes "prune")) job
-    (free_job (faults_in check ws) (check_job (value (codes "domain")) (value (codes "problem")) (value (codes "cert")) (value (codes "prune"))) job e)
+    check_fits (value (codes "domain")) (value (codes "problem")) (value (codes "cert")) (value (codes "prune")) (value (codes "part")) job
+    (free_job (faults_in check ws) (check_job (value (codes "domain")) (value (codes "problem")) (value (codes "cert")) (value (codes "prune")) (value (codes "part"))) job e)
 
 show_words_fit : (ws : List (List ℕ)) (job : Job) → show_words ws ≡ Some job → JobFits job
 unfolding show_words

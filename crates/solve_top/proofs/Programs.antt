@@ -23,7 +23,8 @@ use Rattle.solve_passes.specs.declared.progress.Printing.{Printing}
 use Rattle.run_ends.specs.declared.status.Status.{Status}
 use Rattle.run_ends.specs.declared.status.Status.TheVariants as statuses
 use Rattle.cert_types.specs.declared.cert.Cert.{Cert}
-use Rattle.cert_laws.specs.Checks.{checked}
+use Rattle.cert_types.specs.declared.parts.CheckPart.{CheckPart}
+use Rattle.cert_laws.specs.PartChecks.{checked_by}
 use Rattle.solve_top.specs.Jobs.{Asks, names_of, third_of}
 use Rattle.solve_top.specs.Outcomes.{NoMemory, Solving, SolvingBest, Replayed, Checked, Shown, Checks, ComesOf, Does, Printed, SearchesFor}
 use Rattle.solve_top.specs.Runs.{outcome_of, RefusedBy, IsUnread, GiveNothing}
@@ -51,10 +52,10 @@ was_replayed files domain problem list m steps before after status texts (inl pr
 was_replayed files domain problem list m steps before after status texts (inr printed) = λ words asks. (NoMemory, tt, printed)
 
 -- a certificate was checked, or memory ran out
-pub was_checked : (files : List ℕ → Option (List ℕ)) (domain problem text : List ℕ) (asked : Bool) (m : Model) (cert : Cert) (before after : Option (List ℕ)) (status : Status) →
-    OfTexts files (domain ∷ problem ∷ text ∷ []) (λ texts. MeanCert texts m cert) → Checks m cert asked before after status → Does (jobs.Check domain problem text asked) files before after status
-was_checked files domain problem text asked m cert before after status texts (inl (proved, other, is, printed)) = λ words asks. (Checked m proved other cert (checked other cert), (domain, problem, text, asked, asks, texts, is, refl), printed)
-was_checked files domain problem text asked m cert before after status texts (inr printed) = λ words asks. (NoMemory, tt, printed)
+pub was_checked : (files : List ℕ → Option (List ℕ)) (domain problem text : List ℕ) (asked : Bool) (which : Option CheckPart) (m : Model) (cert : Cert) (before after : Option (List ℕ)) (status : Status) →
+    OfTexts files (domain ∷ problem ∷ text ∷ []) (λ texts. MeanCert texts m cert) → Checks m cert asked which before after status → Does (jobs.Check domain problem text asked which) files before after status
+was_checked files domain problem text asked which m cert before after status texts (inl (proved, other, is, printed)) = λ words asks. (Checked m proved other cert which (checked_by which other cert), (domain, problem, text, asked, asks, texts, is, refl), printed)
+was_checked files domain problem text asked which m cert before after status texts (inr printed) = λ words asks. (NoMemory, tt, printed)
 
 -- a model that was loaded was shown
 pub was_shown : (files : List ℕ → Option (List ℕ)) (domain problem : List ℕ) (m : Model) (before after : Option (List ℕ)) (status : Status) →

@@ -1,7 +1,8 @@
 -- A search behind the lines that tell the parts of its model.
 use Rattle.std.proofs.Common.{◌≡◌, ℕ, ◌≤◌, inl, inr, Bool, List, [], ◌++◌, Option, Some, None, Result, refl, subst, ap, ◌∙◌, arith}
 use Rattle.std.specs.Prelude.{OnErr, OnOk}
-use Rattle.cert_laws.specs.Checks.{checked}
+use Rattle.cert_types.specs.declared.parts.CheckPart.{CheckPart}
+use Rattle.cert_laws.specs.PartChecks.{checked_by}
 use Rattle.cert_laws.specs.declared.answers.Checked.{Checked as Findings}
 use Rattle.cert_types.specs.declared.cert.Cert.{Cert}
 use Rattle.dp_outside.specs.Outside.{Rose, Takes, TakesFront}
@@ -160,12 +161,12 @@ rose_later first second third count (inr most) = inr most
 -- ---- a check
 
 -- the lines of the parts and what was told of a certificate were put
-pub was_told : (m : Model) (asked : Bool) (s : Searched) (serves : ServesFor m asked s) (cert : Cert) (parts : List Part) (told : Findings) (before after : Option (List ℕ)) (f g : ℕ) (put : Result (Unit {0}) Failed) (wanted status : Status)
-    → parts ≡ s.parts.items → told ≡ checked s.model cert → wanted ≡ checked_status told → Puts before after f g (part_lines parts ++ checked_text cert.claim told) put → OnOk put (status ≡ wanted) → OnErr put (status ≡ statuses.WriteFault)
-    → Checks m cert asked before after status
-was_told m asked s serves cert parts told before after f g put wanted status same is means puts ok err =
-    let text = part_lines parts ++ checked_text cert.claim told in
-    let lines : text ≡ parts_text m serves.0 ++ checked_text cert.claim (checked s.model cert) =
-    ap (λ (ps : List Part). part_lines ps ++ checked_text cert.claim told) same ∙ ap (λ (t : List ℕ). t ++ checked_text cert.claim told) serves.2 ∙ ap (λ (x : Findings). parts_text m serves.0 ++ checked_text cert.claim x) is in
-    let writes = as_text before after text (parts_text m serves.0 ++ checked_text cert.claim (checked s.model cert)) wanted status lines (put_writes before after f g text put wanted status puts ok err) in
-    inl (serves.0, s.model, serves.1, subst (λ (x : Status). Writes before after (parts_text m serves.0 ++ checked_text cert.claim (checked s.model cert)) x status) (means ∙ ap checked_status is) writes)
+pub was_told : (m : Model) (asked : Bool) (s : Searched) (serves : ServesFor m asked s) (cert : Cert) (which : Option CheckPart) (parts : List Part) (told : Findings) (before after : Option (List ℕ)) (f g : ℕ) (put : Result (Unit {0}) Failed) (wanted status : Status)
+    → parts ≡ s.parts.items → told ≡ checked_by which s.model cert → wanted ≡ checked_status told → Puts before after f g (part_lines parts ++ checked_text which cert.claim told) put → OnOk put (status ≡ wanted) → OnErr put (status ≡ statuses.WriteFault)
+    → Checks m cert asked which before after status
+was_told m asked s serves cert which parts told before after f g put wanted status same is means puts ok err =
+    let text = part_lines parts ++ checked_text which cert.claim told in
+    let lines : text ≡ parts_text m serves.0 ++ checked_text which cert.claim (checked_by which s.model cert) =
+    ap (λ (ps : List Part). part_lines ps ++ checked_text which cert.claim told) same ∙ ap (λ (t : List ℕ). t ++ checked_text which cert.claim told) serves.2 ∙ ap (λ (x : Findings). parts_text m serves.0 ++ checked_text which cert.claim x) is in
+    let writes = as_text before after text (parts_text m serves.0 ++ checked_text which cert.claim (checked_by which s.model cert)) wanted status lines (put_writes before after f g text put wanted status puts ok err) in
+    inl (serves.0, s.model, serves.1, subst (λ (x : Status). Writes before after (parts_text m serves.0 ++ checked_text which cert.claim (checked_by which s.model cert)) x status) (means ∙ ap checked_status is) writes)

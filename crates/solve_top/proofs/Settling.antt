@@ -198,8 +198,8 @@ module _ (words : List (List ℕ)) (files : List ℕ → Option (List ℕ)) (dom
   settles_as (Replayed other steps tells) h =
       let same : jobs.Replay h.0 h.1 h.2 ≡ jobs.Solve domain problem search = same_job words (jobs.Replay h.0 h.1 h.2) (jobs.Solve domain problem search) h.3 asks in
       absurd cc
-  settles_as (Checked other proved searched cert tells) h =
-      let same : jobs.Check h.0 h.1 h.2 h.3 ≡ jobs.Solve domain problem search = same_job words (jobs.Check h.0 h.1 h.2 h.3) (jobs.Solve domain problem search) h.4 asks in
+  settles_as (Checked other proved searched cert which tells) h =
+      let same : jobs.Check h.0 h.1 h.2 h.3 which ≡ jobs.Solve domain problem search = same_job words (jobs.Check h.0 h.1 h.2 h.3 which) (jobs.Solve domain problem search) h.4 asks in
       absurd cc
   settles_as (Shown other) h =
       let same : jobs.Show h.0 h.1 ≡ jobs.Solve domain problem search = same_job words (jobs.Show h.0 h.1) (jobs.Solve domain problem search) h.2 asks in
@@ -283,8 +283,8 @@ module _ (words : List (List ℕ)) (files : List ℕ → Option (List ℕ)) (kin
   settles_generated_as (Replayed other steps tells) h =
       let same : jobs.Replay h.0 h.1 h.2 ≡ jobs.Gen kind size seed workers = same_job words (jobs.Replay h.0 h.1 h.2) (jobs.Gen kind size seed workers) h.3 asks in
       absurd cc
-  settles_generated_as (Checked other proved searched cert tells) h =
-      let same : jobs.Check h.0 h.1 h.2 h.3 ≡ jobs.Gen kind size seed workers = same_job words (jobs.Check h.0 h.1 h.2 h.3) (jobs.Gen kind size seed workers) h.4 asks in
+  settles_generated_as (Checked other proved searched cert which tells) h =
+      let same : jobs.Check h.0 h.1 h.2 h.3 which ≡ jobs.Gen kind size seed workers = same_job words (jobs.Check h.0 h.1 h.2 h.3 which) (jobs.Gen kind size seed workers) h.4 asks in
       absurd cc
   settles_generated_as (Shown other) h =
       let same : jobs.Show h.0 h.1 ≡ jobs.Gen kind size seed workers = same_job words (jobs.Show h.0 h.1) (jobs.Gen kind size seed workers) h.2 asks in

@@ -282,7 +282,7 @@ module _ (words : List (List ℕ)) (files : List ℕ → Option (List ℕ)) (bef
       let can' : CanCertify other also = subst (λ (x : Model). CanCertify x also) (sym is) (subst (CanCertify m) (sym o) can) in
       answers other is (SolvingBest other proved searched also run behind) behind (bests.ending_status run.ending) h took (λ cert whole. whole) (best_search_whole other proved searched also run behind h.4 asked rests' can')
   whole_as (Replayed other steps tells) h took = let same : jobs.Replay h.0 h.1 h.2 ≡ jobs.Solve domain problem search = searched_as (jobs.Replay h.0 h.1 h.2) h.3 in absurd cc
-  whole_as (Checked other proved searched cert tells) h took = let same : jobs.Check h.0 h.1 h.2 h.3 ≡ jobs.Solve domain problem search = searched_as (jobs.Check h.0 h.1 h.2 h.3) h.4 in absurd cc
+  whole_as (Checked other proved searched cert which tells) h took = let same : jobs.Check h.0 h.1 h.2 h.3 which ≡ jobs.Solve domain problem search = searched_as (jobs.Check h.0 h.1 h.2 h.3 which) h.4 in absurd cc
   whole_as (WasShown other) h took = let same : jobs.Show h.0 h.1 ≡ jobs.Solve domain problem search = searched_as (jobs.Show h.0 h.1) h.2 in absurd cc
   whole_as (NoGenerated kind size seed refusal) h took = let same : jobs.Gen kind size seed h.0 ≡ jobs.Solve domain problem search = searched_as (jobs.Gen kind size seed h.0) h.1 in absurd cc
   whole_as (Generated kind size seed other also run) h took = let same : jobs.Gen kind size seed h.0 ≡ jobs.Solve domain problem search = searched_as (jobs.Gen kind size seed h.0) h.1 in absurd cc

@@ -1,7 +1,8 @@
 -- Which jobs words ask for, what fits in them, and which files they read.
-use Rattle.std.specs.Prelude.{◌≡◌, ℕ, ◌≤◌, true, List, [], ◌∷◌, None, Some}
+use Rattle.std.specs.Prelude.{◌≡◌, ℕ, ◌≤◌, true, List, [], ◌∷◌, None, Some, IfSome}
 use Rattle.dp_model.specs.declared.answers.Keep.TheVariants as keeps
 use Rattle.dp_model.specs.declared.answers.Options.{Options}
+use Rattle.cert_types.specs.Places.{IsPart}
 use Rattle.command_line.specs.Jobs.{job_of}
 use Rattle.command_line.specs.declared.jobs.Job.{Job}
 use Rattle.command_line.specs.declared.jobs.Job.TheVariants.{Solve, Replay, Show, Gen, Check}
@@ -24,11 +25,11 @@ names_of (Solve domain problem search) = domain ∷ problem ∷ []
 names_of (Replay domain problem list) = domain ∷ problem ∷ list ∷ []
 names_of (Show domain problem) = domain ∷ problem ∷ []
 names_of (Gen kind size seed workers) = []
-names_of (Check domain problem cert proved) = domain ∷ problem ∷ cert ∷ []
+names_of (Check domain problem cert proved part) = domain ∷ problem ∷ cert ∷ []
 
 -- what the third of them is, where there are three
 abbrev pub third_of : Job → Third
-third_of (Check domain problem cert proved) = Certificate
+third_of (Check domain problem cert proved part) = Certificate
 third_of job = Steps
 
 -- how certificates are written of a search of the best node first, in which nodes of all layers cover
@@ -44,5 +45,5 @@ abbrev pub JobFits : Job → Type 0
 JobFits (Solve domain problem search) = AreOptions search.options
 JobFits (Replay domain problem list) = Unit {0}
 JobFits (Show domain problem) = Unit {0}
-JobFits (Check domain problem cert proved) = Unit {0}
+JobFits (Check domain problem cert proved part) = IfSome part IsPart
 JobFits (Gen kind size seed workers) = (least_size kind ≤ size) × (size ≤ most_size kind) × AreOptions (gen_options workers)

@@ -34,7 +34,8 @@ use Rattle.model_gen.specs.Texts.{domain_text, problem_text}
 use Rattle.model_gen.specs.declared.kinds.GenKind.{GenKind}
 use Rattle.model_gen.specs.declared.kinds.GenKind.TheVariants as kinds
 use Rattle.cert_types.specs.declared.cert.Cert.{Cert}
-use Rattle.cert_laws.specs.Checks.{checked}
+use Rattle.cert_types.specs.declared.parts.CheckPart.{CheckPart}
+use Rattle.cert_laws.specs.PartChecks.{checked_by}
 use Rattle.cert_laws.specs.declared.answers.CertReason.{CertReason}
 use Rattle.cert_laws.specs.declared.answers.CertReason.TheVariants as reasons
 use Rattle.cert_laws.specs.declared.answers.Checked.{Checked as Findings}
@@ -62,8 +63,8 @@ pub data Outcome : Type 0 where
   SolvingBest : (model : Model) (proved : Option Kept) (searched : Model) (search : Search) (run : BestRun) (behind : Behind) → Outcome
   -- a list of steps of the model was replayed
   Replayed : (model : Model) (steps : List ℕ) (told : Told) → Outcome
-  -- a certificate over the model was checked, or over what is proved of it alone
-  Checked : (model : Model) (proved : Option Kept) (searched : Model) (cert : Cert) (told : Findings) → Outcome
+  -- a certificate over the model was checked, or over what is proved of it alone, as a whole or in a part
+  Checked : (model : Model) (proved : Option Kept) (searched : Model) (cert : Cert) (which : Option CheckPart) (told : Findings) → Outcome
   -- it was said what was understood of the model
   Shown : (model : Model) → Outcome
   -- a model was generated, and its texts mean none, or memory ran out before a model was loaded
@@ -117,10 +118,23 @@ certified_text claims.Infeasible = line (codes "verdict certified infeasible")
 abbrev pub rejected_text : (number : ℕ) → CertReason → List ℕ
 rejected_text number reason = line (codes "verdict rejected " ++ (decimal number ++ (codes " " ++ reason_word reason)))
 
+-- the line of a claim that is certified in a part
+abbrev pub claimed_text : Claim → List ℕ
+claimed_text (claims.Optimal found) = codes " certified optimal " ++ signed_decimal found.cost
+claimed_text claims.Infeasible = codes " certified infeasible"
+
+abbrev pub part_text : CheckPart → Claim → List ℕ
+part_text part claim = line (codes "verdict part " ++ (decimal part.index ++ (codes " of " ++ (decimal part.count ++ claimed_text claim))))
+
+-- the line of a yes
+abbrev pub yes_text : (which : Option CheckPart) → Claim → List ℕ
+yes_text None claim = certified_text claim
+yes_text (Some part) claim = part_text part claim
+
 -- the line that tells of a certificate
-abbrev pub checked_text : Claim → Findings → List ℕ
-checked_text claim findings.Yes = certified_text claim
-checked_text claim (findings.No number reason) = rejected_text number reason
+abbrev pub checked_text : (which : Option CheckPart) → Claim → Findings → List ℕ
+checked_text which claim findings.Yes = yes_text which claim
+checked_text which claim (findings.No number reason) = rejected_text number reason
 
 abbrev pub checked_status : Findings → Status
 checked_status findings.Yes = statuses.Success
@@ -135,7 +149,7 @@ outcome_text NoMemory = line (codes "memory")
 outcome_text (Solving model proved searched search run behind) = parts_text model proved ++ (record_text (All search.announce) searched run ++ behind_text searched search.options behind)
 outcome_text (SolvingBest model proved searched search run behind) = parts_text model proved ++ (run_text searched run ++ behind_text searched (keeping_all search.options) behind)
 outcome_text (Replayed model steps told) = verdict_text model (replay_verdict steps told)
-outcome_text (Checked model proved searched cert told) = parts_text model proved ++ checked_text cert.claim told
+outcome_text (Checked model proved searched cert which told) = parts_text model proved ++ checked_text which cert.claim told
 outcome_text (Shown model) = show_text model
 outcome_text (NoGenerated kind size seed refusal) = gen_line kind size seed ++ no_model_text refusal
 outcome_text (Generated kind size seed model options run) = gen_line kind size seed ++ ground_line model ++ record_text VerdictAlone model run
@@ -149,7 +163,7 @@ outcome_status NoMemory = statuses.Memory
 outcome_status (Solving model proved searched search run behind) = behind_status (ending_status run.ending) behind
 outcome_status (SolvingBest model proved searched search run behind) = behind_status (best.ending_status run.ending) behind
 outcome_status (Replayed model steps told) = verdict_status (replay_verdict steps told)
-outcome_status (Checked model proved searched cert told) = checked_status told
+outcome_status (Checked model proved searched cert which told) = checked_status told
 outcome_status (Shown model) = statuses.Success
 outcome_status (NoGenerated kind size seed refusal) = no_model_status refusal
 outcome_status (Generated kind size seed model options run) = ending_status run.ending
@@ -196,9 +210,9 @@ ComesOf words files (SolvingBest model proved searched search run behind) =
 ComesOf words files (Replayed model steps told) =
     (domain : List ℕ) × (problem : List ℕ) × (list : List ℕ) × Asks words (jobs.Replay domain problem list)
     × OfTexts files (domain ∷ problem ∷ list ∷ []) (λ texts. MeanSteps texts model steps) × (told ≡ replayed model steps)
-ComesOf words files (Checked model proved searched cert told) =
-    (domain : List ℕ) × (problem : List ℕ) × (text : List ℕ) × (asked : Bool) × Asks words (jobs.Check domain problem text asked)
-    × OfTexts files (domain ∷ problem ∷ text ∷ []) (λ texts. MeanCert texts model cert) × IsSearched model asked proved searched × (told ≡ checked searched cert)
+ComesOf words files (Checked model proved searched cert which told) =
+    (domain : List ℕ) × (problem : List ℕ) × (text : List ℕ) × (asked : Bool) × Asks words (jobs.Check domain problem text asked which)
+    × OfTexts files (domain ∷ problem ∷ text ∷ []) (λ texts. MeanCert texts model cert) × IsSearched model asked proved searched × (told ≡ checked_by which searched cert)
 ComesOf words files (Shown model) =
     (domain : List ℕ) × (problem : List ℕ) × Asks words (jobs.Show domain problem) × OfTexts files (domain ∷ problem ∷ []) (λ texts. MeanModel texts model)
 ComesOf words files (NoGenerated kind size seed refusal) = (workers : ℕ) × Asks words (jobs.Gen kind size seed workers) × IsRefusedOf kind size seed refusal
@@ -219,9 +233,9 @@ SearchesFor m search before after status =
     ⊎ Printed before after NoMemory status)
 
 -- a certificate over the model, or over what is proved of it alone, was checked and it was printed what was told; or memory ran out
-abbrev pub Checks : Model → Cert → (asked : Bool) → Option (List ℕ) → Option (List ℕ) → Status → Type 0
-Checks m cert asked before after status =
-    ((proved : Option Kept) × (searched : Model) × IsSearched m asked proved searched × Printed before after (Checked m proved searched cert (checked searched cert)) status)
+abbrev pub Checks : Model → Cert → (asked : Bool) → (which : Option CheckPart) → Option (List ℕ) → Option (List ℕ) → Status → Type 0
+Checks m cert asked which before after status =
+    ((proved : Option Kept) × (searched : Model) × IsSearched m asked proved searched × Printed before after (Checked m proved searched cert which (checked_by which searched cert)) status)
     ⊎ Printed before after NoMemory status
 
 -- over these files a job comes to some outcome, which was printed

@@ -1,8 +1,9 @@
 //! The top call: what the program does with its words.
 
-ghost use Rattle.std.specs.Prelude.{◌≡◌, ◌≤◌, ◌<◌, ◌^◌, ◌⊎◌, ◌++◌, ℕ, List, Option, Some, None, map, string_bytes, length};
+ghost use Rattle.std.specs.Prelude.{◌≡◌, ◌≤◌, ◌<◌, ◌^◌, ◌⊎◌, ◌++◌, ℕ, List, Option, Some, None, IfSome, map, string_bytes, length};
 ghost use Rattle.dp_outside.specs.Outside.{Rose};
 ghost use Rattle.dp_base.specs.Bytes.{line};
+ghost use Rattle.cert_types.specs.Places.{IsPart};
 ghost use Rattle.command_line.specs.Jobs.{job_of};
 ghost use Rattle.command_line.specs.declared.jobs.Job.TheVariants as jobs;
 ghost use Rattle.model_gen.specs.Kinds.{least_size, most_size};
@@ -23,14 +24,14 @@ ghost use Rattle.solve_top.specs.Wholes.{SettlesWhole};
 ghost use Rattle.solve_top.specs.declared.causes.NoModel.TheVariants as causes;
 
 use crate::causes::NoModel;
-use crate::checking::{checked_status, put_checked};
+use crate::checking::{check_asked, checked_status, put_checked};
 use crate::generating::{generate_model, kind_name};
 use crate::loading::{Claimed, Listed, load, load_claimed, load_listed};
 use crate::making::solve_and_certify;
 use crate::proving::{put_parts, searched_of};
 use crate::replaying::verdict_on;
-use cert_check::check;
 use cert_laws::Checked;
+use cert_types::CheckPart;
 use command_line::{Job, Search, WordsEnd, read_words};
 use dp_base::Text;
 use dp_model::{Claim, Keep, Model, Options};
@@ -169,23 +170,31 @@ fn replay_files<F: Shelf, S: Sink>(
     }
 }
 
-/// Prints the parts that were told and what was told of a certificate with this claim.
+/// Prints the parts of a model that were told and what was told of a certificate with this claim.
 fn put_told<S: Sink>(
     out: &mut S,
     parts: &[Part],
+    part: Option<CheckPart>,
     claim: &Claim,
     told: Checked,
 ) -> Result<(), Failed>
     ensures { Puts (S.taken out.old) (S.taken out.new) (S.faults out.old) (S.faults out.new)
-        (part_lines parts.now ++ checked_text claim.now told) result }
+        (part_lines parts.now ++ checked_text part claim.now told) result }
 {
     put_parts(out, parts)?;
-    put_checked(out, claim, told)
+    put_checked(out, part, claim, told)
 }
 
-/// Checks a certificate over a model, or over what is proved of it, prints what is told of it, and answers the status.
-fn put_check<S: Sink>(alloc: Global, out: &mut S, claimed: Claimed, proved: bool) -> Status
-    ensures printed { Checks claimed.model claimed.cert proved (S.taken out.old) (S.taken out.new) result }
+/// Checks a certificate, or a part of it, over a model, or over what is proved of it, prints what is told of it, and answers the status.
+fn put_check<S: Sink>(
+    alloc: Global,
+    out: &mut S,
+    claimed: Claimed,
+    proved: bool,
+    part: Option<CheckPart>,
+) -> Status
+    requires { IfSome part IsPart }
+    ensures printed { Checks claimed.model claimed.cert proved part (S.taken out.old) (S.taken out.new) result }
     ensures read_fault { result ≡ Status.ReadFault → ⊥ }
     ensures failed { result ≡ Status.WriteFault → Rose (S.faults out.old) (S.faults out.new) }
 {
@@ -193,9 +202,9 @@ fn put_check<S: Sink>(alloc: Global, out: &mut S, claimed: Claimed, proved: bool
     let Ok(searched) = searched_of(alloc, model, proved) else {
         return run_out(out);
     };
-    match check(alloc, &searched.model, &cert) {
+    match check_asked(alloc, &searched.model, &cert, part) {
         Ok(told) => {
-            let written = put_told(out, &searched.parts, &cert.claim, told);
+            let written = put_told(out, &searched.parts, part, &cert.claim, told);
             status_after(written, checked_status(told))
         }
         Err(AllocError) => run_out(out),
@@ -211,13 +220,15 @@ fn check_files<F: Shelf, S: Sink>(
     problem: &Text,
     cert: &Text,
     proved: bool,
+    part: Option<CheckPart>,
 ) -> Status
-    ensures printed { Does (jobs.Check domain.now problem.now cert.now proved) (F.bytes_under shelf.old) (S.taken out.old) (S.taken out.new) result }
+    requires { IfSome part IsPart }
+    ensures printed { Does (jobs.Check domain.now problem.now cert.now proved part) (F.bytes_under shelf.old) (S.taken out.old) (S.taken out.new) result }
     ensures read_fault { result ≡ Status.ReadFault → Rose (F.faults shelf.old) (F.faults shelf.new) }
     ensures write_fault { result ≡ Status.WriteFault → Rose (S.faults out.old) (S.faults out.new) }
 {
     match load_claimed(alloc, shelf, domain, problem, cert) {
-        Ok(claimed) => put_check(alloc, out, claimed, proved),
+        Ok(claimed) => put_check(alloc, out, claimed, proved, part),
         Err(cause) => put_cause(out, &cause),
     }
 }
@@ -368,7 +379,8 @@ fn perform_job<R: Threads + Wait + Sync, F: Shelf, S: Sink, G: Gate>(
             problem,
             cert,
             proved,
-        } => check_files(alloc, shelf, out, domain, problem, cert, *proved),
+            part,
+        } => check_files(alloc, shelf, out, domain, problem, cert, *proved, *part),
         Job::Gen {
             kind,
             size,

@@ -18,7 +18,9 @@ use Rattle.dypdl_nodes.specs.Reads.{Refusal}
 use Rattle.step_names.specs.Lines.{bad_byte}
 use Rattle.cert_types.specs.Parts.{Parts, parts_of}
 use Rattle.cert_types.specs.declared.cert.Cert.{Cert}
+use Rattle.cert_types.specs.declared.parts.CheckPart.{CheckPart}
 use Rattle.cert_laws.specs.Checks.{checked}
+use Rattle.cert_laws.specs.PartChecks.{checked_by}
 use Rattle.cert_laws.specs.Shown.{Shown, layer_of}
 use Rattle.cert_laws.specs.declared.answers.Checked.{Checked as Findings}
 use Rattle.cert_laws.specs.declared.answers.Checked.TheVariants as findings
@@ -241,7 +243,7 @@ prints first second (TooLong file) cert words files domain problem search asks o
 prints first second (Refused r) cert words files domain problem search asks off a b h whole = absurd whole
 prints first second NoMemory cert words files domain problem search asks off a b h whole = absurd whole
 prints first second (Replayed m steps told) cert words files domain problem search asks off a b h whole = absurd whole
-prints first second (Checked m proved searched other told) cert words files domain problem search asks off a b h whole = absurd whole
+prints first second (Checked m proved searched other which told) cert words files domain problem search asks off a b h whole = absurd whole
 prints first second (WasShown m) cert words files domain problem search asks off a b h whole = absurd whole
 prints first second (NoGenerated kind size seed refusal) cert words files domain problem search asks off a b h whole = absurd whole
 prints first second (Generated kind size seed m options run) cert words files domain problem search asks off a b h whole = absurd whole
@@ -249,7 +251,7 @@ prints first second (Generated kind size seed m options run) cert words files do
 -- ---- what is told of it
 
 module _ (first second text : List ℕ) (m : Model) (two : Two first second m) (short : IsShort text) (cert : Cert) (n : ℕ) (back : certificate_in m text ≡ Ok (moved cert n)) (shown : Shown m cert)
-    (words : List (List ℕ)) (files : List ℕ → Option (List ℕ)) (domain problem name : List ℕ) (asks : Asks words (jobs.Check domain problem name false))
+    (words : List (List ℕ)) (files : List ℕ → Option (List ℕ)) (domain problem name : List ℕ) (asks : Asks words (jobs.Check domain problem name false None))
     (a : files domain ≡ Some first) (b : files problem ≡ Some second) (c : files name ≡ Some text) where
   not_too_long : (file : ℕ) → AtFile files 1 (domain ∷ problem ∷ name ∷ []) file (λ t. IfSome t IsLong) → ⊥
   not_too_long file (inl h) = told_short (files domain) first a two.first_short h.1
@@ -278,7 +280,7 @@ module _ (first second text : List ℕ) (m : Model) (two : Two first second m) (
       absurd cc
 
   certified : (model : Model) (proved : Option Kept) (searched : Model) (also : Cert) (told : Findings) (texts : List (List ℕ)) → AreTexts files (domain ∷ problem ∷ name ∷ []) texts → MeanCert texts model also
-      → IsSearched model false proved searched → told ≡ checked searched also → Certifies cert.claim (Checked model proved searched also told)
+      → IsSearched model false proved searched → told ≡ checked searched also → Certifies cert.claim (Checked model proved searched also None told)
   certified model proved searched also told [] are h is tells = absurd h
   certified model proved searched also told (x ∷ []) are h is tells = absurd h
   certified model proved searched also told (x ∷ y ∷ []) are h is tells = absurd h
@@ -290,35 +292,38 @@ module _ (first second text : List ℕ) (m : Model) (two : Two first second m) (
       let shows : Shown m also = shown_again m cert also n same shown in
       let yes : told ≡ findings.Yes = tells ∙ ap (λ (x : Model). checked x also) (all.1 ∙ one) ∙ (yes_law m also).1 shows in (
         ap checked_status yes,
-        no_parts model proved (checked_text also.claim told) all.0 ∙ ap (checked_text also.claim) yes ∙ ap (λ (q : Parts). certified_text q.claim) (sym same),
+        no_parts model proved (checked_text None also.claim told) all.0 ∙ ap (checked_text None also.claim) yes ∙ ap (λ (q : Parts). certified_text q.claim) (sym same),
       )
 
   comes_as : (told : Outcome) → ComesOf words files told → Certifies cert.claim told
-  comes_as NoMeaning h = absurd (none_asked words (jobs.Check domain problem name false) asks h)
+  comes_as NoMeaning h = absurd (none_asked words (jobs.Check domain problem name false None) asks h)
   comes_as (ReadFault file) h = tt
   comes_as (TooLong file) h =
-      absurd (not_too_long file (subst (λ (x : Job). AtFile files 1 (names_of x) file (λ t. IfSome t IsLong)) (same_job words h.0 (jobs.Check domain problem name false) h.1 asks) h.2))
+      absurd (not_too_long file (subst (λ (x : Job). AtFile files 1 (names_of x) file (λ t. IfSome t IsLong)) (same_job words h.0 (jobs.Check domain problem name false None) h.1 asks) h.2))
   comes_as (Refused r) h =
-      let of_texts : OfTexts files (domain ∷ problem ∷ name ∷ []) (λ texts. AreRefused Certificate texts r) = subst (λ (x : Job). OfTexts files (names_of x) (λ texts. AreRefused (third_of x) texts r)) (same_job words h.0 (jobs.Check domain problem name false) h.1 asks) h.2 in
+      let of_texts : OfTexts files (domain ∷ problem ∷ name ∷ []) (λ texts. AreRefused Certificate texts r) = subst (λ (x : Job). OfTexts files (names_of x) (λ texts. AreRefused (third_of x) texts r)) (same_job words h.0 (jobs.Check domain problem name false None) h.1 asks) h.2 in
       absurd (not_refused r of_texts.0 of_texts.1 of_texts.2)
   comes_as NoMemory h = tt
-  comes_as (Solving model proved searched search run behind) h = let same : jobs.Solve h.0 h.1 search ≡ jobs.Check domain problem name false = same_job words (jobs.Solve h.0 h.1 search) (jobs.Check domain problem name false) h.2 asks in absurd cc
-  comes_as (SolvingBest model proved searched search run behind) h = let same : jobs.Solve h.0 h.1 search ≡ jobs.Check domain problem name false = same_job words (jobs.Solve h.0 h.1 search) (jobs.Check domain problem name false) h.2 asks in absurd cc
-  comes_as (Replayed model steps told) h = let same : jobs.Replay h.0 h.1 h.2 ≡ jobs.Check domain problem name false = same_job words (jobs.Replay h.0 h.1 h.2) (jobs.Check domain problem name false) h.3 asks in absurd cc
-  comes_as (WasShown model) h = let same : jobs.Show h.0 h.1 ≡ jobs.Check domain problem name false = same_job words (jobs.Show h.0 h.1) (jobs.Check domain problem name false) h.2 asks in absurd cc
-  comes_as (NoGenerated kind size seed refusal) h = let same : jobs.Gen kind size seed h.0 ≡ jobs.Check domain problem name false = same_job words (jobs.Gen kind size seed h.0) (jobs.Check domain problem name false) h.1 asks in absurd cc
-  comes_as (Generated kind size seed model options run) h = let same : jobs.Gen kind size seed h.0 ≡ jobs.Check domain problem name false = same_job words (jobs.Gen kind size seed h.0) (jobs.Check domain problem name false) h.1 asks in absurd cc
-  comes_as (Checked model proved searched also told) h =
-      let same : jobs.Check h.0 h.1 h.2 h.3 ≡ jobs.Check domain problem name false = same_job words (jobs.Check h.0 h.1 h.2 h.3) (jobs.Check domain problem name false) h.4 asks in
+  comes_as (Solving model proved searched search run behind) h = let same : jobs.Solve h.0 h.1 search ≡ jobs.Check domain problem name false None = same_job words (jobs.Solve h.0 h.1 search) (jobs.Check domain problem name false None) h.2 asks in absurd cc
+  comes_as (SolvingBest model proved searched search run behind) h = let same : jobs.Solve h.0 h.1 search ≡ jobs.Check domain problem name false None = same_job words (jobs.Solve h.0 h.1 search) (jobs.Check domain problem name false None) h.2 asks in absurd cc
+  comes_as (Replayed model steps told) h = let same : jobs.Replay h.0 h.1 h.2 ≡ jobs.Check domain problem name false None = same_job words (jobs.Replay h.0 h.1 h.2) (jobs.Check domain problem name false None) h.3 asks in absurd cc
+  comes_as (WasShown model) h = let same : jobs.Show h.0 h.1 ≡ jobs.Check domain problem name false None = same_job words (jobs.Show h.0 h.1) (jobs.Check domain problem name false None) h.2 asks in absurd cc
+  comes_as (NoGenerated kind size seed refusal) h = let same : jobs.Gen kind size seed h.0 ≡ jobs.Check domain problem name false None = same_job words (jobs.Gen kind size seed h.0) (jobs.Check domain problem name false None) h.1 asks in absurd cc
+  comes_as (Generated kind size seed model options run) h = let same : jobs.Gen kind size seed h.0 ≡ jobs.Check domain problem name false None = same_job words (jobs.Gen kind size seed h.0) (jobs.Check domain problem name false None) h.1 asks in absurd cc
+  comes_as (Checked model proved searched also which told) h =
+      let same : jobs.Check h.0 h.1 h.2 h.3 which ≡ jobs.Check domain problem name false None = same_job words (jobs.Check h.0 h.1 h.2 h.3 which) (jobs.Check domain problem name false None) h.4 asks in
       let d : h.0 ≡ domain = cc in
       let p : h.1 ≡ problem = cc in
       let t : h.2 ≡ name = cc in
       let off : h.3 ≡ false = cc in
+      let all : which ≡ None = cc in
       let there : OfTexts files (domain ∷ problem ∷ name ∷ []) (λ texts. MeanCert texts model also) =
       subst (λ (x : List ℕ). OfTexts files (domain ∷ problem ∷ x ∷ []) (λ texts. MeanCert texts model also)) t
       (subst (λ (x : List ℕ). OfTexts files (domain ∷ x ∷ h.2 ∷ []) (λ texts. MeanCert texts model also)) p
       (subst (λ (x : List ℕ). OfTexts files (x ∷ h.1 ∷ h.2 ∷ []) (λ texts. MeanCert texts model also)) d h.5)) in
-      certified model proved searched also told there.0 there.1 there.2 (subst (λ (x : Bool). IsSearched model x proved searched) off h.6) h.7
+      subst (λ (x : Option CheckPart). Certifies cert.claim (Checked model proved searched also x told)) (sym all)
+      (certified model proved searched also told there.0 there.1 there.2 (subst (λ (x : Bool). IsSearched model x proved searched) off h.6)
+      (h.7 ∙ ap (λ (x : Option CheckPart). checked_by x searched also) all))
 
 pub certified_back : LawCertifiedBack
 certified_back first second printed told cert searches whole short hides checks =

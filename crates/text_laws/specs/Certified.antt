@@ -1,5 +1,5 @@
 -- What a search printed with a whole certificate is certified by a check over the same two texts.
-use Rattle.std.specs.Prelude.{◌≡◌, false, IsTrue, List, [], ◌++◌, ℕ, Option, Some}
+use Rattle.std.specs.Prelude.{◌≡◌, false, IsTrue, List, [], ◌++◌, ℕ, Option, None, Some}
 use Rattle.std.specs.Str.Lines.{lines}
 use Rattle.dp_model.specs.declared.answers.Claim.{Claim}
 use Rattle.cert_types.specs.declared.cert.Cert.{Cert}
@@ -29,14 +29,15 @@ pub record Searches (first second : List ℕ) (outcome : Outcome) : Type 0 where
   pub second_is : files problem ≡ Some second
   pub comes : ComesOf words files outcome
 
--- Words ask for a check of a certificate over a domain and a problem with these texts, where this is the third text, and it came to this.
+-- Words ask for a check of a whole certificate over a domain and a problem with these texts, where this is the third text, and it came to
+-- this.
 pub record Checks (first second third : List ℕ) (outcome : Outcome) : Type 0 where
   pub words : List (List ℕ)
   pub files : List ℕ → Option (List ℕ)
   pub domain : List ℕ
   pub problem : List ℕ
   pub text : List ℕ
-  pub asks : Asks words (jobs.Check domain problem text false)
+  pub asks : Asks words (jobs.Check domain problem text false None)
   pub first_is : files domain ≡ Some first
   pub second_is : files problem ≡ Some second
   pub third_is : files text ≡ Some third

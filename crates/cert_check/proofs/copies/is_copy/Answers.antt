@@ -16,6 +16,6 @@ pub returns-in-Stands : goal.returns-in-Stands
 returns-in-Stands g c =
     let within : c.args.place < length c.args.standings.now = omega (arith, c.requires.within, c.requires.level) in
     let copy : CertNode = get_or c.args.nodes.now c.args.place (record { made = None; cut = false }) in
-    copy_found c.args.nodes.now c.args.standings.now c.args.place copy c.index-standings-place.result c.in-Stands.here c.is_seen.result
+    copy_found c.args.share c.args.nodes.now c.args.standings.now c.args.place copy c.index-standings-place.result c.in-Stands.here c.is_seen.result
     (at_default c.args.nodes.now c.args.nodes.now c.args.place (record { made = None; cut = false }) refl c.requires.within) c.if-nodes-place.false
     (at_place c.args.standings.now c.args.place c.index-standings-place.result within c.index-standings-place.is) c.in-Stands.is c.is_seen.ensures

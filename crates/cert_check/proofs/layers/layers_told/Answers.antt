@@ -5,12 +5,13 @@ use Rattle.dom_store.specs.declared.past_node.PastNode.{PastNode}
 use Rattle.cert_types.specs.Parents.{has_parent}
 use Rattle.cert_types.specs.declared.nodes.CertNode.{CertNode}
 use Rattle.cert_laws.specs.Shown.{layer_of}
-use Rattle.cert_laws.specs.Checks.{covering, layers_told, then_told}
+use Rattle.cert_laws.specs.Checks.{covering, then_told}
+use Rattle.cert_laws.specs.PartChecks.{layers_told_in}
 use Rattle.cert_laws.specs.declared.answers.Checked.{Checked}
 use Rattle.cert_check.specs.declared.standings.Standing.{Standing}
 use Rattle.cert_check.specs.Looked.{AreFound, kept_before, pasts, stood, with_new}
 use Rattle.cert_check.proofs.Alike.{alike_by, alike_kept, alike_new, alike_to}
-use Rattle.cert_check.proofs.Rows.{covering_first, covering_next, first_line, layers_step, next_line, parents_next, pasts_standing, stood_first, stood_next}
+use Rattle.cert_check.proofs.Rows.{before_fits, before_more, covering_first, covering_next, first_line, is_share, layers_step, next_line, none_before, parents_next, pasts_standing, stood_first, stood_next}
 use Rattle.cert_check.proofs.layers.layers_told.Goals as goal
 
 next_is : (l : ℕ) → l + 1 ≡ suc l
@@ -34,6 +35,8 @@ loop-l-init g c =
       c.remember.ensures.layout ∙ c.in_ok-past.ensures.layout ∙ c.layout.ensures,
       ap (λ (n : ℕ). cert.first + 4 + n) c.lines_of_list.ensures ∙ (first_line cert).0,
       subst (λ (n : ℕ). ServesModel m n) (sym c.layer_stood.auto.stack) c.requires.room,
+      none_before cert,
+      omega arith,
     )
 
 pub layer_stood-requires-in-loop-l-clause-parents : goal.layer_stood-requires-in-loop-l-clause-parents
@@ -71,6 +74,19 @@ overflow_add-line-in-loop-l-2 g c =
     let same = ap length c.nodes_of-in-loop-l-2.ensures in
     omega (arith, fits, same)
 
+pub layer_told-requires-clause-share : goal.layer_told-requires-clause-share
+layer_told-requires-clause-share g c =
+    let lt : c.loop-l.l < length c.args.cert.now.layers = subst (λ (n : ℕ). c.loop-l.l < n) (search rules) c.loop-l-test.true in
+    is_share c.args.cert.now c.args.part c.loop-l.l c.loop-l.line c.loop-l.before c.requires.part lt c.loop-l.invariant.5 c.loop-l.invariant.8
+
+pub overflow_add-before : goal.overflow_add-before
+overflow_add-before g c =
+    let cert = c.args.cert.now in
+    let lt : c.loop-l.l < length cert.layers = subst (λ (n : ℕ). c.loop-l.l < n) (search rules) c.loop-l-test.true in
+    let fits = (before_fits cert c.loop-l.l c.loop-l.line c.loop-l.before lt c.loop-l.invariant.5 c.loop-l.invariant.8).1 in
+    let same = ap length c.nodes_of-in-loop-l-3.ensures in
+    omega (arith, fits, same)
+
 pub loop-l-preserved : goal.loop-l-preserved
 loop-l-preserved g c =
     let m = c.args.looker.now in
@@ -82,8 +98,8 @@ loop-l-preserved g c =
     ∙ ap (λ (ns : List CertNode). map (λ (n : CertNode). stood m c.deref-in-loop-l.result.now n.made) ns) c.nodes_of-in-loop-l.ensures
     ∙ ap (λ (xs : List Standing). map (λ (n : CertNode). stood m xs n.made) (layer_of cert.layers (l + 1))) c.deref-in-loop-l.ensures.value
     ∙ stood_next m cert l (l + 1) c.loop-l.here.items (next_is l) c.loop-l.invariant.1 in (
-      ap (λ (t : Checked). then_told t (layers_told m cert (l + 1) (drop (l + 1) cert.layers))) (sym c.in-Yes.is ∙ c.in_ok-told.ensures)
-          ∙ sym (layers_step m cert l cert.layers lt) ∙ c.loop-l.invariant.0,
+      ap (λ (t : Checked). then_told t (layers_told_in c.args.part m cert (l + 1) (drop (l + 1) cert.layers))) (sym c.in-Yes.is ∙ c.in_ok-told.ensures)
+          ∙ sym (layers_step c.args.part m cert l cert.layers lt) ∙ c.loop-l.invariant.0,
       are,
       c.in_ok-next.ensures.fits,
       alike_by m g.K.Covers.prune cert.prune _ (covering m cert cert.keep (l + 1)) c.requires.prune
@@ -99,4 +115,8 @@ loop-l-preserved g c =
       c.keep_next.ensures.layout,
       ap (λ (ns : List CertNode). c.loop-l.line + (1 + length ns)) c.nodes_of-in-loop-l-2.ensures ∙ (next_line cert l c.loop-l.line lt c.loop-l.invariant.5).0,
       subst (λ (n : ℕ). ServesModel m n) (sym (c.layer_told.auto.stack ∙ c.layer_stood-in-loop-l.auto.stack)) c.loop-l.invariant.6,
+      ap (λ (ns : List CertNode). c.loop-l.before + length ns) c.nodes_of-in-loop-l-3.ensures ∙ before_more cert l c.loop-l.before lt c.loop-l.invariant.7,
+      (let line = ap length c.nodes_of-in-loop-l-2.ensures in
+      let more = ap length c.nodes_of-in-loop-l-3.ensures in
+      omega (arith, line, more, c.loop-l.invariant.8)),
     )
