@@ -1,5 +1,5 @@
 """Certificates: `Reader(model, data).cert()` gives what a text says, or its first refusal; `checked` gives None where the certificate shows
-its claim, and else the first line, in the order of the text, at which something fails."""
+its claim, or shows it in a part, and else the first line, in the order of the text, at which something fails."""
 
 import re
 
@@ -10,6 +10,7 @@ from .values import Fault, Play, replayed
 
 NUMBER = "(0|[1-9][0-9]*)"
 NO_LEGAL_LIST = 2**64 - 1  # a word above those of all costs
+MOST_PARTS = 4096
 
 
 class Cert:
@@ -113,9 +114,26 @@ class Rejected(Exception):
         self.line, self.leads = None, True
 
 
+class Part:
+    """One of `count` parts of a check, from 1 on. It has every count-th place in the text, which counts the nodes of all layers from 0."""
+
+    def __init__(self, index, count):
+        self.index, self.count = index, count
+
+    @classmethod
+    def named(cls, text):
+        """The part that `2/3` names; None where a text names none."""
+        found = re.fullmatch("([0-9]{1,20})/([0-9]{1,20})", text)
+        index, count = map(int, found.groups()) if found else (0, 0)
+        return cls(index, count) if 1 <= index <= count <= MOST_PARTS else None
+
+    def has(self, place):
+        return place % self.count == self.index - 1
+
+
 class Checker:
-    def __init__(self, model, cert):
-        self.model, self.cert, self.play, self.line = model, cert, Play(model), None
+    def __init__(self, model, cert, part):
+        self.model, self.cert, self.part, self.play, self.line = model, cert, part, Play(model), None
         self.claimed = NO_LEGAL_LIST if cert.cost is None else self.play.word(cert.cost)
         resources = [v for v in model.variables if cert.prune and v.preference != "without"]
         self.signs = [(v.place, 1 if v.preference == "less" else -1) for v in resources]
@@ -196,12 +214,14 @@ class Checker:
         if stop.cost != self.cert.cost:
             raise Rejected("Claim", f"after {stop.done} steps {stop.why}" if stop.reason else f"the claimed list costs {stop.cost}")
 
-    def test_node(self, node, here, covering):
+    def test_node(self, node, here, covering, looked):
+        """What is asked at the line of a node. The steps from it, if it is open, are looked at or are not."""
         if isinstance(here, Rejected):
             here.leads = False
             raise here
         if not node[2]:
-            self.test_steps(*here, covering)
+            if looked:
+                self.test_steps(*here, covering)
         elif not self.is_high(self.floor(*here)):
             raise Rejected("Cut", self.why_low(self.floor(*here)), None, here)
 
@@ -231,25 +251,25 @@ class Checker:
         self.line += 3
         if cert.cost is not None:
             self.test_claim()
-        covering, standing = {}, [self.stand(node, ()) for node in cert.nodes(0)]
+        passed, covering, standing = 0, {}, [self.stand(node, ()) for node in cert.nodes(0)]
         self.cover(covering, standing)
         for k, (above, nodes) in enumerate(cert.layers):
             covering = covering if cert.keeps_all else {}
             following = [self.stand(node, standing) for node in cert.nodes(k + 1)]
             self.cover(covering, following)
-            for place, (node, here) in enumerate(zip(nodes, standing), 1):
-                self.line = above + place
-                self.test_node(node, here, covering)
-            standing = following
+            for place, (node, here) in enumerate(zip(nodes, standing)):
+                self.line = above + 1 + place
+                self.test_node(node, here, covering, self.part.has(passed + place))
+            passed, standing = passed + len(nodes), following
 
 
 def no_worse(merits, others):
     return all(a <= b for a, b in zip(merits, others))
 
 
-def checked(model, cert):
-    """None where the certificate shows its claim, or else what fails at the first line."""
-    checker = Checker(model, cert)
+def checked(model, cert, part=None):
+    """None where the certificate shows its claim, or does so in the part, or else what fails at the first line."""
+    checker = Checker(model, cert, part or Part(1, 1))
     try:
         checker.lines()
     except (Fault, Rejected) as met:
