@@ -344,6 +344,11 @@ MEANINGLESS = [
     # other values
     "solve d p --prune OFF", "solve d p --prune On", "solve d p --prune 1", "solve d p --prune true", "solve d p --prune=off=on", "solve d p --prune \u043eff",
     "solve d p --prune off,on", "solve d p --prune='off'",
+    # parts of a check
+    "check d p l --part 0/3", "check d p l --part 4/3", "check d p l --part 1/5000", "check d p l --part 1/4097", "check d p l --part 1/", "check d p l --part /3",
+    "check d p l --part 1", "check d p l --part", "check d p l --part=", "check d p l --part /", "check d p l --part 1/2/3", "check d p l --part 1//3",
+    "check d p l --part 0/0", "check d p l --part -1/3", "check d p l --part 1/3 ", "check d p l --part 1 /3", "check d p l --part 1/18446744073709551617",
+    "check d p l --part 1/3 --part 2/3", "solve d p --part 1/3", "check d p --part 1/3",
     # numbers
     "solve d p --workers -1", "solve d p --workers=-1", "solve d p --workers=+1", "solve d p --workers 1.0", "solve d p --workers 1e0", "solve d p --workers 0x1",
     "solve d p --workers 1_0", "solve d p --workers \uff11", "solve d p --workers \u0661", "solve d p --workers 1,", "solve d p --workers 65",

@@ -4,8 +4,8 @@ repository. Those whose texts are made when they run are written by made_runs.py
 
 VECTORS is a folder with the files that TABLES names: lists of models, each with the words of a run and with the output
 and the status that a program which shares no code with the solver worked out. It is not part of the repository: with the word `stored` in its place the
-cases of these tables stay as they are stored. The other runs, with their answers, stand
-in small_runs.py, guard_runs.py, rule_runs.py, certificate_runs.py, check_runs.py and proved_runs.py, written by hand; in docs/GUIDE.md and docs/LANGUAGE.md, from where guide_runs.py
+cases of these tables stay as they are stored. The runs of the parts of checks
+are part_runs.py's. The other runs, with their answers, stand in small_runs.py, guard_runs.py, rule_runs.py, certificate_runs.py, check_runs.py and proved_runs.py, written by hand; in docs/GUIDE.md and docs/LANGUAGE.md, from where guide_runs.py
 and language_runs.py take them; and models_check.py works out those of the models of models/. Texts and words that mean no good are in
 hostile_runs.py.
 
@@ -24,6 +24,7 @@ import guide_runs
 import hostile_runs
 import language_runs
 import models_check
+import part_runs
 import proved_runs
 import stored
 from asked import asked
@@ -45,7 +46,7 @@ TABLES = [
     ("gap", "gap", 1),
     ("best", "best", 2),
     ("announce", "announce", 2),
-    ("checks", "check", 8),
+    ("checks", "check", None),
     ("field", "field", None),
     ("profile", "profile2", 4),
 ]
@@ -103,7 +104,7 @@ def standing(name, front):
 def of_tables(folder):
     """The cases of all tables: written anew from the folder, or else as they are stored."""
     if folder != "stored":
-        return [write(name, of_vectors(folder, name, table, most)) for name, table, most in TABLES]
+        return [write(name, part_runs.with_parts(of_vectors(folder, name, table, most), (1, 2, 3, 7))) for name, table, most in TABLES]
     out, front = [], stored.parts()[0]
     for name, _, _ in TABLES:
         text, front = standing(name, front)
@@ -154,7 +155,7 @@ def main(folder):
     out.append(write("orders", ORDERS + RULES + guard_runs.RUNS))
     out.append(write("models", of_models()))
     out.append(write("guide", [*guide_runs.cases(), *language_runs.cases()]))
-    out.append(write("certificates", certificate_runs.RUNS + check_runs.RUNS))
+    out.append(write("certificates", part_runs.with_parts(certificate_runs.RUNS + check_runs.RUNS, (3,))))
     out.append(write("proved", proved_runs.RUNS))
     out.append(hostile_runs.write(f"{CRATE}/data/hostile.txt", hostile_runs.plain()))
     stored.write_front("".join(out))
