@@ -101,9 +101,7 @@ fn is_seen<L: CostLaw>(
         seen.note(words, place)?;
         return Ok(false);
     };
-    Ok(is_same_at(
-        looker, nodes, standings, share, earlier, place, here,
-    ))
+    Ok(is_same_at(looker, nodes, standings, share, earlier, place, here))
 }
 
 // the key of a node's state, and the order word of its cost so far

@@ -117,6 +117,6 @@ loop-l-preserved g c =
       subst (λ (n : ℕ). ServesModel m n) (sym (c.layer_told.auto.stack ∙ c.layer_stood-in-loop-l.auto.stack)) c.loop-l.invariant.6,
       ap (λ (ns : List CertNode). c.loop-l.before + length ns) c.nodes_of-in-loop-l-3.ensures ∙ before_more cert l c.loop-l.before lt c.loop-l.invariant.7,
       (let line = ap length c.nodes_of-in-loop-l-2.ensures in
-      let more = ap length c.nodes_of-in-loop-l-3.ensures in
-      omega (arith, line, more, c.loop-l.invariant.8)),
+          let more = ap length c.nodes_of-in-loop-l-3.ensures in
+          omega (arith, line, more, c.loop-l.invariant.8)),
     )
