@@ -3,7 +3,7 @@ use Rattle.std.proofs.Common.{◌≡◌, ℕ, ◌+◌, ◌<◌, ◌≤◌, ◌�
 use Rattle.std.specs.Prelude.{ℤ, ◌≤ℤ◌, int_le, IfSome}
 use Rattle.std.specs.List.{range_with_len}
 use Rattle.std.proofs.lemmas.Int.{ints}
-use Rattle.dp_model.specs.Costs.{InRange, join, join_onto, ranged}
+use Rattle.dp_model.specs.Costs.{InRange, join_onto, ranged}
 use Rattle.dp_model.specs.StepTexts.{ground_of}
 use Rattle.dp_model.specs.declared.answers.Claim.{Claim}
 use Rattle.dp_model.specs.declared.answers.FaultKind.{FaultKind}
@@ -15,7 +15,7 @@ use Rattle.dp_model.specs.declared.parts.PlainState.{PlainState}
 use Rattle.dp_model.specs.declared.parts.Transition.{Transition}
 use Rattle.dp_model.specs.declared.whole.Model.{Model}
 use Rattle.dp_steps.specs.Bounds.{IsFloor}
-use Rattle.dp_steps.specs.States.{Base, Considered, Enabled, Inner, Step}
+use Rattle.dp_steps.specs.States.{Considered, Enabled, Inner}
 use Rattle.dp_claims.specs.Enough.{Has}
 use Rattle.spot_eval.specs.Answers.{at_spot}
 use Rattle.spot_eval.specs.Looks.{floor_at, looked_at}

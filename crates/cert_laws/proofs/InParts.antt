@@ -1,6 +1,6 @@
 -- A certificate shows its claim exactly where it does so in each part. At a line a part finds what the whole finds, or nothing.
 use Rattle.std.proofs.Common.{◌≡◌, ℕ, ◌+◌, ◌<◌, ◌≤◌, Bool, true, false, List, Option, Some, None, Result, Ok, Err, refl, sym, ap, subst, ◌∙◌, arith}
-use Rattle.std.specs.Prelude.{◌%◌, nat_eq, if◌then◌else◌, ℤ}
+use Rattle.std.specs.Prelude.{◌%◌, if◌then◌else◌, ℤ}
 use Rattle.std.proofs.lemmas.Bool.{eq-eqb}
 use Rattle.std.proofs.lemmas.Nat.{mod_below}
 use Rattle.dp_model.specs.declared.parts.PlainState.{PlainState}

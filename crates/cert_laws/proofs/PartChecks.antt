@@ -1,10 +1,9 @@
 -- What the check of a part tells, by the first line that it rejects; and what the checks of all parts tell together.
-use Rattle.std.proofs.Common.{◌≡◌, ℕ, ◌+◌, ◌<◌, ◌≤◌, ◌⊎◌, inl, inr, zero, suc, true, List, [], ◌∷◌, length, take, slice_get, get_or, Option, Some, None, refl, sym, ap, subst, ◌∙◌, arith}
+use Rattle.std.proofs.Common.{◌≡◌, ℕ, ◌+◌, ◌<◌, ◌≤◌, ◌⊎◌, inl, inr, zero, suc, List, [], ◌∷◌, length, take, slice_get, Option, Some, None, refl, sym, ap, subst, ◌∙◌, arith}
 use Rattle.std.specs.List.{sum_by}
 use Rattle.std.proofs.lemmas.Bool.{cases_order}
 use Rattle.std.proofs.lemmas.List.Sums.{sum_by_more, sum_by-cons}
 use Rattle.std.proofs.lemmas.Option.{get_or_from_slice_get, slice_get_within}
-use Rattle.dp_model.specs.declared.answers.Claim.{Claim}
 use Rattle.dp_model.specs.declared.whole.Model.{Model}
 use Rattle.cert_types.specs.Lines.{line_of_claim, line_of_layer, line_of_node, lines_of_layer}
 use Rattle.cert_types.specs.Places.{place_in_text, whole}
@@ -12,7 +11,7 @@ use Rattle.cert_types.specs.declared.cert.Cert.{Cert}
 use Rattle.cert_types.specs.declared.nodes.CertNode.{CertNode}
 use Rattle.cert_types.specs.declared.parts.CheckPart.{CheckPart}
 use Rattle.cert_laws.specs.Shown.{layer_of, ClaimHolds, IsAt, TargetHolds}
-use Rattle.cert_laws.specs.Checks.{checked, claim_fails, layer_told, layers_told, node_fails, target_fails, then_told, told_at}
+use Rattle.cert_laws.specs.Checks.{claim_fails, layer_told, layers_told, node_fails, target_fails, then_told, told_at}
 use Rattle.cert_laws.specs.Told.{ClaimFails, FirstFails, IsBefore}
 use Rattle.cert_laws.specs.InParts.{HasPlace, ShownInPart}
 use Rattle.cert_laws.specs.PartChecks.{checked_in, layer_told_in, layers_told_in, node_fails_in, FirstOfParts, IsNoEarlier, NodeFailsInPart, PartNoFails, PartYesShows, WholeChecks}
@@ -270,7 +269,7 @@ module _ (part : CheckPart) (m : Model) (cert : Cert) where
       some_none reason (node_fails_in part m cert r.l r.place r.n) r.fails (part_found_line part m cert r.l r.place r.n (line_shown shown r.l r.place r.n r.at))
 
   shows_yes : ShownInPart part m cert → checked_in part m cert ≡ Yes
-  shows_yes shown = elim (yes_or_no (checked_in part m cert)) [ inl yes ↦ yes | inr no ↦ absurd (no_clash shown no.0 no.1 (says_no no.0 no.1 no.2)) ]
+  shows_yes shown = elim (yes_or_no (checked_in part m cert)) [ inl is ↦ is | inr other ↦ absurd (no_clash shown other.0 other.1 (says_no other.0 other.1 other.2)) ]
 
   -- ---- no
 

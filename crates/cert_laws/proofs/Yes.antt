@@ -9,7 +9,6 @@ use Rattle.dp_model.specs.declared.answers.Found.{Found as FoundList}
 use Rattle.dp_model.specs.declared.parts.PlainState.{PlainState}
 use Rattle.dp_model.specs.declared.whole.Model.{Model}
 use Rattle.dp_steps.specs.Lists.{Solution}
-use Rattle.dp_steps.specs.States.{Base}
 use Rattle.spot_eval.specs.Looks.{looked_at}
 use Rattle.spot_eval.specs.declared.looks.Look.{Look}
 use Rattle.spot_eval.specs.declared.looks.Look.TheVariants as looks
