@@ -107,12 +107,19 @@ module _ (p : Pass) (records : List ShardRecord) (before after : View) (tally : 
       let h : IsPassEnd p before after (ends.Halted causes.Memory tally.visited dropped None) = (drew, tt, record { cause_is = tt; best_is = λ other. absurd (other refl) }, λ other. absurd (other refl)) in
       subst (λ (e : PassEnd). IsPassEnd p before after e) (sym is) h
 
-  what_is_left : (dropped : ℕ) (floor : Option ℤ) → AreDropped p records dropped floor → (best : Option Found) → IsBestOf p records best → HasLeft p before after dropped best
-  what_is_left dropped floor drops best held =
+  -- the halt word of a spent budget
+  word_is : (why : Cause) → IsCause p before after why → why ≡ causes.Budget → cause ≡ 1
+  word_is causes.Budget h is = left.cause_is ∙ h.0
+  word_is (causes.Fault fault) h is = let clash : causes.Fault fault ≡ causes.Budget = is in absurd (cc)
+  word_is causes.Memory h is = let clash : causes.Memory ≡ causes.Budget = is in absurd (cc)
+
+  what_is_left : (why : Cause) → IsCause p before after why → (dropped : ℕ) (floor : Option ℤ) → AreDropped p records dropped floor → (best : Option Found) → IsBestOf p records best → HasLeft p before after why tally.visited dropped best
+  what_is_left why cause_is dropped floor drops best held =
       record {
         records = records;
         long = left.long;
         together = left.together;
+        visits = λ is. left.spent_visits (word_is why cause_is is);
         drops = drops.count_is;
         held_is = held;
         best_is = left.best_is;
@@ -121,7 +128,7 @@ module _ (p : Pass) (records : List ShardRecord) (before after : View) (tally : 
   pub halts : (dropped : ℕ) (floor : Option ℤ) → AreDropped p records dropped floor → (why : Cause) → IsCause p before after why → (best : Option Found) → IsLegal p.model best → IsLowered p (best_known before) best (best_known after)
       → IsBestOf p records best → (end : PassEnd) → end ≡ ends.Halted why tally.visited dropped best → IsPassEnd p before after end
   halts dropped floor drops why cause_is best legal lowered held end is =
-      let h : IsPassEnd p before after (ends.Halted why tally.visited dropped best) = (drew, legal, record { cause_is = cause_is; best_is = λ other. lowered }, λ other. what_is_left dropped floor drops best held) in
+      let h : IsPassEnd p before after (ends.Halted why tally.visited dropped best) = (drew, legal, record { cause_is = cause_is; best_is = λ other. lowered }, λ other. what_is_left why cause_is dropped floor drops best held) in
       subst (λ (e : PassEnd). IsPassEnd p before after e) (sym is) h
 
   pub ends_left : (xs : List ShardEnd) → xs ≡ tally.ends.items → AreEnds p records xs tally.logs.items

@@ -88,11 +88,13 @@ pub record IsHalted (p : Pass) (before after : View) (cause : Cause) (best : Opt
   pub best_is : (cause ≡ causes.Memory → ⊥) → IsLowered p (best_known before) best (best_known after)
 
 -- What the shards left of it: a record of each, which are those of one pass, done or not. The dropped nodes and the best solution are
--- those of the records, and the best word after the pass is the least of the one before it and the words that they hold.
-pub record HasLeft (p : Pass) (before after : View) (dropped : ℕ) (best : Option Found) : Type 0 where
+-- those of the records, and so are the visits where the budget was spent. The best word after the pass is the least of the one before it
+-- and the words that they hold.
+pub record HasLeft (p : Pass) (before after : View) (cause : Cause) (visited dropped : ℕ) (best : Option Found) : Type 0 where
   pub records : List ShardRecord
   pub long : length records ≡ p.shards
   pub together : Together p records
+  pub visits : cause ≡ causes.Budget → visited ≡ visits_of records p.shards
   pub drops : dropped ≡ length (dropped_of records p.shards)
   pub held_is : IsBestOf p records best
   pub best_is : IsBest p records (best_known before) (best_known after)
@@ -101,4 +103,4 @@ pub record HasLeft (p : Pass) (before after : View) (dropped : ℕ) (best : Opti
 
 abbrev pub IsPassEnd : Pass → View → View → PassEnd → Type 0
 IsPassEnd p before after (ends.Closed visited dropped floor best) = HasDrawn p.model p.keep before after visited × IsLegal p.model best × IsClosed p before after visited dropped floor best
-IsPassEnd p before after (ends.Halted cause visited dropped best) = HasDrawn p.model p.keep before after visited × IsLegal p.model best × IsHalted p before after cause best × ((cause ≡ causes.Memory → ⊥) → HasLeft p before after dropped best)
+IsPassEnd p before after (ends.Halted cause visited dropped best) = HasDrawn p.model p.keep before after visited × IsLegal p.model best × IsHalted p before after cause best × ((cause ≡ causes.Memory → ⊥) → HasLeft p before after cause visited dropped best)

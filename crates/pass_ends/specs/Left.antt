@@ -30,7 +30,8 @@ abbrev pub HasFault : Pass → List ShardRecord → Type 0
 HasFault p records = (i : ℕ) × (f : FaultHere) × (i < p.shards) × ((record_of records i).fault ≡ Some f)
 
 -- What the shards left: a record of each, which are those of one pass. The views are those of the board's whole seat before the
--- pass and after it, and the cause is the halt word: where there was no halt, all records are done.
+-- pass and after it, and the cause is the halt word: where there was no halt, all records are done. Where the budget was spent, no shard
+-- ran out of memory, so the numbers below the budget are those of visits.
 pub record AreLeft (p : Pass) (records : List ShardRecord) (before after : View) (tally : Tally) (cause : ℕ) : Type 0 where
   pub inner : StartsInner p
   pub long : length records ≡ p.shards
@@ -47,6 +48,7 @@ pub record AreLeft (p : Pass) (records : List ShardRecord) (before after : View)
   pub cause_is : cause ≡ after.raised
   pub all_done : cause ≡ 0 → AllDone p records × (gained ≡ visits_of records p.shards) × (after.drawn - after.limit ≡ before.drawn - after.limit)
   pub spent : cause ≡ 1 → before.drawn - after.limit < after.drawn - after.limit
+  pub spent_visits : cause ≡ 1 → tally.visited ≡ visits_of records p.shards
   pub faulted : 3 ≤ cause → HasFault p records
 
 -- ---- what is read off

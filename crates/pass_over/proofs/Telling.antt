@@ -1,5 +1,5 @@
 -- A pass that is over: what the whole seat knows then, and the records that the shards left.
-use Rattle.std.proofs.Common.{◌≡◌, ℕ, ◌+◌, ◌-◌, ◌<◌, ◌≤◌, ◌⊎◌, inl, inr, min, List, length, slice_get, Option, Some, None, refl, sym, ap, subst, ◌∙◌, arith}
+use Rattle.std.proofs.Common.{◌≡◌, ℕ, ◌+◌, ◌-◌, ◌<◌, ◌≤◌, ◌⊎◌, inl, inr, min, suc, List, [], ◌∷◌, length, slice_get, Option, Some, None, refl, sym, ap, subst, ◌∙◌, arith}
 use Rattle.std.specs.Prelude.{ℤ, pos, ◌≤ℤ◌}
 use Rattle.std.proofs.lemmas.Bool.{cases_lt}
 use Rattle.std.proofs.lemmas.Int.{ints}
@@ -19,7 +19,7 @@ use Rattle.pass_ledger.specs.declared.records.Held.{Held}
 use Rattle.pass_ledger.specs.declared.records.ShardRecord.{ShardRecord}
 use Rattle.path_log.specs.Paths.{Log}
 use Rattle.shard_core.specs.declared.shard.ShardEnd.{ShardEnd}
-use Rattle.shard_seats.specs.Seats.{IsOfferOf, HasEnded, Sat}
+use Rattle.shard_seats.specs.Seats.{IsOfferOf, HadMemory, HasEnded, Sat}
 use Rattle.shard_seats.specs.declared.ended.Ended.{Ended}
 use Rattle.shard_seats.specs.declared.ended.Ended.TheVariants as endings
 use Rattle.pass_ends.specs.Left.{AreEnds, AreLeft, HasFault}
@@ -47,6 +47,10 @@ late_by p i v r (endings.Halted halts.Budget) h raised = h.1
 late_by p i v r (endings.Halted halts.Memory) h raised = absurd (omega (arith, h.0, raised))
 late_by p i v r (endings.Halted halts.Fault) h raised = absurd (omega (arith, h.0, raised))
 
+-- memory ran out
+memory_by : (p : Pass) (i : ℕ) (v : View) (r : ShardRecord) (end : Ended) → HasEnded p i v r end → end ≡ endings.Halted halts.Memory → v.raised ≡ 2
+memory_by p i v r end h is = let at : HasEnded p i v r (endings.Halted halts.Memory) = subst (HasEnded p i v r) is h in omega (arith, at.0)
+
 -- a fault was met
 fault_by : (p : Pass) (i : ℕ) (v : View) (r : ShardRecord) (end : Ended) → HasEnded p i v r end → 3 ≤ v.raised → (f : FaultHere) × (r.fault ≡ Some f)
 fault_by p i v r endings.Done h raised = absurd (omega (arith, h.0, raised))
@@ -66,6 +70,21 @@ under : (a b : ℕ) (w : ℤ) → a ≤ b → pos b ≡ w → pos a ≤ℤ w
 under a b w le e = let same = e in omega (arith, ints, same)
 
 -- ---- numbers of the whole seat
+
+-- Numbers of the seats, each of which is a term of a sum and another number of the seat: they add up to the whole sum and all the others.
+all_with : (f g : View → ℕ) (total part : ℕ → ℕ) → ((i : ℕ) → total (suc i) ≡ total i + part i) → (seats : List SeatFacts) (k : ℕ) → ((i : ℕ) (s : SeatFacts) → slice_get seats i ≡ Some s → f s.view ≡ part (k + i) + g s.view)
+    → all_of f seats + total k ≡ total (k + length seats) + all_of g seats
+all_with f g total part adds [] k each = let e : total k ≡ total (k + 0) = ap total (omega arith) in omega (arith, e)
+all_with f g total part adds (s ∷ seats) k each =
+    let here = each 0 s refl in
+    let at : part (k + 0) ≡ part k = ap part (omega arith) in
+    let rest = all_with f g total part adds seats (suc k) (λ i x h. each (suc i) x h ∙ ap (λ (n : ℕ). part n + g x.view) (place i)) in
+    let end : total (suc k + length seats) ≡ total (k + suc (length seats)) = ap total (omega arith) in
+    let step = adds k in
+    omega (arith, here, at, rest, end, step)
+  where
+    place : (i : ℕ) → k + suc i ≡ suc k + i
+    place i = omega arith
 
 -- of the numbers drawn by a pass, those below the budget are its visits
 visits_are : (b d g now was visited : ℕ) → now ≡ min (d + g) b → was ≡ min d b → visited ≡ now - was → visited + ((d + g) - b) ≡ g + (d - b)
@@ -224,6 +243,26 @@ module _ (p : Pass) (budget visits : ℕ) (before after : View) (seats : List Se
         let above = all_above (λ v. v.late) seats r.0 r.1 r.2 in
         omega (arith, late, above, late_is, late_now, late_then)
 
+    -- No shard ran out of memory where the greatest halt word is that of a spent budget, so each number that was drawn is that of a visit,
+    -- or late.
+    had_memory : cause ≡ 1 → (i : ℕ) (s : SeatFacts) (at : slice_get seats i ≡ Some s) → HadMemory (sat i s at).0
+    had_memory one i s at is =
+        let h = sat i s at in
+        let raised = memory_by p i s.view (record_of over.left.records i) h.0 h.1.cause is in
+        let a = raised_each i s at in
+        let b = cause_is in
+        absurd (omega (arith, one, raised, a, b))
+
+    drawn_or_late : cause ≡ 1 → all_of (λ v. v.drawn) seats ≡ visits_of over.left.records p.shards + all_of (λ v. v.late) seats
+    drawn_or_late one =
+        let e = all_with (λ v. v.drawn) (λ v. v.late) (visits_of over.left.records) (λ i. length (record_of over.left.records i).visits) (λ i. refl) seats 0
+        (λ i s at. subst (λ (n : ℕ). s.view.drawn ≡ length (record_of over.left.records n).visits + s.view.late) (from_none i) ((sat i s at).1.drawn (had_memory one i s at))) in
+        let same = ap (visits_of over.left.records) (sym (from_none (length seats)) ∙ over.left.seats_long) in
+        omega (arith, e, same)
+      where
+        from_none : (n : ℕ) → n ≡ 0 + n
+        from_none n = omega arith
+
     faulted : 3 ≤ cause → HasFault p over.left.records
     faulted some =
         let r = raised_one (let a = cause_is in omega (arith, some, a)) in
@@ -232,27 +271,31 @@ module _ (p : Pass) (budget visits : ℕ) (before after : View) (seats : List Se
         (r.0, f.0, within r.0 r.1 r.2, f.1)
 
     are_left : (tally : Tally) (best now : ℕ) → tally.ends.items ≡ ends → tally.logs.items ≡ logs → tally.share ≡ p.share → now ≡ min after.drawn budget → tally.visited ≡ now - visits → IsBestFor after best → AreLeft p over.left.records before after tally cause
-    are_left tally best now ends_are logs_are share now_is visited bests = record {
-      inner = over.inner;
-      long = over.left.long;
-      together = over.left.together;
-      ends = subst (λ (l : List Log). AreEnds p over.left.records tally.ends.items l) (sym logs_are) (subst (λ (l : List ShardEnd). AreEnds p over.left.records l logs) (sym ends_are) over.left.handed);
-      share = share;
-      best_is = is_best;
-      prunes = prunes_above best bests;
-      gained = all_of (λ v. v.drawn) seats;
-      drawn = drawn_is;
-      few_drawn = few_drawn;
-      late = late_now;
-      visits = (let a = over.begun.visits_are in let b = over.begun.limit in
-          let n : now ≡ min (before.drawn + all_of (λ v. v.drawn) seats) budget = omega (arith, now_is, drawn_is) in
-          let h = visits_are budget before.drawn (all_of (λ v. v.drawn) seats) now visits tally.visited n a visited in
-          omega (arith, h, drawn_is, limit_is, b));
-      cause_is = cause_is;
-      all_done = all_done;
-      spent = spent;
-      faulted = faulted;
-    }
+    are_left tally best now ends_are logs_are share now_is visited bests =
+        let a = over.begun.visits_are in
+        let b = over.begun.limit in
+        let n : now ≡ min (before.drawn + all_of (λ v. v.drawn) seats) budget = omega (arith, now_is, drawn_is) in
+        let h = visits_are budget before.drawn (all_of (λ v. v.drawn) seats) now visits tally.visited n a visited in
+        let sum : tally.visited + (after.drawn - after.limit) ≡ all_of (λ v. v.drawn) seats + (before.drawn - after.limit) = omega (arith, h, drawn_is, limit_is, b) in
+        record {
+          inner = over.inner;
+          long = over.left.long;
+          together = over.left.together;
+          ends = subst (λ (l : List Log). AreEnds p over.left.records tally.ends.items l) (sym logs_are) (subst (λ (l : List ShardEnd). AreEnds p over.left.records l logs) (sym ends_are) over.left.handed);
+          share = share;
+          best_is = is_best;
+          prunes = prunes_above best bests;
+          gained = all_of (λ v. v.drawn) seats;
+          drawn = drawn_is;
+          few_drawn = few_drawn;
+          late = late_now;
+          visits = sum;
+          cause_is = cause_is;
+          all_done = all_done;
+          spent = spent;
+          spent_visits = λ one. let e = drawn_or_late one in omega (arith, e, sum, late_is, late_now, late_then);
+          faulted = faulted;
+        }
 
 module _ (p : Pass) (budget visits : ℕ) (before : View) (seat : SeatFacts) (seats : List SeatFacts) (ends : List ShardEnd) (logs : List Log) (over : IsOver p budget visits before seat.view seats ends logs)
     (now : ℕ) (counted : IsWhole seat.view → now ≡ min seat.view.drawn budget) where

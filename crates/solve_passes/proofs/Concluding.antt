@@ -132,7 +132,7 @@ module _ (m : Model) (options : Options) (gap : Bool) (printing : Printing) (bef
   pub over : (mid after : Option (List ℕ)) (status : Status) (bound : Option ℤ) (ending : Ending) (last : Option Found) → Takes old mid (lines_of printing m progress announced tally found) →
       RightBound m options gap (run_of bound ending) bound → RightEnding m options gap (run_of bound ending) ending → KeepsWord m options bound ending →
       IsTold printing m mid after status bound ending → last ≡ held_after progress.held found → ((ending ≡ OutOfMemory → ⊥) → TellsBest this) →
-      (Closes ending → CountsClosed m options this) → (Halts ending → CountsHalted m options this) → HasWords this → IfSome bound InWideRange → Concluded m options gap printing before after (solved_by status last)
+      (Closes ending → CountsClosed m options this) → (Halts ending → CountsHalted m options ending this) → HasWords this → IfSome bound InWideRange → Concluded m options gap printing before after (solved_by status last)
   over mid after status bound ending last told bounded right word printed is_last best closed halted words wide = record {
     run = run_of bound ending;
     announcing = announcing;

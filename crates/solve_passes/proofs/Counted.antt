@@ -7,11 +7,12 @@ use Rattle.dp_model.specs.declared.answers.Cause.{Cause}
 use Rattle.dp_model.specs.declared.answers.Cause.TheVariants as causes
 use Rattle.dp_model.specs.declared.answers.Found.{Found}
 use Rattle.dp_model.specs.declared.answers.Options.{Options}
+use Rattle.dp_model.specs.declared.answers.Verdict.TheVariants as verdicts
 use Rattle.dp_model.specs.declared.whole.Model.{Model}
 use Rattle.pass_run.proofs.Places.{each_more, none_there}
 use Rattle.solve_passes.specs.Counted.{Closes, CountsClosed, CountsHalted, Halts, HasWords, IsCounted}
 use Rattle.solve_passes.specs.Ongoing.{halt_ending, printed_bound, verdict_of}
-use Rattle.solve_passes.specs.Records.{Ended, Ending, Pass}
+use Rattle.solve_passes.specs.Records.{Ended, Ending, OutOfMemory, Pass}
 
 -- ---- before any pass
 
@@ -45,11 +46,11 @@ module _ (m : Model) (options : Options) (ps : List Pass) (p : Pass) (before : A
   pub closed_more : CountsClosed m options p → HasWords p → AreClosed m options more
   closed_more closed words = each_more (λ (k : ℕ) (q : Pass). CountsClosed m options q × HasWords q) ps more p refl before (closed, words)
 
-  pub counted_more : (bound : Option ℤ) (ending : Ending) → (Closes ending → CountsClosed m options p) → (Halts ending → CountsHalted m options p) → HasWords p → IfSome bound InWideRange
+  pub counted_more : (bound : Option ℤ) (ending : Ending) → (Closes ending → CountsClosed m options p) → (Halts ending → CountsHalted m options ending p) → HasWords p → IfSome bound InWideRange
       → IsCounted m options (record { at_target = None; passes = more; bound = bound; ending = ending })
   counted_more bound ending closed halted words wide = record {
     closed = each_more (λ (k : ℕ) (q : Pass). (k + 1 < length more) ⊎ Closes ending → CountsClosed m options q) ps more p refl (λ k q at _. (before k q at).0) last_closed;
-    halted = each_more (λ (k : ℕ) (q : Pass). k + 1 ≡ length more → Halts ending → CountsHalted m options q) ps more p refl (λ k q at is halts. absurd (no_sooner k (within k q at) is)) (λ _ halts. halted halts);
+    halted = each_more (λ (k : ℕ) (q : Pass). k + 1 ≡ length more → Halts ending → CountsHalted m options ending q) ps more p refl (λ k q at is halts. absurd (no_sooner k (within k q at) is)) (λ _ halts. halted halts);
     words = each_more (λ (k : ℕ) (q : Pass). HasWords q) ps more p refl (λ k q at. (before k q at).1) words;
     bound = wide;
   }
@@ -79,6 +80,12 @@ pub had_memory : (visits : ℕ) (cause : Cause) → Halts (halt_ending visits ca
 had_memory visits causes.Budget halts is = let clash : causes.Budget ≡ causes.Memory = is in absurd cc
 had_memory visits (causes.Fault fault) halts is = let clash : causes.Fault fault ≡ causes.Memory = is in absurd cc
 had_memory visits causes.Memory halts is = halts
+
+-- where it is stopped the budget was spent
+pub was_spent : (visits : ℕ) (cause : Cause) (v : ℕ) → halt_ending visits cause ≡ Ended (verdicts.Stopped v) → cause ≡ causes.Budget
+was_spent visits causes.Budget v is = refl
+was_spent visits (causes.Fault fault) v is = let clash : Ended (verdicts.Fault fault) ≡ Ended (verdicts.Stopped v) = is in absurd cc
+was_spent visits causes.Memory v is = let clash : OutOfMemory ≡ Ended (verdicts.Stopped v) = is in absurd cc
 
 -- the bound that is printed is that of the passes before
 pub wide_printed : (halt : Option Cause) (bound : Option ℤ) → IfSome bound InWideRange → IfSome (printed_bound halt bound) InWideRange

@@ -32,7 +32,7 @@ use Rattle.solve_passes.proofs.AfterPass.{led}
 use Rattle.solve_passes.proofs.Announces.{last_held, tells_best}
 use Rattle.solve_passes.proofs.Concluding.{all, failed_pass, grown, no_bound_before_memory, over, went_on}
 use Rattle.run_ends.specs.Claims.{solved_by}
-use Rattle.solve_passes.proofs.Counted.{had_memory, no_close, no_halt, wide_printed}
+use Rattle.solve_passes.proofs.Counted.{had_memory, no_close, no_halt, was_spent, wide_printed}
 use Rattle.solve_passes.proofs.Counting.{below_enough, more_drawn, pow_less, pow_next, pow_small, pow_some, reached_less}
 use Rattle.solve_passes.proofs.Drops.{drops_none}
 use Rattle.solve_passes.proofs.Gaps.{bound_more, costs_more, held_has, legal_word, met_floor, no_bound_before_verdict, proved_right, proved_word, stopped_bound, stopped_word, wide_after, wide_floor, wide_floor_for, wide_held, word_held, word_is}
@@ -242,10 +242,11 @@ module _ (m : Model) (options : Options) (gap : Bool) (board : BoardFacts) (prog
       record { some = some; records = is.records; opening = best_known seat.view; best = best_known after.view; ledger = is.ledger; closed = is.closed; visits = is.visits; drops = is.drops }
 
   -- one that was halted while memory lasted
-  halted_counts : (cause : Cause) (visited dropped : ℕ) (best found : Option Found) → Made (ends.Halted cause visited dropped best) → (cause ≡ causes.Memory → ⊥) → CountsHalted m options (pass_of progress announced found visited dropped)
+  halted_counts : (cause : Cause) (visited dropped : ℕ) (best found : Option Found) → Made (ends.Halted cause visited dropped best) → (cause ≡ causes.Memory → ⊥)
+      → CountsHalted m options (halt_ending (progress.visited + visited) cause) (pass_of progress announced found visited dropped)
   halted_counts cause visited dropped best found made fine =
       let left = made.3 fine in
-      record { some = some; records = left.records; long = left.long; together = left.together; drops = left.drops }
+      record { some = some; records = left.records; long = left.long; together = left.together; visits = λ v is. left.visits (was_spent (progress.visited + visited) cause v is); drops = left.drops }
 
   counts_on_close : (end : PassEnd) (found : Option Found) (ending : Ending) → Made end → IsLast m (tally_in gap end) (halt_in end) (progress_after progress found (tally_in gap end).visited) ending → Closes ending
       → CountsClosed m options (pass_of progress announced found (tally_in gap end).visited (tally_in gap end).dropped)
@@ -253,9 +254,11 @@ module _ (m : Model) (options : Options) (gap : Bool) (board : BoardFacts) (prog
   counts_on_close (ends.Halted cause visited dropped best) found ending made last closes = absurd (no_close (progress.visited + visited) cause (subst Closes last closes))
 
   counts_on_halt : (end : PassEnd) (found : Option Found) (ending : Ending) → Made end → IsLast m (tally_in gap end) (halt_in end) (progress_after progress found (tally_in gap end).visited) ending → Halts ending
-      → CountsHalted m options (pass_of progress announced found (tally_in gap end).visited (tally_in gap end).dropped)
+      → CountsHalted m options ending (pass_of progress announced found (tally_in gap end).visited (tally_in gap end).dropped)
   counts_on_halt (ends.Closed visited dropped floor best) found ending made last halts = absurd (no_halt (held_after progress.held found) (subst Halts last.1 halts))
-  counts_on_halt (ends.Halted cause visited dropped best) found ending made last halts = halted_counts cause visited dropped best found made (had_memory (progress.visited + visited) cause (subst Halts last halts))
+  counts_on_halt (ends.Halted cause visited dropped best) found ending made last halts =
+      subst (λ (e : Ending). CountsHalted m options e (pass_of progress announced found visited dropped)) (sym last)
+      (halted_counts cause visited dropped best found made (had_memory (progress.visited + visited) cause (subst Halts last halts)))
 
   -- its numbers have 64 bits
   words_of : (printing : Printing) (found : Option Found) (visited dropped : ℕ) → MayAnnounce m printing (held_cost progress.held) announced → IsWord dropped → HasWords (pass_of progress announced found visited dropped)

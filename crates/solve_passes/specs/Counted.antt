@@ -23,12 +23,14 @@ pub record CountsClosed (m : Model) (options : Options) (p : Pass) : Type 0 wher
   pub visits : p.visited ≡ visits_of records options.workers
   pub drops : p.dropped ≡ length (dropped_of records options.workers)
 
--- There are records of the shards of the pass, done or not. The dropped nodes are those in them.
-pub record CountsHalted (m : Model) (options : Options) (p : Pass) : Type 0 where
+-- There are records of the shards of the last pass of a run that ends so, done or not. The dropped nodes are those in them, and where
+-- the run was stopped the visits are.
+pub record CountsHalted (m : Model) (options : Options) (ending : Ending) (p : Pass) : Type 0 where
   pub some : 1 ≤ options.workers
   pub records : List ShardRecord
   pub long : length records ≡ options.workers
   pub together : Together (pass_of m options p.share some) records
+  pub visits : (v : ℕ) → ending ≡ Ended (verdicts.Stopped v) → p.visited ≡ visits_of records options.workers
   pub drops : p.dropped ≡ length (dropped_of records options.workers)
 
 -- numbers of 64 bits
@@ -66,6 +68,6 @@ Halts OutOfMemory = ⊥
 -- numbers have 64 bits too. So has the bound.
 pub record IsCounted (m : Model) (options : Options) (r : Record) : Type 0 where
   pub closed : (k : ℕ) (p : Pass) → slice_get r.passes k ≡ Some p → (k + 1 < length r.passes) ⊎ Closes r.ending → CountsClosed m options p
-  pub halted : (k : ℕ) (p : Pass) → slice_get r.passes k ≡ Some p → k + 1 ≡ length r.passes → Halts r.ending → CountsHalted m options p
+  pub halted : (k : ℕ) (p : Pass) → slice_get r.passes k ≡ Some p → k + 1 ≡ length r.passes → Halts r.ending → CountsHalted m options r.ending p
   pub words : (k : ℕ) (p : Pass) → slice_get r.passes k ≡ Some p → HasWords p
   pub bound : IfSome r.bound InWideRange
