@@ -13,7 +13,7 @@ ghost use Rattle.dp_steps.specs.States.{Inner};
 ghost use Rattle.pass_ends.specs.Ends.{IsPassEnd};
 ghost use Rattle.pass_ends.specs.Passes.{AreOptions, pass_of};
 ghost use Rattle.pass_ledger.specs.Passes.{Pass};
-ghost use Rattle.pass_over.specs.Announcements.{EndsAnnounced, HasAnnounced, HasLast};
+ghost use Rattle.pass_over.specs.Announcements.{EndsAnnounced, HasAnnounced, HasLast, HasRefused};
 ghost use Rattle.pass_over.specs.Passes.{MayPass};
 ghost use Rattle.shard_core.specs.Stands.{Suited};
 ghost use Rattle.pass_alone.specs.Alone.{Tells};
@@ -188,6 +188,7 @@ pub fn run_pass_alone_announced<S: Sink>(
     ensures answer { (some : 1 ≤ options.now.workers) → IsPassEnd (pass_of model.now options.now share some) seat.old.view seat.new.view result.end }
     ensures announced { HasAnnounced model.now last (S.taken out.old) (S.taken out.new) (S.faults out.old) (S.faults out.new) result }
     ensures last { HasLast model.now (best_known seat.old.view) (best_known seat.new.view) last result }
+    ensures refused { (some : 1 ≤ options.now.workers) → HasRefused (pass_of model.now options.now share some) result.refused }
 {
     run_announced(alloc, model, options, share, board, seat, out, last)
 }

@@ -21,7 +21,7 @@ use Rattle.pass_ends.specs.declared.answers.PassEnd.{PassEnd}
 use Rattle.pass_ends.specs.declared.answers.PassEnd.TheVariants as ends
 use Rattle.pass_ledger.proofs.Lists.{has_cases, has_head, has_none, has_right}
 use Rattle.pass_ledger.specs.Passes.{Pass, word_of}
-use Rattle.pass_over.specs.Announcements.{EndsAnnounced, HasAnnounced, RanOut, best_in, cost_in, last_or}
+use Rattle.pass_over.specs.Announcements.{EndsAnnounced, HasAnnounced, HasRefused, RanOut, best_in, cost_in, last_or}
 use Rattle.pass_over.specs.declared.announced.AnnouncedEnd.{AnnouncedEnd}
 use Rattle.solve_report.proofs.Written.{Takes-nothing}
 use Rattle.solve_report.specs.Puts.{Puts}
@@ -120,7 +120,7 @@ module _ (p : Pass) (was now : View) (end : PassEnd) (ended : IsPassEnd p was no
       (best_word (best_in end) (legal_in p was now end ended) low.no_worse)
       (best_one (best_in end) low.is_one)
 
-  module _ (minimize : Bool) (last : Option ℤ) (before after : Option (List ℕ)) (faults faults_after : ℕ) (told : Told) (same : minimize ≡ p.model.minimize) (r : AnnouncedEnd) (last_told : r.last ≡ told.last) (count_told : r.announced ≡ told.count) (failed_told : r.failed ≡ told.failed) where
+  module _ (minimize : Bool) (last : Option ℤ) (before after : Option (List ℕ)) (faults faults_after : ℕ) (told : Told) (same : minimize ≡ p.model.minimize) (r : AnnouncedEnd) (last_told : r.last ≡ told.last) (count_told : r.announced ≡ told.count) (failed_told : r.failed ≡ told.failed) (refused : HasRefused p r.refused) where
     -- these costs were looked at, and the pass's best
     pub ends_looked : r.end ≡ end → IsTold minimize last (costs ++ option_to_list (cost_in end)) before after faults faults_after told → EndsAnnounced p was now last before after faults faults_after r
     ends_looked same_end h = (
@@ -130,6 +130,7 @@ module _ (p : Pass) (was now : View) (end : PassEnd) (ended : IsPassEnd p was no
           let f : told.failed ≡ false = sym failed_told ∙ fine in
           let is : r.last ≡ last_of p.model.minimize last (costs ++ option_to_list (cost_in end)) = last_told ∙ (h.last_is f ∙ ap (λ (b : Bool). last_of b last (costs ++ option_to_list (cost_in end))) same) in
           subst (λ (o : Option ℤ). pos (best_known now) ≡ word_or_none p.model o) (sym is) (last_word last (λ ran. going (subst RanOut (sym same_end) ran)) word),
+      refused,
     )
 
     -- these costs alone were looked at, and memory ran out
@@ -138,6 +139,7 @@ module _ (p : Pass) (was now : View) (end : PassEnd) (ended : IsPassEnd p was no
       subst (IsPassEnd p was now) (sym same_end) h,
       has_announced p.model minimize last costs before after faults faults_after told looked same (λ c has. (solved c has).0) r last_told count_told failed_told,
       λ _ going _. absurd (going (subst RanOut (sym same_end) ran)),
+      refused,
     )
 
 -- ---- a pass that announced nothing
@@ -149,7 +151,7 @@ ends_silent p was now last before after faults faults_after end r is h ran same 
     subst (EndsAnnounced p was now last before after faults faults_after) (sym is)
     (subst (λ (t : Option (List ℕ)). EndsAnnounced p was now last before t faults faults_after quiet) (sym same)
     (subst (λ (n : ℕ). EndsAnnounced p was now last before before faults n quiet) (sym count)
-    (h, record { costs = []; legal = λ c has. absurd (has_none c has); improving = tt; written = λ _. (Takes-nothing before, refl, refl); stopped = λ stop. absurd (clash stop); count = le_same faults }, λ _ going _. absurd (going ran))))
+    (h, record { costs = []; legal = λ c has. absurd (has_none c has); improving = tt; written = λ _. (Takes-nothing before, refl, refl); stopped = λ stop. absurd (clash stop); count = le_same faults }, λ _ going _. absurd (going ran), inl refl)))
   where
     quiet : AnnouncedEnd
     quiet = record { end = end; last = last; announced = 0; refused = 0; failed = false }

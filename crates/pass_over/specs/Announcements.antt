@@ -1,5 +1,6 @@
 -- How a pass ended, and what it announced.
-use Rattle.std.specs.Prelude.{◌≡◌, ℕ, ◌≤◌, true, false, List, [], ◌∷◌, length, Option, Some, option_map, ℤ, pos}
+use Rattle.std.specs.Prelude.{◌≡◌, ℕ, ◌≤◌, ◌⊎◌, min, true, false, List, [], ◌∷◌, length, Option, Some, option_map, ℤ, pos}
+use Rattle.announce_laws.specs.Called.{AreRefused}
 use Rattle.announce_laws.specs.Last.{Improving, word_or_none}
 use Rattle.announcing.specs.Telling.{announce_text}
 use Rattle.board_words.specs.Steps.{best_known}
@@ -14,6 +15,8 @@ use Rattle.pass_ends.specs.Ends.{IsPassEnd}
 use Rattle.pass_ends.specs.declared.answers.PassEnd.{PassEnd}
 use Rattle.pass_ends.specs.declared.answers.PassEnd.TheVariants as ends
 use Rattle.pass_ledger.specs.Passes.{Pass}
+use Rattle.pass_ledger.specs.Records.{Together}
+use Rattle.pass_ledger.specs.declared.records.ShardRecord.{ShardRecord}
 use Rattle.pass_over.specs.declared.announced.AnnouncedEnd.{AnnouncedEnd}
 
 -- ---- how a pass ended
@@ -54,7 +57,12 @@ pub record HasAnnounced (m : Model) (last : Option ℤ) (before after : Option (
 abbrev pub HasLast : Model → (before after : ℕ) → (last : Option ℤ) → AnnouncedEnd → Type 0
 HasLast m before after last r = r.failed ≡ false → (RanOut r.end → ⊥) → pos before ≡ word_or_none m last → pos after ≡ word_or_none m r.last
 
--- a pass ended so, and announced this
+-- So many calls of a pass found no room, counted up to 2^64 - 1: there are records of its shards, done or not, of which it is so; or none
+-- was refused.
+abbrev pub HasRefused : Pass → (count : ℕ) → Type 0
+HasRefused p count = (count ≡ 0) ⊎ ((records : List ShardRecord) × (all : ℕ) × Together p records × AreRefused p records all × (count ≡ min all 18446744073709551615))
+
+-- a pass ended so, announced this, and refused so many calls
 abbrev pub EndsAnnounced : Pass → (was now : View) → (last : Option ℤ) → (before after : Option (List ℕ)) → (faults_before faults_after : ℕ) → AnnouncedEnd → Type 0
 EndsAnnounced p was now last before after faults_before faults_after r =
-    IsPassEnd p was now r.end × HasAnnounced p.model last before after faults_before faults_after r × HasLast p.model (best_known was) (best_known now) last r
+    IsPassEnd p was now r.end × HasAnnounced p.model last before after faults_before faults_after r × HasLast p.model (best_known was) (best_known now) last r × HasRefused p r.refused

@@ -4,7 +4,7 @@ use Rattle.std.proofs.lemmas.Bool.{cases_eq, cases_lt}
 use Rattle.std.proofs.lemmas.List.{length-set}
 use Rattle.std.proofs.lemmas.Option.{none-some, slice_get_read, slice_get_within}
 use Rattle.announce_laws.proofs.Calls.{called_law}
-use Rattle.announce_laws.specs.Called.{AreCalled}
+use Rattle.announce_laws.specs.Called.{AreCalled, WasRefused}
 use Rattle.announcer.specs.Ends.{CallerFacts, QueueFacts, AreNewCallers, IsCallerOf, new_caller}
 use Rattle.board_words.specs.Seats.{BoardFacts, SeatFacts}
 use Rattle.pass_ledger.specs.Ledgers.{IsBest}
@@ -71,6 +71,7 @@ module _ {A B : Type 0} where
             all = from.0 ∙ long;
             number = λ i c at. (let f = from.1 i c at in subst (λ (x : CallerFacts). x.number ≡ i) f.4 (known i f.0 f.1 f.2 f.3).number);
             called = λ i c at. (let f = from.1 i c at in subst (λ (x : CallerFacts). AreCalled p i (record_of records i) x.posted) f.4 (known i f.0 f.1 f.2 f.3).called);
+            refused = λ i c at. (let f = from.1 i c at in subst (λ (x : CallerFacts). WasRefused p i (record_of records i) x.refused) f.4 (known i f.0 f.1 f.2 f.3).refused);
           };
           of_queue = λ i c at. (let f = from.1 i c at in subst (IsCallerOf queue) f.4 (of_queue i f.0 f.1 f.2 f.3));
         }
@@ -92,6 +93,9 @@ pub record AreGiven {A B : Type 0} (queue : QueueFacts) (callers left : List Cal
   pub same : (i : ℕ) (s : Seated (Turner A B)) → i < length left → slice_get old i ≡ Some s → slice_get new i ≡ Some s
   pub each : (i : ℕ) (s : Seated (Turner A B)) (c : CallerFacts) → length left ≤ i → slice_get old i ≡ Some s → slice_get callers i ≡ Some c → (t : Seated (Turner A B)) × (slice_get new i ≡ Some t) × IsGiven queue c s t
 
+zero_le : (n : ℕ) → 0 ≤ n
+zero_le n = omega arith
+
 -- a caller that has called nothing, whatever the shard's record is
 begins_to : (queue : QueueFacts) (p : Pass) (i : ℕ) → i < queue.senders → (d : Calling) → d.queue.now ≡ queue → d.caller ≡ new_caller queue i → (r : ShardRecord) → IsCalling p i r d
 begins_to queue p i within d queue_is caller_is r = record {
@@ -101,7 +105,7 @@ begins_to queue p i within d queue_is caller_is r = record {
   );
   number = ap (λ (c : CallerFacts). c.number) caller_is;
   called = subst (λ (c : CallerFacts). AreCalled p i r c.posted) (sym caller_is) (called_law.none p i r);
-  few = (let none = ap (λ (c : CallerFacts). c.refused) caller_is in omega (arith, none));
+  refused = subst (λ (c : CallerFacts). WasRefused p i r c.refused) (sym caller_is) (record { costs = []; called = called_law.none p i r; count_is = refl; few = zero_le (length r.visits) });
 }
 
 module _ {A B : Type 0} (queue : QueueFacts) where

@@ -1,8 +1,8 @@
 -- What a pass announced, when its calls have ended.
-use Rattle.std.proofs.Common.{◌≡◌, ℕ, ◌<◌, inl, inr, Bool, false, List, ◌++◌, slice_get, Option, Ok, ℤ, refl, sym, ap, subst, ◌∙◌, arith}
-use Rattle.announce_laws.proofs.Calls.{cried_law, left_law}
+use Rattle.std.proofs.Common.{◌≡◌, ℕ, ◌<◌, inl, inr, min, Bool, false, List, ◌++◌, slice_get, Option, Ok, ℤ, refl, sym, ap, subst, ◌∙◌, arith}
+use Rattle.announce_laws.proofs.Calls.{cried_law, left_law, refused_law}
 use Rattle.announce_laws.specs.Called.{AreOfShards, IsSolved}
-use Rattle.announcer.specs.Ends.{CallerFacts, CrierFacts, QueueFacts, AreLeft, IsBegunOf, new_crier}
+use Rattle.announcer.specs.Ends.{CallerFacts, CrierFacts, QueueFacts, AreLeft, IsBegunOf, new_crier, refused_of}
 use Rattle.announcer.specs.declared.view.CalledCost.{CalledCost}
 use Rattle.announcing.specs.Telling.{IsTold}
 use Rattle.announcing.specs.declared.telling.Told.{Told}
@@ -15,7 +15,7 @@ use Rattle.pass_ends.specs.declared.answers.PassEnd.TheVariants as ends
 use Rattle.pass_ledger.proofs.Lists.{has_cases, has_map, has_none}
 use Rattle.pass_ledger.specs.Passes.{Pass}
 use Rattle.pass_over.proofs.Looked.{ends_looked, ends_lost}
-use Rattle.pass_over.specs.Announcements.{EndsAnnounced, RanOut}
+use Rattle.pass_over.specs.Announcements.{EndsAnnounced, HasRefused, RanOut}
 use Rattle.pass_over.specs.declared.announced.AnnouncedEnd.{AnnouncedEnd}
 use Rattle.pass_run.specs.Announcements.{HasHeard, HasLooked, HasSettled, WasHeard, forgotten}
 use Rattle.pass_run.specs.Hearing.{Hears, costs_cried}
@@ -57,12 +57,16 @@ module _ (p : Pass) (was now : View) (queue : QueueFacts) (heard : Heard) (w : W
   both_solved : (left : List ℤ) → AreLeft queue.senders heard.over.callers.items heard.crier.taken left → (c : ℤ) → Has (costs_cried heard.crier.taken ++ left) c → IsSolved p (best_known now) c
   both_solved left are c has = elim (has_cases (costs_cried heard.crier.taken) left c has) [ inl a ↦ cried_solved c a | inr b ↦ left_solved left are c b ]
 
-  module _ (minimize : Bool) (last : Option ℤ) (before after : Option (List ℕ)) (faults faults_after : ℕ) (told : Told) (same : minimize ≡ p.model.minimize) (r : AnnouncedEnd) (last_told : r.last ≡ told.last) (count_told : r.announced ≡ told.count) (failed_told : r.failed ≡ told.failed) where
+  module _ (minimize : Bool) (last : Option ℤ) (before after : Option (List ℕ)) (faults faults_after : ℕ) (told : Told) (same : minimize ≡ p.model.minimize) (r : AnnouncedEnd) (last_told : r.last ≡ told.last) (count_told : r.announced ≡ told.count) (failed_told : r.failed ≡ told.failed) (count : r.refused ≡ min (refused_of heard.over.callers.items) 18446744073709551615) where
+    -- the calls that found no room are those of the shards
+    has_refused : HasRefused p r.refused
+    has_refused = inr (w.callers.records, refused_of heard.over.callers.items, w.callers.together, refused_law p w.callers.records heard.over.callers.items w.callers.callers_for, count)
+
     pub ends_announced : HasSettled queue heard.over.callers.items heard.crier minimize last before after faults faults_after told heard.over.end r.end → EndsAnnounced p was now last before after faults faults_after r
     ends_announced (inl all) =
-        ends_looked p was now heard.over.end w.ended (costs_cried heard.crier.taken ++ all.0) (both_solved all.0 all.1) minimize last before after faults faults_after told same r last_told count_told failed_told all.2 all.3
+        ends_looked p was now heard.over.end w.ended (costs_cried heard.crier.taken ++ all.0) (both_solved all.0 all.1) minimize last before after faults faults_after told same r last_told count_told failed_told has_refused all.2 all.3
     ends_announced (inr lost) =
-        ends_lost p was now heard.over.end w.ended (costs_cried heard.crier.taken) cried_solved minimize last before after faults faults_after told same r last_told count_told failed_told
+        ends_lost p was now heard.over.end w.ended (costs_cried heard.crier.taken) cried_solved minimize last before after faults faults_after told same r last_told count_told failed_told has_refused
         (forgotten heard.over.end) lost.0 (forgotten_end p was now heard.over.end w.ended) (forgotten_ran heard.over.end) lost.1
 
 -- what was looked at are the costs that were left

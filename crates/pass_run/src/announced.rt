@@ -1,7 +1,7 @@
 //! A pass that announces the costs of better solutions while it runs.
 
-ghost use Rattle.std.specs.Prelude.{◌≡◌, ◌<◌, ◌≤◌, ◌^◌, ℕ, List, Option, Some, ℤ, length, slice_get, IfErr, IfOk};
-ghost use Rattle.announcer.specs.Ends.{AreCallersOf, AreNewCallers, IsBegunOf, IsCrierOf, new_crier};
+ghost use Rattle.std.specs.Prelude.{◌≡◌, ◌<◌, ◌≤◌, ◌-◌, ◌^◌, min, ℕ, List, Option, Some, ℤ, length, slice_get, IfErr, IfOk};
+ghost use Rattle.announcer.specs.Ends.{AreCallersOf, AreNewCallers, IsBegunOf, IsCrierOf, new_crier, refused_of};
 ghost use Rattle.announcer.specs.declared.view.CalledCost.{CalledCost};
 ghost use Rattle.announcing.specs.Telling.{IsTold};
 ghost use Rattle.board_words.specs.Rules.{IsWhole};
@@ -13,7 +13,7 @@ ghost use Rattle.dp_steps.specs.States.{Inner};
 ghost use Rattle.pass_ends.specs.Ends.{IsPassEnd};
 ghost use Rattle.pass_ends.specs.Passes.{AreOptions, pass_of};
 ghost use Rattle.pass_ledger.specs.Passes.{Pass};
-ghost use Rattle.pass_over.specs.Announcements.{EndsAnnounced, HasAnnounced, HasLast, RanOut};
+ghost use Rattle.pass_over.specs.Announcements.{EndsAnnounced, HasAnnounced, HasLast, HasRefused, RanOut};
 ghost use Rattle.pass_over.specs.Passes.{MayPass};
 ghost use Rattle.shard_mail.specs.Ends.{MailboxFacts};
 ghost use Rattle.shard_threads.specs.Players.{AreHeld, AllStay};
@@ -260,7 +260,9 @@ fn look_last<S: Sink>(
 }
 
 /// How often callers were refused together.
-fn refused_by(callers: &Vec<Caller>) -> u64 {
+fn refused_by(callers: &Vec<Caller>) -> u64
+    ensures { result ≡ min (refused_of callers.now.items) (2 ^ 64 - 1) }
+{
     let mut refused = 0u64;
     for caller in callers {
         refused = refused.saturating_add(caller.refused());
@@ -451,6 +453,7 @@ pub fn run_pass_announced<R: Threads + Wait + Sync, G: Gate, S: Sink>(
     ensures answer { (some : 1 ≤ options.now.workers) → IsPassEnd (pass_of model.now options.now share some) seat.old.view seat.new.view result.end }
     ensures announced { HasAnnounced model.now last (S.taken out.old) (S.taken out.new) (S.faults out.old) (S.faults out.new) result }
     ensures last { HasLast model.now (best_known seat.old.view) (best_known seat.new.view) last result }
+    ensures refused { (some : 1 ≤ options.now.workers) → HasRefused (pass_of model.now options.now share some) result.refused }
 {
     run_announced(
         rt, alloc, model, options, share, board, seat, gate, out, last,

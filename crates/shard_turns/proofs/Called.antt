@@ -1,8 +1,8 @@
 -- What is known of the calls of a shard, from step to step.
-use Rattle.std.proofs.Common.{◌≡◌, ℕ, ◌+◌, ◌^◌, ◌≤◌, ◌<◌, ◌⊎◌, inl, inr, List, length, Option, Some, None, ℤ, Result, Ok, Err, refl, sym, ap, subst, ◌∙◌, arith}
+use Rattle.std.proofs.Common.{◌≡◌, ℕ, ◌+◌, ◌^◌, ◌≤◌, ◌<◌, ◌⊎◌, inl, inr, List, [], ◌∷◌, ◌++◌, length, Option, Some, None, ℤ, Result, Ok, Err, refl, sym, ap, subst, ◌∙◌, arith}
 use Rattle.std.specs.Prelude.{OnOk, IfErr}
 use Rattle.std.proofs.lemmas.List.{length_push}
-use Rattle.announce_laws.specs.Called.{WasHeld, AreCalled}
+use Rattle.announce_laws.specs.Called.{WasHeld, AreCalled, WasRefused}
 use Rattle.announce_laws.proofs.Calls.{called_law}
 use Rattle.announcer.specs.Ends.{CallerFacts, QueueFacts, WasFull, posted_by, refused_by}
 use Rattle.pass_ledger.specs.Events.{visit, CanVisit}
@@ -52,13 +52,21 @@ held_still p i r s visits held cost h = record {
   no_worse = subst (λ (o : Option Held). Reaches p o cost) (sym held) h.no_worse;
 }
 
+refused_still : (p : Pass) (i : ℕ) (r s : ShardRecord) → s.visits ≡ r.visits → s.held ≡ r.held → (count : ℕ) → WasRefused p i r count → WasRefused p i s count
+refused_still p i r s visits held count h = record {
+  costs = h.costs;
+  called = λ cost has. held_still p i r s visits held cost (h.called cost has);
+  count_is = h.count_is;
+  few = subst (λ (vs : List Visit). count ≤ length vs) (sym visits) h.few;
+}
+
 pub calls_kept : (p : Pass) (i : ℕ) (r s : ShardRecord) → s.visits ≡ r.visits → s.held ≡ r.held → (calling : Option Calling) → CallsFor p i r calling → CallsFor p i s calling
 calls_kept p i r s visits held None h = tt
 calls_kept p i r s visits held (Some c) h = record {
   caller = h.caller;
   number = h.number;
   called = λ cost has. held_still p i r s visits held cost (h.called cost has);
-  few = subst (λ (vs : List Visit). c.caller.refused ≤ length vs) (sym visits) h.few;
+  refused = refused_still p i r s visits held c.caller.refused h.refused;
 }
 
 -- ---- a node is visited
@@ -69,36 +77,56 @@ up a b c h e = omega (arith, h, e)
 less : (a b : ℕ) → a + 1 ≤ b → a ≤ b
 less a b h = omega (arith, h)
 
+one_longer : (n : ℕ) (costs : List ℤ) (c : ℤ) → n ≡ length costs → n + 1 ≡ length (costs ++ c ∷ [])
+one_longer n costs c e = let long : length (costs ++ c ∷ []) ≡ length costs + 1 = length_push costs c in omega (arith, e, long)
+
 module _ (p : Pass) (i : ℕ) (r : ShardRecord) (l : ℕ) (n : Node) (rest : List Node) (made : List Unsent) (prunes : List PrunedAt) (held : Option Held) (fault : Option FaultHere) (can : CanVisit p i r l n rest made prunes held fault) where
   abbrev after : ShardRecord
   after = visit r l n rest made prunes held fault
 
   more : (c : Calling) → IsCalling p i r c → c.caller.refused + 1 ≤ length after.visits
-  more c h = up c.caller.refused (length r.visits) (length after.visits) h.few (length_push r.visits (visit_of l n))
+  more c h = up c.caller.refused (length r.visits) (length after.visits) h.refused.few (length_push r.visits (visit_of l n))
 
   still : (c : Calling) → IsCalling p i r c → AreCalled p i after c.caller.posted
   still c h = called_law.visits p i r c.caller.posted h.called l n rest made prunes held fault can
 
+  still_refused : (c : Calling) → IsCalling p i r c → WasRefused p i after c.caller.refused
+  still_refused c h = record {
+    costs = h.refused.costs;
+    called = called_law.visits p i r h.refused.costs h.refused.called l n rest made prunes held fault can;
+    count_is = h.refused.count_is;
+    few = less c.caller.refused (length after.visits) (more c h);
+  }
+
   pub calls_visited : (calling : Option Calling) → CallsFor p i r calling → CallsFor p i after calling
   calls_visited None h = tt
-  calls_visited (Some c) h = record { caller = h.caller; number = h.number; called = still c h; few = less c.caller.refused (length after.visits) (more c h) }
+  calls_visited (Some c) h = record { caller = h.caller; number = h.number; called = still c h; refused = still_refused c h }
 
   -- and the cost of what is held then may be called
   module _ (own : Own p i after) where
-    posted_now : (c : Calling) (d : CallerFacts) → IsCalling p i r c → (d ≡ c.caller) ⊎ ((h : Held) × (held ≡ Some h) × IsCall h.cost c.caller d) → AreCalled p i after d.posted × (d.refused ≤ length after.visits)
-    posted_now c d h (inl same) =
-        subst (λ (f : CallerFacts). AreCalled p i after f.posted × (f.refused ≤ length after.visits)) (sym same) (still c h, less c.caller.refused (length after.visits) (more c h))
-    posted_now c d h (inr call) = elim (call.2) [
-      | inl posted ↦
-          subst (λ (f : CallerFacts). AreCalled p i after f.posted × (f.refused ≤ length after.visits)) (sym posted)
-          (called_law.calls p i after c.caller.posted (still c h) own call.0 call.1, less c.caller.refused (length after.visits) (more c h))
-      | inr refused ↦ subst (λ (f : CallerFacts). AreCalled p i after f.posted × (f.refused ≤ length after.visits)) (sym refused) (still c h, more c h)
+    -- one more was refused
+    refused_now : (c : Calling) → IsCalling p i r c → (now : Held) → held ≡ Some now → WasRefused p i after (c.caller.refused + 1)
+    refused_now c h now is = record {
+      costs = h.refused.costs ++ now.cost ∷ [];
+      called = called_law.calls p i after h.refused.costs (still_refused c h).called own now is;
+      count_is = one_longer c.caller.refused h.refused.costs now.cost h.refused.count_is;
+      few = more c h;
+    }
+
+    abbrev Knows : CallerFacts → Type 0
+    Knows f = AreCalled p i after f.posted × WasRefused p i after f.refused
+
+    called_now : (c : Calling) (d : CallerFacts) → IsCalling p i r c → (d ≡ c.caller) ⊎ ((h : Held) × (held ≡ Some h) × IsCall h.cost c.caller d) → Knows d
+    called_now c d h (inl same) = subst Knows (sym same) (still c h, still_refused c h)
+    called_now c d h (inr call) = elim (call.2) [
+      | inl posted ↦ subst Knows (sym posted) (called_law.calls p i after c.caller.posted (still c h) own call.0 call.1, still_refused c h)
+      | inr refused ↦ subst Knows (sym refused) (still c h, refused_now c h call.0 call.1)
     ]
 
     calling_now : (c d : Calling) → IsCalling p i r c → d.queue.now ≡ c.queue.now → (d.caller ≡ c.caller) ⊎ ((h : Held) × (held ≡ Some h) × IsCall h.cost c.caller d.caller) → IsCalling p i after d
     calling_now c d h queue call =
         let same = same_ends held c.caller d.caller call in
-        let known = posted_now c d.caller h call in
+        let known = called_now c d.caller h call in
         record {
           caller = (
             same.0 ∙ (h.caller.0 ∙ sym queue),
@@ -106,7 +134,7 @@ module _ (p : Pass) (i : ℕ) (r : ShardRecord) (l : ℕ) (n : Node) (rest : Lis
           );
           number = same.1 ∙ h.number;
           called = known.0;
-          few = known.1;
+          refused = known.1;
         }
 
     pub calls_now : (before now : Option Calling) → CallsFor p i r before → HasCalled held before now → CallsFor p i after now
@@ -117,4 +145,4 @@ module _ (p : Pass) (i : ℕ) (r : ShardRecord) (l : ℕ) (n : Node) (rest : Lis
 
 pub may_call : (p : Pass) (i : ℕ) (r : ShardRecord) (calling : Option Calling) → CallsFor p i r calling → length r.visits ≤ 2 ^ 40 → MayCall calling
 may_call p i r None h few = tt
-may_call p i r (Some c) h few = (h.caller, (let refused = h.few in omega (arith, refused, few)))
+may_call p i r (Some c) h few = (h.caller, (let refused = h.refused.few in omega (arith, refused, few)))

@@ -1,6 +1,6 @@
 -- What is known of the costs that a shard called, and what a call changes.
-use Rattle.std.specs.Prelude.{◌≡◌, ℕ, ◌^◌, ◌<◌, ◌≤◌, ◌⊎◌, length, Option, Some, None, ℤ}
-use Rattle.announce_laws.specs.Called.{AreCalled}
+use Rattle.std.specs.Prelude.{◌≡◌, ℕ, ◌^◌, ◌<◌, ◌⊎◌, Option, Some, None, ℤ}
+use Rattle.announce_laws.specs.Called.{AreCalled, WasRefused}
 use Rattle.announcer.specs.Ends.{CallerFacts, QueueFacts, IsCallerOf, posted_by, refused_by}
 use Rattle.pass_ledger.specs.Passes.{Pass}
 use Rattle.pass_ledger.specs.declared.records.Held.{Held}
@@ -15,12 +15,12 @@ queue_of (Some c) = Some c.caller.queue
 -- ---- what was called
 
 -- The shard calls to the queue under its number. It called costs of steps to base states from nodes that it visited, none better
--- than what it holds. It was refused no more often than it visited nodes.
+-- than what it holds, and so it did where it was refused, no more often than it visited nodes.
 pub record IsCalling (p : Pass) (i : ℕ) (r : ShardRecord) (c : Calling) : Type 0 where
   pub caller : IsCallerOf c.queue.now c.caller
   pub number : c.caller.number ≡ i
   pub called : AreCalled p i r c.caller.posted
-  pub few : c.caller.refused ≤ length r.visits
+  pub refused : WasRefused p i r c.caller.refused
 
 -- so it is where the shard calls
 abbrev pub CallsFor : Pass → ℕ → ShardRecord → Option Calling → Type 0

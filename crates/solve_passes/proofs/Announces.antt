@@ -24,6 +24,7 @@ use Rattle.solve_report.proofs.Written.{Takes-nothing}
 use Rattle.solve_passes.specs.Announcing.{IsMade, MayAnnounce}
 use Rattle.solve_passes.specs.Ongoing.{AreAnnounced, HasWord, IsWordOf, announces, held_after, held_cost}
 use Rattle.solve_passes.specs.Records.{Announced, Pass, Ending, OutOfMemory, RightAnnounced, TellsBest, announced_costs, costs_in}
+use Rattle.solve_passes.specs.declared.progress.Counts.{Counts}
 use Rattle.solve_passes.specs.declared.progress.Printing.{Printing}
 
 -- ---- before any pass
@@ -197,6 +198,7 @@ pub made_aloud : (m : Model) (printing : Printing) (last : Option ℤ) (word wor
 made_aloud m printing last word word_after before after faults faults_after r on few h best = record {
   announced = Some (record { costs = h.costs; refused = r.refused });
   may = record { on = sym on; legal = h.legal; improving = h.improving; few_refused = few };
+  refused_is = refl;
   written = λ fine. ((h.written fine).0, ap (λ (n : ℕ). Some (record { announced = n; refused = r.refused })) (h.written fine).1);
   stopped = h.stopped;
   count = h.count;
@@ -208,8 +210,15 @@ pub made_quiet : (m : Model) (printing : Printing) (last : Option ℤ) (word wor
 made_quiet m printing last word word_after told faults end off = record {
   announced = None;
   may = record { on = sym off; legal = λ c has. absurd (has_none c has); improving = tt; few_refused = tt };
+  refused_is = refl;
   written = λ _. (Takes-nothing told, refl);
   stopped = λ stop. absurd (clash (sym stop));
   count = omega arith;
   last_word = λ _ _ on. absurd (clash (sym on ∙ off));
 }
+
+-- what is known of the counted calls is known of those of the record
+pub calls_told : (P : ℕ → Type 0) (announced : Option Announced) (counts : Option Counts) → option_map (λ (a : Announced). a.refused) announced ≡ option_map (λ (c : Counts). c.refused) counts → IfSome counts (λ c. P c.refused) → IfSome announced (λ a. P a.refused)
+calls_told P None counts is h = tt
+calls_told P (Some a) None is h = absurd (let no : Some a.refused ≡ None = is in cc)
+calls_told P (Some a) (Some c) is h = let same : a.refused ≡ c.refused = (let both : Some a.refused ≡ Some c.refused = is in cc) in subst P (sym same) h

@@ -17,7 +17,7 @@ use Rattle.run_ends.specs.declared.solved.Solved.{Solved}
 use Rattle.solve_passes.proofs.Announces.{announced_more, each_announces, right_more}
 use Rattle.solve_passes.proofs.Counted.{closed_more, counted_more}
 use Rattle.solve_passes.specs.Announcing.{MayAnnounce}
-use Rattle.solve_passes.specs.Counted.{Closes, CountsClosed, CountsHalted, Halts, HasWords}
+use Rattle.solve_passes.specs.Counted.{Closes, CountsClosed, CountsHalted, CountsRefused, Halts, HasWords}
 use Rattle.solve_passes.specs.Ongoing.{Passes, History, HistoryOf, Concluded, IsBoundOf, IsTold, announces, held_after, held_cost, lines_of, pass_of, solutions_of}
 use Rattle.pass_over.specs.Announcements.{last_or}
 use Rattle.solve_passes.specs.Records.{Announced, Pass, Ending, Ended, OutOfMemory, Record, KeepsWord, RightAnnounced, RightBound, RightEnding, TellsBest, costs_in, bound_text, claim_after, claim_of, ending_status, ending_text, passes_text}
@@ -114,12 +114,12 @@ module _ (m : Model) (options : Options) (gap : Bool) (printing : Printing) (bef
   announcing = each_announces m printing progress.held h.passes this h.announced may
 
   -- a write of the pass failed
-  pub failed_pass : (after : Option (List ℕ)) (status : Status) (last : Option Found) → HasWords this → status ≡ statuses.WriteFault → TakesFront old after (lines_of printing m progress announced tally found) → Concluded m options gap printing before after (solved_by status last)
-  failed_pass after status last words fault front = record {
+  pub failed_pass : (after : Option (List ℕ)) (status : Status) (last : Option Found) → CountsRefused m options this → HasWords this → status ≡ statuses.WriteFault → TakesFront old after (lines_of printing m progress announced tally found) → Concluded m options gap printing before after (solved_by status last)
+  failed_pass after status last refused words fault front = record {
     run = record { at_target = None; passes = run; bound = None; ending = OutOfMemory };
     announcing = announcing;
     right = right_record m options gap (held_after progress.held found) (progress.passes + 1) (progress.visited + tally.visited) run None OutOfMemory grown (last_but_dropped h.passes this h.dropping) within (announced_by OutOfMemory (λ other. absurd (other refl))) (no_bound_before_memory m options gap None run) tt;
-    counted = counted_more m options h.passes this h.counts None OutOfMemory (λ closes. absurd closes) (λ halts. absurd halts) words tt;
+    counted = counted_more m options h.passes this h.counts None OutOfMemory (λ closes. absurd closes) (λ halts. absurd halts) refused words tt;
     word = tt;
     printed = inr (
       fault,
@@ -132,12 +132,12 @@ module _ (m : Model) (options : Options) (gap : Bool) (printing : Printing) (bef
   pub over : (mid after : Option (List ℕ)) (status : Status) (bound : Option ℤ) (ending : Ending) (last : Option Found) → Takes old mid (lines_of printing m progress announced tally found) →
       RightBound m options gap (run_of bound ending) bound → RightEnding m options gap (run_of bound ending) ending → KeepsWord m options bound ending →
       IsTold printing m mid after status bound ending → last ≡ held_after progress.held found → ((ending ≡ OutOfMemory → ⊥) → TellsBest this) →
-      (Closes ending → CountsClosed m options this) → (Halts ending → CountsHalted m options ending this) → HasWords this → IfSome bound InWideRange → Concluded m options gap printing before after (solved_by status last)
-  over mid after status bound ending last told bounded right word printed is_last best closed halted words wide = record {
+      (Closes ending → CountsClosed m options this) → (Halts ending → CountsHalted m options ending this) → CountsRefused m options this → HasWords this → IfSome bound InWideRange → Concluded m options gap printing before after (solved_by status last)
+  over mid after status bound ending last told bounded right word printed is_last best closed halted refused words wide = record {
     run = run_of bound ending;
     announcing = announcing;
     right = right_record m options gap (held_after progress.held found) (progress.passes + 1) (progress.visited + tally.visited) run bound ending grown (last_but_dropped h.passes this h.dropping) within (announced_by ending best) bounded right;
-    counted = counted_more m options h.passes this h.counts bound ending closed halted words wide;
+    counted = counted_more m options h.passes this h.counts bound ending closed halted refused words wide;
     word = word;
     printed = subst (λ (t : List ℕ). ((status ≡ ending_status ending) × Takes before after t × (claim_with status last ≡ claim_of (run_of bound ending))) ⊎ ((status ≡ statuses.WriteFault) × TakesFront before after t × (claim_with status last ≡ None)))
         (sym (text_of_record printing m run bound ending))
@@ -153,6 +153,6 @@ module _ (m : Model) (options : Options) (gap : Bool) (printing : Printing) (bef
 
   -- nodes were dropped, and the run goes on
   pub went_on : (mid : Option (List ℕ)) (bound : Option ℤ) → Takes old mid (lines_of printing m progress announced tally found) → 0 < tally.dropped → IsBoundOf m options gap (progress.passes + 1) (solutions_of run) bound → TellsBest this →
-      (announces printing ≡ true → last_or (held_cost progress.held) (costs_in announced) ≡ held_cost (held_after progress.held found)) → CountsClosed m options this → HasWords this →
+      (announces printing ≡ true → last_or (held_cost progress.held) (costs_in announced) ≡ held_cost (held_after progress.held found)) → CountsClosed m options this → CountsRefused m options this → HasWords this →
       History m options gap printing before mid (held_after progress.held found) (progress.passes + 1) (progress.visited + tally.visited) bound
-  went_on mid bound told some proved best last closed words = record { passes = run; told = told_on mid told; known = grown; dropping = dropping_more h.passes this some h.dropping; proved = proved; announced = announced_more m printing progress.held h.passes this h.announced may (held_after progress.held found) best last; counts = closed_more m options h.passes this h.counts closed words }
+  went_on mid bound told some proved best last closed refused words = record { passes = run; told = told_on mid told; known = grown; dropping = dropping_more h.passes this some h.dropping; proved = proved; announced = announced_more m printing progress.held h.passes this h.announced may (held_after progress.held found) best last; counts = closed_more m options h.passes this h.counts closed refused words }

@@ -10,7 +10,7 @@ use Rattle.dp_model.specs.declared.answers.Options.{Options}
 use Rattle.dp_model.specs.declared.answers.Verdict.TheVariants as verdicts
 use Rattle.dp_model.specs.declared.whole.Model.{Model}
 use Rattle.pass_run.proofs.Places.{each_more, none_there}
-use Rattle.solve_passes.specs.Counted.{Closes, CountsClosed, CountsHalted, Halts, HasWords, IsCounted}
+use Rattle.solve_passes.specs.Counted.{Closes, CountsClosed, CountsHalted, CountsRefused, Halts, HasWords, IsCounted}
 use Rattle.solve_passes.specs.Ongoing.{halt_ending, printed_bound, verdict_of}
 use Rattle.solve_passes.specs.Records.{Ended, Ending, OutOfMemory, Pass}
 
@@ -20,6 +20,7 @@ pub none_counted : (m : Model) (options : Options) (target : Option Found) (endi
 none_counted m options target ending = record {
   closed = λ k p at _. absurd (none_there k p at);
   halted = λ k p at _ _. absurd (none_there k p at);
+  refused = λ k p at _. absurd (none_there k p at);
   words = λ k p at. absurd (none_there k p at);
   bound = tt;
 }
@@ -28,7 +29,7 @@ none_counted m options target ending = record {
 
 -- what closed passes count
 abbrev pub AreClosed : Model → Options → List Pass → Type 0
-AreClosed m options ps = (k : ℕ) (p : Pass) → slice_get ps k ≡ Some p → CountsClosed m options p × HasWords p
+AreClosed m options ps = (k : ℕ) (p : Pass) → slice_get ps k ≡ Some p → CountsClosed m options p × CountsRefused m options p × HasWords p
 
 module _ (m : Model) (options : Options) (ps : List Pass) (p : Pass) (before : AreClosed m options ps) where
   abbrev more : List Pass
@@ -43,15 +44,16 @@ module _ (m : Model) (options : Options) (ps : List Pass) (p : Pass) (before : A
   no_sooner : (k : ℕ) → k < length ps → k + 1 ≡ length more → ⊥
   no_sooner k less is = omega (arith, long, less, is)
 
-  pub closed_more : CountsClosed m options p → HasWords p → AreClosed m options more
-  closed_more closed words = each_more (λ (k : ℕ) (q : Pass). CountsClosed m options q × HasWords q) ps more p refl before (closed, words)
+  pub closed_more : CountsClosed m options p → CountsRefused m options p → HasWords p → AreClosed m options more
+  closed_more closed refused words = each_more (λ (k : ℕ) (q : Pass). CountsClosed m options q × CountsRefused m options q × HasWords q) ps more p refl before (closed, refused, words)
 
-  pub counted_more : (bound : Option ℤ) (ending : Ending) → (Closes ending → CountsClosed m options p) → (Halts ending → CountsHalted m options ending p) → HasWords p → IfSome bound InWideRange
+  pub counted_more : (bound : Option ℤ) (ending : Ending) → (Closes ending → CountsClosed m options p) → (Halts ending → CountsHalted m options ending p) → CountsRefused m options p → HasWords p → IfSome bound InWideRange
       → IsCounted m options (record { at_target = None; passes = more; bound = bound; ending = ending })
-  counted_more bound ending closed halted words wide = record {
+  counted_more bound ending closed halted refused words wide = record {
     closed = each_more (λ (k : ℕ) (q : Pass). (k + 1 < length more) ⊎ Closes ending → CountsClosed m options q) ps more p refl (λ k q at _. (before k q at).0) last_closed;
     halted = each_more (λ (k : ℕ) (q : Pass). k + 1 ≡ length more → Halts ending → CountsHalted m options ending q) ps more p refl (λ k q at is halts. absurd (no_sooner k (within k q at) is)) (λ _ halts. halted halts);
-    words = each_more (λ (k : ℕ) (q : Pass). HasWords q) ps more p refl (λ k q at. (before k q at).1) words;
+    refused = each_more (λ (k : ℕ) (q : Pass). CountsRefused m options q) ps more p refl (λ k q at. (before k q at).1) refused;
+    words = each_more (λ (k : ℕ) (q : Pass). HasWords q) ps more p refl (λ k q at. (before k q at).2) words;
     bound = wide;
   }
     where

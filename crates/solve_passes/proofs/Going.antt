@@ -27,7 +27,7 @@ use Rattle.pass_ledger.proofs.Backwards.{law}
 use Rattle.pass_ledger.specs.Ledgers.{NoneBelow}
 use Rattle.pass_ledger.specs.Passes as ledgers
 use Rattle.announce_laws.specs.Last.{word_or_none}
-use Rattle.pass_over.specs.Announcements.{RanOut, last_or}
+use Rattle.pass_over.specs.Announcements.{HasRefused, RanOut, last_or}
 use Rattle.solve_passes.proofs.AfterPass.{led}
 use Rattle.solve_passes.proofs.Announces.{last_held, tells_best}
 use Rattle.solve_passes.proofs.Concluding.{all, failed_pass, grown, no_bound_before_memory, over, went_on}
@@ -39,7 +39,7 @@ use Rattle.solve_passes.proofs.Gaps.{bound_more, costs_more, held_has, legal_wor
 use Rattle.solve_passes.proofs.Passing.{IsNew, front_of_pass, last_kept_all, nothing_last, some_pass, text_of_pass}
 use Rattle.solve_passes.proofs.Words.{keeps_word, word_after}
 use Rattle.solve_passes.specs.Announcing.{MayAnnounce, TellsLast, counts_of}
-use Rattle.solve_passes.specs.Counted.{Closes, CountsClosed, CountsHalted, Halts, HasWords, IsWord}
+use Rattle.solve_passes.specs.Counted.{Closes, CountsClosed, CountsHalted, CountsRefused, Halts, HasWords, IsWord}
 use Rattle.solve_passes.specs.Ongoing.{Concluded, HasWord, HistoryOf, announces, rest_text, IsBoundOf, IsFollowed, IsImproved, IsLast, IsOngoing, IsWordOf, GoesOn, LosesNothing, Passes, floor_for, going_on, halt_ending, halt_in, held_after, held_cost, lines_of, pass_of, printed_bound, progress_after, solutions_of, tally_in, verdict_of}
 use Rattle.solve_passes.specs.Records.{Announced, Pass, Ending, Ended, OutOfMemory, Record, TellsBest, announced_lines, costs_in, KeepsWord, LastDroppedNone, RightBound, RightEnding, RightVerdict}
 use Rattle.solve_passes.specs.declared.progress.Counts.{Counts}
@@ -260,6 +260,10 @@ module _ (m : Model) (options : Options) (gap : Bool) (board : BoardFacts) (prog
       subst (λ (e : Ending). CountsHalted m options e (pass_of progress announced found visited dropped)) (sym last)
       (halted_counts cause visited dropped best found made (had_memory (progress.visited + visited) cause (subst Halts last halts)))
 
+  -- calls that found no room
+  abbrev pub Refuses : Type 0
+  Refuses = (some : 1 ≤ options.workers) → IfSome announced (λ a. HasRefused (runs.pass_of m options progress.schedule.share some) a.refused)
+
   -- its numbers have 64 bits
   words_of : (printing : Printing) (found : Option Found) (visited dropped : ℕ) → MayAnnounce m printing (held_cost progress.held) announced → IsWord dropped → HasWords (pass_of progress announced found visited dropped)
   words_of printing found visited dropped may few =
@@ -269,10 +273,11 @@ module _ (m : Model) (options : Options) (gap : Bool) (board : BoardFacts) (prog
 
   -- ---- what it announces
 
-  -- what the pass may announce; where memory sufficed, the last cost has the best word
+  -- what the pass may announce; where memory sufficed, the last cost has the best word; and what it counts of refused calls
   abbrev pub Tells : Printing → PassEnd → Type 0
   Tells printing end = MayAnnounce m printing (held_cost progress.held) announced
       × TellsLast m printing (held_cost progress.held) (best_known seat.view) (best_known after.view) end announced
+      × Refuses
 
   word_before : (held : Option Found) → IsWordOf m (best_known seat.view) held → pos (best_known seat.view) ≡ word_or_none m (held_cost held)
   word_before None is = ap pos is
@@ -312,21 +317,21 @@ module _ (m : Model) (options : Options) (gap : Bool) (board : BoardFacts) (prog
       let known = grown m options gap printing before old progress announced (tally_in gap end) found h better ongoing.share (reached end made) (within end made) tells.0 in
       let fit = fits h.passes end found told.1 made improved h.proved known told.3 in
       over m options gap printing before old progress announced (tally_in gap end) found h better ongoing.share (reached end made) (within end made) tells.0 told.0 out status (printed_bound (halt_in end) progress.bound) told.1 new.held told.2 fit.0 fit.1 fit.2 told.4 told.5
-      (λ going. told_best printing end found tells made improved (not_out end found told.1 told.3 going)) (counts_on_close end found told.1 made told.3) (counts_on_halt end found told.1 made told.3)
+      (λ going. told_best printing end found tells made improved (not_out end found told.1 told.3 going)) (counts_on_close end found told.1 made told.3) (counts_on_halt end found told.1 made told.3) tells.2
       (words_of printing found (tally_in gap end).visited (tally_in gap end).dropped tells.0 few)
       (wide_printed (halt_in end) progress.bound ongoing.wide_bound)
   ended printing old out new end found (Some status) made improved tells (inr failed) few = λ before h.
-      failed_pass m options gap printing before old progress announced (tally_in gap end) found h (new_of end found made improved) ongoing.share (reached end made) (within end made) tells.0 out status new.held
+      failed_pass m options gap printing before old progress announced (tally_in gap end) found h (new_of end found made improved) ongoing.share (reached end made) (within end made) tells.0 out status new.held tells.2
       (words_of printing found (tally_in gap end).visited (tally_in gap end).dropped tells.0 few) failed.0 failed.1
 
   -- a write of what it announced failed, before any of its counts was written
-  pub fails : (printing : Printing) (old out : Option (List ℕ)) (end : PassEnd) → Made end → MayAnnounce m printing (held_cost progress.held) announced → TakesFront old out (announced_lines announced) → (before : Option (List ℕ)) → HistoryOf m options gap printing before old progress →
+  pub fails : (printing : Printing) (old out : Option (List ℕ)) (end : PassEnd) → Made end → MayAnnounce m printing (held_cost progress.held) announced → Refuses → TakesFront old out (announced_lines announced) → (before : Option (List ℕ)) → HistoryOf m options gap printing before old progress →
       Concluded m options gap printing before out (solved_by statuses.WriteFault progress.held)
-  fails printing old out end made may front before h =
+  fails printing old out end made may refused front before h =
       let visited = (tally_in gap end).visited in
       let none : IsWord 0 = (let less : 0 < 2 ^ 64 = omega arith in less) in
       failed_pass m options gap printing before old progress announced (record { visited = visited; dropped = 0; least_floor = None; best = None }) None h tt ongoing.share (reached end made) (within end made) may out statuses.WriteFault progress.held
-      (words_of printing None visited 0 may none) refl (front_of_pass printing m progress announced None visited 0 old out may.on front)
+      refused (words_of printing None visited 0 may none) refl (front_of_pass printing m progress announced None visited 0 old out may.on front)
 
   -- what follows a pass stands behind what it announced
   pub led_on : (printing : Printing) (counts : Option Counts) (old mid out : Option (List ℕ)) (new : Progress) (tally : Tally) (halt : Option Cause) (result : Option Status) → MayAnnounce m printing (held_cost progress.held) announced → counts ≡ counts_of announced →
@@ -367,7 +372,7 @@ module _ (m : Model) (options : Options) (gap : Bool) (board : BoardFacts) (prog
       let better = new_of end found made improved in
       let known = grown m options gap printing before old progress announced (tally_in gap end) found h better ongoing.share (reached end made) (within end made) tells.0 in
       went_on m options gap printing before old progress announced (tally_in gap end) found h better ongoing.share (reached end made) (within end made) tells.0 out (Next end found).bound took lost (proved_more h.passes visited dropped floor best found made lost improved h.proved known)
-      (told_best printing end found tells made improved (λ ran. ran)) (last_cost printing end found tells made improved (λ ran. ran)) (closed_counts visited dropped floor best found made) (words_of printing found visited dropped tells.0 few)
+      (told_best printing end found tells made improved (λ ran. ran)) (last_cost printing end found tells made improved (λ ran. ran)) (closed_counts visited dropped floor best found made) tells.2 (words_of printing found visited dropped tells.0 few)
   kept printing before old out (ends.Halted cause visited dropped best) found made lost improved tells took few h = absurd lost
 
   grows : (printing : Printing) (old out : Option (List ℕ)) (new : Progress) (end : PassEnd) (result : Option Status) → Made end → Tells printing end → Follows printing old out new (tally_in gap end) (halt_in end) result →

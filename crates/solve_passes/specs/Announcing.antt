@@ -1,5 +1,5 @@
 -- What a pass announces in a run.
-use Rattle.std.specs.Prelude.{◌≡◌, ℕ, ◌≤◌, Bool, true, false, List, [], length, Option, Some, None, is_some, IfSome, ℤ, pos}
+use Rattle.std.specs.Prelude.{◌≡◌, ℕ, ◌≤◌, Bool, true, false, List, [], length, Option, Some, None, is_some, IfSome, option_map, ℤ, pos}
 use Rattle.announce_laws.specs.Last.{Improving, word_or_none}
 use Rattle.board_words.specs.Rules.{IsWhole}
 use Rattle.board_words.specs.Seats.{BoardFacts, SeatFacts, IsSeatOf}
@@ -13,7 +13,7 @@ use Rattle.dp_steps.specs.States.{Inner}
 use Rattle.pass_ends.specs.Ends.{IsPassEnd}
 use Rattle.pass_ends.specs.Passes.{AreOptions, pass_of}
 use Rattle.pass_ends.specs.declared.answers.PassEnd.{PassEnd}
-use Rattle.pass_over.specs.Announcements.{RanOut, last_or}
+use Rattle.pass_over.specs.Announcements.{HasRefused, RanOut, last_or}
 use Rattle.solve_passes.specs.Counted.{IsWord}
 use Rattle.solve_passes.specs.Ongoing.{IsOngoing, announces, held_cost}
 use Rattle.solve_passes.specs.Records.{Announced, announced_lines, costs_in}
@@ -44,6 +44,7 @@ TellsLast m printing last best_before best_after end announced =
 pub record IsMade (m : Model) (printing : Printing) (last : Option ℤ) (best_before best_after : ℕ) (before after : Option (List ℕ)) (faults_before faults_after : ℕ) (made : Made) : Type 0 where
   pub announced : Option Announced
   pub may : MayAnnounce m printing last announced
+  pub refused_is : option_map (λ (a : Announced). a.refused) announced ≡ option_map (λ (c : Counts). c.refused) made.counts
   pub written : made.failed ≡ false → Takes before after (announced_lines announced) × (made.counts ≡ counts_of announced)
   pub stopped : made.failed ≡ true → TakesFront before after (announced_lines announced) × Rose faults_before faults_after
   pub count : faults_before ≤ faults_after
@@ -59,4 +60,5 @@ pub record IsNextMade (m : Model) (options : Options) (board : BoardFacts) (prin
   pub on_board : IsSeatOf board now
   pub whole : IsWhole now.view
   pub answer : (some : 1 ≤ options.workers) → IsPassEnd (pass_of m options progress.schedule.share some) was.view now.view made.end
+  pub refused : (some : 1 ≤ options.workers) → IfSome made.counts (λ c. HasRefused (pass_of m options progress.schedule.share some) c.refused)
   pub announced : IsMade m printing (held_cost progress.held) (best_known was.view) (best_known now.view) before after faults_before faults_after made

@@ -10,6 +10,7 @@ use Rattle.pass_ledger.specs.Counts.{visits_of}
 use Rattle.pass_ledger.specs.Ledgers.{Ledger, Closed}
 use Rattle.pass_ledger.specs.Records.{Together}
 use Rattle.pass_ledger.specs.declared.records.ShardRecord.{ShardRecord}
+use Rattle.pass_over.specs.Announcements.{HasRefused}
 use Rattle.solve_passes.specs.Records.{Ended, Ending, OutOfMemory, Pass, Record}
 
 -- There is a closed ledger of the pass, with a shard for each worker. The counts are the visits and the dropped nodes in it.
@@ -36,6 +37,10 @@ pub record CountsHalted (m : Model) (options : Options) (ending : Ending) (p : P
 -- numbers of 64 bits
 abbrev pub IsWord : ℕ → Type 0
 IsWord n = n < 2 ^ 64
+
+-- what a pass that announces costs counts of calls that found no room
+abbrev pub CountsRefused : Model → Options → Pass → Type 0
+CountsRefused m options p = (some : 1 ≤ options.workers) → IfSome p.announced (λ a. HasRefused (pass_of m options p.share some) a.refused)
 
 -- A run makes 57 passes at most. What a pass counts has 64 bits.
 pub record HasWords (p : Pass) : Type 0 where
@@ -64,10 +69,11 @@ Halts (Ended (verdicts.Legal cost)) = ⊥
 Halts (Ended (verdicts.Illegal done reason)) = ⊥
 Halts OutOfMemory = ⊥
 
--- What the passes of a run count: each but the last was closed. Nothing is said of the last one before want of memory, but that its
--- numbers have 64 bits too. So has the bound.
+-- What the passes of a run count: each but the last was closed. Of the last one before want of memory it is said what it counts of refused
+-- calls, and that its numbers have 64 bits too. So has the bound.
 pub record IsCounted (m : Model) (options : Options) (r : Record) : Type 0 where
   pub closed : (k : ℕ) (p : Pass) → slice_get r.passes k ≡ Some p → (k + 1 < length r.passes) ⊎ Closes r.ending → CountsClosed m options p
   pub halted : (k : ℕ) (p : Pass) → slice_get r.passes k ≡ Some p → k + 1 ≡ length r.passes → Halts r.ending → CountsHalted m options r.ending p
+  pub refused : (k : ℕ) (p : Pass) → slice_get r.passes k ≡ Some p → CountsRefused m options p
   pub words : (k : ℕ) (p : Pass) → slice_get r.passes k ≡ Some p → HasWords p
   pub bound : IfSome r.bound InWideRange

@@ -24,7 +24,7 @@ use Rattle.pass_ends.specs.declared.answers.PassEnd.{PassEnd}
 use Rattle.pass_ends.specs.declared.answers.PassEnd.TheVariants as ends
 use Rattle.pass_over.specs.Announcements.{last_or}
 use Rattle.solve_passes.specs.Records.{Announced, Pass, Ending, Ended, OutOfMemory, Record, NumberedFrom, Improving, Right, KeepsWord, TellsBest, announced_costs, claim_of, costs, last_solution, visits, bound_text, found_text, passes_text, ending_text, record_text, ending_status}
-use Rattle.solve_passes.specs.Counted.{CountsClosed, HasWords, IsCounted}
+use Rattle.solve_passes.specs.Counted.{CountsClosed, CountsRefused, HasWords, IsCounted}
 use Rattle.solve_passes.specs.declared.progress.Counts.{Counts}
 use Rattle.solve_passes.specs.declared.progress.Printing.{Printing}
 use Rattle.solve_passes.specs.declared.progress.Printing.TheVariants.{All, VerdictAlone}
@@ -85,7 +85,7 @@ pub record History (m : Model) (options : Options) (gap : Bool) (printing : Prin
   pub dropping : AllByRecursion (λ (p : Pass). 0 < p.dropped) passes
   pub proved : IsBoundOf m options gap count (solutions_of passes) bound
   pub announced : AreAnnounced m printing held passes
-  pub counts : (k : ℕ) (p : Pass) → slice_get passes k ≡ Some p → CountsClosed m options p × HasWords p
+  pub counts : (k : ℕ) (p : Pass) → slice_get passes k ≡ Some p → CountsClosed m options p × CountsRefused m options p × HasWords p
 
 abbrev pub HistoryOf : Model → Options → (gap : Bool) → Printing → Option (List ℕ) → Option (List ℕ) → Progress → Type 0
 HistoryOf m options gap printing before after progress = History m options gap printing before after progress.held progress.passes progress.visited progress.bound

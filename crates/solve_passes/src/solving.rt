@@ -12,6 +12,7 @@ ghost use Rattle.board_words.specs.Seats.{BoardFacts, SeatFacts, IsSeatOf};
 ghost use Rattle.board_words.specs.Steps.{best_known};
 ghost use Rattle.pass_ends.specs.Ends.{IsPassEnd};
 ghost use Rattle.pass_ends.specs.Passes.{AreOptions, pass_of};
+ghost use Rattle.pass_over.specs.Announcements.{HasRefused};
 ghost use Rattle.run_ends.specs.Claims.{solved_by as solved};
 ghost use Rattle.solve_passes.specs.Announcing.{IsMade, IsNextMade};
 ghost use Rattle.solve_passes.specs.Ongoing as ongoing;
@@ -259,6 +260,7 @@ fn run_announced<R: Threads + Wait + Sync, S: Sink, G: Gate>(
     ensures seat { IsSeatOf board.now seat.new }
     ensures whole { IsWhole seat.new.view }
     ensures answer { (some : 1 ≤ options.now.workers) → IsPassEnd (pass_of model.now options.now share some) seat.old.view seat.new.view result.end }
+    ensures refused { (some : 1 ≤ options.now.workers) → IfSome result.counts (λ c. HasRefused (pass_of model.now options.now share some) c.refused) }
     ensures announced { IsMade model.now printing last (best_known seat.old.view) (best_known seat.new.view) (S.taken out.old) (S.taken out.new) (S.faults out.old) (S.faults out.new) result }
 {
     if announces(printing) {

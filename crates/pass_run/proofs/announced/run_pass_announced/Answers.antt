@@ -8,3 +8,6 @@ returns-clause-announced g c = (c.run_announced.ensures.answer c.requires.option
 
 pub returns-clause-last : goal.returns-clause-last
 returns-clause-last g c = (c.run_announced.ensures.answer c.requires.options.some_workers).2
+
+pub returns-clause-refused : goal.returns-clause-refused
+returns-clause-refused g c = λ some. (c.run_announced.ensures.answer some).3

@@ -1,6 +1,7 @@
 use Rattle.std.proofs.Common.{arith, ap}
 use Rattle.solve_passes.proofs.Announces.{rose_after}
 use Rattle.solve_passes.proofs.Counting.{pow_small}
+use Rattle.solve_passes.proofs.Follows.{calls_of}
 use Rattle.solve_passes.proofs.Going.{best_word, concludes, fails, floor_word, goes_on, history, led_on, within}
 use Rattle.solve_passes.proofs.solving.follow.Goals as goal
 use Rattle.solve_passes.specs.declared.progress.Tally.{Tally}
@@ -54,8 +55,9 @@ pub returns-then-failed-clause-ends : goal.returns-then-failed-clause-ends
 returns-then-failed-clause-ends g c = λ options board was now text faults n before h.
     let is = n.announced in
     let may = is.may in
+    let refused = calls_of c.args.model.now options board c.args.printing c.args.progress.now was now text (g.S.Sink.taken c.args.out.now) faults (g.S.Sink.faults c.args.out.now) c.args.made n in
     fails c.args.model.now options c.args.gap board c.args.progress.now was now n.options_fit.some_workers n.inner n.ongoing n.on_board n.whole is.announced
-    c.args.printing text (g.S.Sink.taken c.args.out.now) c.args.made.end (n.answer n.options_fit.some_workers) may (is.stopped c.if-failed.true).0 before h
+    c.args.printing text (g.S.Sink.taken c.args.out.now) c.args.made.end (n.answer n.options_fit.some_workers) may refused (is.stopped c.if-failed.true).0 before h
 
 pub returns-then-failed-clause-failed : goal.returns-then-failed-clause-failed
 returns-then-failed-clause-failed g c = λ options board was now text faults n _. (n.announced.stopped c.if-failed.true).1
@@ -89,11 +91,12 @@ returns-clause-history g c = λ options board was now text faults n.
     let wrote = is.written c.if-failed.false in
     let may = is.may in
     let last = is.last_word c.if-failed.false in
+    let refused = calls_of c.args.model.now options board c.args.printing c.args.progress.now was now text (g.S.Sink.taken c.args.out.now) faults (g.S.Sink.faults c.args.out.now) c.args.made n in
     let follows = led_on c.args.model.now options c.args.gap board c.args.progress.now was now n.options_fit.some_workers n.inner n.ongoing n.on_board n.whole is.announced
     c.args.printing c.args.made.counts text (g.S.Sink.taken c.args.out.now) (g.S.Sink.taken c.after_pass.new.out) c.after_pass.new.progress c.parts_of-tally.result.0 c.parts_of-tally.result.1 c.after_pass.result may wrote.1 wrote.0 c.after_pass.ensures.followed c.parts_of-tally.ensures.few in
     history c.args.model.now options c.args.gap board c.args.progress.now was now n.options_fit.some_workers n.inner n.ongoing n.on_board
     n.whole is.announced c.args.printing text (g.S.Sink.taken c.after_pass.new.out) c.after_pass.new.progress c.args.made.end c.parts_of-tally.result.0 c.parts_of-tally.result.1 c.after_pass.result
-    (n.answer n.options_fit.some_workers) (may, last) c.parts_of-tally.ensures.tally c.parts_of-tally.ensures.halt follows
+    (n.answer n.options_fit.some_workers) (may, last, refused) c.parts_of-tally.ensures.tally c.parts_of-tally.ensures.halt follows
 
 pub returns-clause-ends : goal.returns-clause-ends
 returns-clause-ends g c = λ options board was now text faults n.
@@ -101,8 +104,9 @@ returns-clause-ends g c = λ options board was now text faults n.
     let wrote = is.written c.if-failed.false in
     let may = is.may in
     let last = is.last_word c.if-failed.false in
+    let refused = calls_of c.args.model.now options board c.args.printing c.args.progress.now was now text (g.S.Sink.taken c.args.out.now) faults (g.S.Sink.faults c.args.out.now) c.args.made n in
     let follows = led_on c.args.model.now options c.args.gap board c.args.progress.now was now n.options_fit.some_workers n.inner n.ongoing n.on_board n.whole is.announced
     c.args.printing c.args.made.counts text (g.S.Sink.taken c.args.out.now) (g.S.Sink.taken c.after_pass.new.out) c.after_pass.new.progress c.parts_of-tally.result.0 c.parts_of-tally.result.1 c.after_pass.result may wrote.1 wrote.0 c.after_pass.ensures.followed c.parts_of-tally.ensures.few in
     concludes c.args.model.now options c.args.gap board c.args.progress.now was now n.options_fit.some_workers n.inner n.ongoing n.on_board
     n.whole is.announced c.args.printing text (g.S.Sink.taken c.after_pass.new.out) c.after_pass.new.progress c.args.made.end c.parts_of-tally.result.0 c.parts_of-tally.result.1 c.after_pass.result
-    (n.answer n.options_fit.some_workers) (may, last) c.parts_of-tally.ensures.tally c.parts_of-tally.ensures.halt follows
+    (n.answer n.options_fit.some_workers) (may, last, refused) c.parts_of-tally.ensures.tally c.parts_of-tally.ensures.halt follows

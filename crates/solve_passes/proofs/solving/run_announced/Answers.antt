@@ -1,7 +1,9 @@
 use Rattle.std.proofs.Common.{sym, subst, ◌∙◌}
+use Rattle.std.specs.Prelude.{IfSome}
 use Rattle.board_words.specs.Steps.{best_known}
 use Rattle.pass_ends.specs.Ends.{IsPassEnd}
 use Rattle.pass_ends.specs.Passes.{pass_of}
+use Rattle.pass_over.specs.Announcements.{HasRefused}
 use Rattle.solve_passes.proofs.Announces.{made_aloud, made_quiet}
 use Rattle.solve_passes.proofs.solving.run_announced.Goals as goal
 use Rattle.solve_passes.specs.Announcing.{IsMade}
@@ -27,3 +29,11 @@ returns-clause-announced g c =
     let end = c.run_pass-end in
     subst (IsMade c.args.model.now c.args.printing c.args.last (best_known c.args.seat.now.view) (best_known end.new.seat.view) (g.S.Sink.taken c.args.out.now) (g.S.Sink.taken c.args.out.now) (g.S.Sink.faults c.args.out.now) (g.S.Sink.faults c.args.out.now)) (sym c.made_silently.ensures)
     (made_quiet c.args.model.now c.args.printing c.args.last (best_known c.args.seat.now.view) (best_known end.new.seat.view) (g.S.Sink.taken c.args.out.now) (g.S.Sink.faults c.args.out.now) end.result (sym c.announces.ensures ∙ c.if-announces.false))
+
+pub returns-then-announces-clause-refused : goal.returns-then-announces-clause-refused
+returns-then-announces-clause-refused g c = λ some.
+    subst (λ (m : Made). IfSome m.counts (λ x. HasRefused (pass_of c.args.model.now c.args.options.now c.args.share some) x.refused)) (sym c.made_by.ensures.made) (c.run_pass_announced-ended.ensures.refused some)
+
+pub returns-clause-refused : goal.returns-clause-refused
+returns-clause-refused g c = λ some.
+    subst (λ (m : Made). IfSome m.counts (λ x. HasRefused (pass_of c.args.model.now c.args.options.now c.args.share some) x.refused)) (sym c.made_silently.ensures) tt
