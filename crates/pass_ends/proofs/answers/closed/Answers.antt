@@ -1,4 +1,4 @@
-use Rattle.std.proofs.Common.{◌≡◌, ◌<◌, ◌^◌}
+use Rattle.std.proofs.Common.{◌<◌, ◌^◌}
 use Rattle.pass_ends.proofs.Endings.{drew, closes, share_below}
 use Rattle.pass_ends.proofs.answers.closed.Goals as goal
 
