@@ -13,7 +13,6 @@ use Rattle.dp_model.specs.declared.answers.Claim.{Claim}
 use Rattle.dp_model.specs.declared.answers.Keep.{Keep}
 use Rattle.dp_model.specs.declared.answers.Keep.TheVariants.{Layer, All}
 use Rattle.dp_model.specs.declared.whole.Model.{Model}
-use Rattle.dom_store.specs.declared.past_node.PastNode.{PastNode}
 use Rattle.replay_list.specs.declared.replayed.Reached.{Reached}
 use Rattle.cert_types.specs.Lines.{line_of_end, line_of_layer, lines_of_layer, lines_of_list, line_of_node}
 use Rattle.cert_types.specs.Places.{IsPart, has_place, nodes_before}

@@ -1,4 +1,3 @@
-use Rattle.cert_check.proofs.Copied.{reached_same}
 use Rattle.cert_check.proofs.copies.are_same.Goals as goal
 
 pub same-requires-clause-left : goal.same-requires-clause-left
