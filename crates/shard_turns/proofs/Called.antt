@@ -106,6 +106,7 @@ module _ (p : Pass) (i : ℕ) (r : ShardRecord) (l : ℕ) (n : Node) (rest : Lis
   module _ (own : Own p i after) where
     -- one more was refused
     refused_now : (c : Calling) → IsCalling p i r c → (now : Held) → held ≡ Some now → WasRefused p i after (c.caller.refused + 1)
+    unfolding still_refused
     refused_now c h now is = record {
       costs = h.refused.costs ++ now.cost ∷ [];
       called = called_law.calls p i after h.refused.costs (still_refused c h).called own now is;
