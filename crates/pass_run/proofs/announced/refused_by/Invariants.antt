@@ -4,4 +4,4 @@ use Rattle.pass_run.proofs.announced.refused_by.Given as goal
 
 -- the callers so far
 abbrev pub invariant-loop-caller : goal.invariant-loop-caller
-invariant-loop-caller l = l.refused ≡ min (refused_of (take l.caller-index l.callers.now.items)) 18446744073709551615
+invariant-loop-caller l = l.refused ≡ min (refused_of (take l.caller-index l.callers.items)) 18446744073709551615
