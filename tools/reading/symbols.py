@@ -277,7 +277,25 @@ class Symbolic:
         found = ((self.atoms.is_0(added(p, constant(k), -1)), k) for k in range(count))
         return [(bit, k) for bit, k in found if bit]
 
+    def fixed(self, t, state, args):
+        """A number that is the same in all of the states, where it is written as one name or number; else None."""
+        if t.op == "param":
+            return args[t.parts[0]]
+        value = t.parts[0] if t.op == "fixed" else state[t.parts[0]] if t.op == "var" else None
+        return value if isinstance(value, int) else None
+
+    def cell(self, table, parts, state, args):
+        """The one cell that the parts name, where they are fixed and members; else None."""
+        at = tuple(self.fixed(p, state, args) for p in parts)
+        if all(k is not None and 0 <= k < self.model.objects[o].count for k, o in zip(at, table.args)):
+            return table.cells.get(at, table.default)
+        return None
+
     def cells(self, table, parts, state, args):
+        one = self.cell(table, parts, state, args)
+        if one is not None:
+            yield ONE, one
+            return
         per = [self.index(self.number(p, state, args), o) for p, o in zip(parts, table.args)]
         if all(len(found) == 1 for found in per) and all(bit == ONE for ((bit, _),) in per):
             yield ONE, table.cells.get(tuple(k for ((_, k),) in per), table.default)
